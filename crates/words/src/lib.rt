@@ -1,0 +1,55 @@
+// The 13-bit word of a line (document 01, "The line"): idle, wide, odd or even, its data bits and its parity bit.
+// Every function takes every u16. Relies on nothing; specs/Word.antt says what each answer means.
+ghost use mathlib.Core.Path.{_≡_};
+ghost use lib.Dec.{eqb};
+ghost use Rattle.words.specs.Word.{idle, wide, odd, dataBits, parityBit, wordOf};
+
+// The idle word, 000 111 111 111 1.
+pub const IDLE: u16 = 1023;
+
+// The largest number of thirteen bits.
+pub const LARGEST: u16 = 8191;
+
+// Idle is the number itself: a wider number whose low thirteen bits look like idle is not.
+pub fn is_idle(w: u16) -> bool
+    ensures { λ r. ⌜ r ≡ eqb w idle ⌝ }
+{
+    w == IDLE
+}
+
+pub fn is_wide(w: u16) -> bool
+    ensures { λ r. ⌜ r ≡ wide w ⌝ }
+{
+    w > LARGEST
+}
+
+// The parity leaf: each half is folded upon the other until one bit is left. Callers know it by its promise alone.
+pub fn is_odd(w: u16) -> bool
+    ensures { λ r. ⌜ r ≡ odd w ⌝ }
+{
+    let a = w ^ (w >> 8);
+    let b = a ^ (a >> 4);
+    let c = b ^ (b >> 2);
+    let d = c ^ (c >> 1);
+    d % 2 == 1
+}
+
+pub fn data_bits(w: u16) -> u16
+    ensures { λ r. ⌜ r ≡ dataBits w ⌝ }
+{
+    w / 2
+}
+
+pub fn parity_bit(w: u16) -> u16
+    ensures { λ r. ⌜ r ≡ parityBit w ⌝ }
+{
+    w % 2
+}
+
+// The word of any data. Data of more than twelve bits is not cut: it makes a number above LARGEST, so the answer is wider than a word.
+pub fn word(data: u16) -> u32
+    ensures { λ r. ⌜ r ≡ wordOf «data» ⌝ }
+{
+    let doubled = data as u32 * 2;
+    if is_odd(data) { doubled } else { doubled + 1 }
+}
