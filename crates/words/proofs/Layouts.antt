@@ -148,14 +148,14 @@ words-length (fs ∷ l) = ap suc (words-length l)
 
 -- ---- the document's bit numbers
 
+-- the same digits of the same word
+same-digits : (ws : List ℕ) {i j s t m n : ℕ} → i ≡ j → s ≡ t → m ≡ n → getD ws i 0 / 2 ^ s % 2 ^ m ≡ getD ws j 0 / 2 ^ t % 2 ^ n
+same-digits ws p q r = rw (p, q, r)
+
 -- k bits from bit a on, which stand in word j behind its first o bits and before s more and the parity bit
 pub bits-in-word : (ws : List ℕ) (a j o k s : ℕ) → a ≡ 13 * j + o + 1 → o + k + s ≡ 12 → bits ws a (a + k - 1) ≡ getD ws j 0 / 2 ^ (s + 1) % 2 ^ k
 bits-in-word ws a j o zero s e h = rw (let n : a + 0 - 1 + 1 - a ≡ 0 = omega arith in n) (mod-one _ ∙ sym (mod-one _))
-bits-in-word ws a j o (suc k) s e h =
-    let place : (a - 1) / 13 ≡ j = omega arith in
-    let below : 12 - (a + suc k - 1 - 1) % 13 ≡ s + 1 = omega arith in
-    let many : a + suc k - 1 + 1 - a ≡ suc k = omega arith in
-    rw (place, below, many)
+bits-in-word ws a j o (suc k) s e h = same-digits ws (omega arith) (omega arith) (omega arith)
 
 stand-in-word : (ws : List ℕ) (a j o : ℕ) (fs : List Field) → a ≡ 13 * j + o + 1 → o + span fs ≡ 12 → StandFrom a fs ws ↔ Stands fs (getD ws j 0)
 stand-in-word ws a j o [] e h = (λ s. tt, λ s. tt)

@@ -1,0 +1,3 @@
+pub mod Weight
+pub mod Exact
+pub mod Claims
