@@ -1,3 +1,5 @@
 pub mod Parity
+pub mod Fields
 pub mod Layouts
+pub mod Faults
 pub mod Claims

@@ -1,3 +1,4 @@
+pub mod Tests
 pub mod Word
 pub mod Layout
 pub mod Claims

@@ -1,18 +1,14 @@
 -- The 13-bit word (document 01, "The line"): bit 1 weighs 4096 and bit 13 weighs 1; bit 13 makes the number of ones odd. Definitions only.
 -- `ones` is the language's own count of a number's set digits.
-use Prim.Native.Nat.{ℕ, _+_, _*_, _/_, _%_, _-_, _≤_, _^_}
+use Prim.Native.Nat.{ℕ, suc, _+_, _*_, _/_, _%_, _-_, _≤_, _^_}
 use mathlib.Core.Path.{_≡_}
-use mathlib.Core.Bool.{Bool, true, false, not}
+use mathlib.Core.Bool.{Bool, not}
 use mathlib.Core.List.{List, [], _∷_}
 use lib.Bits.{bitXor}
 use lib.Count.{ones}
 use lib.Dec.{eqb, ltb}
 use lib.ListN.{getD}
-
--- the first where the test holds, else the second
-abbrev pub pick : {X : Type 0} → Bool → X → X → X
-pick true a b = a
-pick false a b = b
+use Rattle.words.specs.Tests.{pick}
 
 -- ---- one word
 
@@ -60,6 +56,11 @@ pub record Good (w : ℕ) : Type 0 where
 abbrev pub AllGood : List ℕ → Type 0
 AllGood [] = Unit {0}
 AllGood (w ∷ ws) = Good w × AllGood ws
+
+-- the offset of the first word that has the fault p; where none has, the number of words
+unfoldable pub first : (ℕ → Bool) → List ℕ → ℕ
+first p [] = 0
+first p (w ∷ ws) = pick (p w) 0 (suc (first p ws))
 
 -- ---- the bits of a report
 

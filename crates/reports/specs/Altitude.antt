@@ -1,0 +1,45 @@
+-- How twelve bits hold an altitude in hundreds of feet. Everything above takes the form as a parameter; document 01 has one.
+-- Definitions only.
+use Prim.Native.Nat.{ℕ, _+_, _/_, _%_, _<_}
+use mathlib.Core.Path.{_≡_}
+use mathlib.Core.Bool.{Bool, true, false}
+use mathlib.Core.List.{[], _∷_}
+use lib.Dec.{eqb, leb}
+use lib.IntN.{ℤ, pos, negsuc, negℤ, natAbs}
+use Rattle.words.specs.Tests.{pick, all}
+
+pub record AltitudeForm : Type 0 where
+  -- these twelve bits are no altitude (refusal 9)
+  pub refused : ℕ → Bool
+  -- the altitude that twelve bits say
+  pub altitude : ℕ → ℤ
+  -- the twelve bits that say an altitude; 4096, which no twelve bits are, where none do (refusal 11)
+  pub bitsOf : ℤ → ℕ
+
+-- what is asked of a form: the two ways undo each other
+pub record Sound (form : AltitudeForm) : Type 0 where
+  pub back : (z : ℤ) → form .bitsOf z < 4096 → (form .refused (form .bitsOf z) ≡ false) × (form .altitude (form .bitsOf z) ≡ z)
+  pub again : (n : ℕ) → n < 4096 → form .refused n ≡ false → form .bitsOf (form .altitude n) ≡ n
+
+-- ---- document 01: a sign, 1 negative, and eleven bits; -2047 to 2047
+
+-- the first of twelve bits, and the other eleven
+abbrev pub sign : ℕ → Bool
+sign n = eqb (n / 2048) 1
+
+abbrev pub magnitude : ℕ → ℕ
+magnitude n = n % 2048
+
+abbrev pub signed : Bool → ℕ → ℤ
+signed s n = pick s (negℤ (pos n)) (pos n)
+
+abbrev pub negative : ℤ → Bool
+negative (pos n) = false
+negative (negsuc n) = true
+
+abbrev pub signMagnitude : AltitudeForm
+signMagnitude = record {
+  refused = λ n. all (sign n ∷ eqb (magnitude n) 0 ∷ []);
+  altitude = λ n. signed (sign n) (magnitude n);
+  bitsOf = λ z. pick (leb (natAbs z) 2047) (pick (negative z) 2048 0 + natAbs z) 4096;
+}

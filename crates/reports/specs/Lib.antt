@@ -1,0 +1,9 @@
+pub mod Kinds
+pub mod Altitude
+pub mod Forms
+pub mod Records
+pub mod Layouts
+pub mod Conditions
+pub mod Runs
+pub mod Found
+pub mod Values
