@@ -6,4 +6,5 @@ pub mod Layouts
 pub mod Conditions
 pub mod Runs
 pub mod Found
+pub mod Data
 pub mod Values

@@ -145,8 +145,11 @@ stands-word fs w t g h =
 word-stands : (fs : List Field) → fittingAll fs ≡ true → Stands fs (wordOf (joined fs))
 word-stands fs h = joined-stands fs 0 (wordOf (joined fs)) h (data-of-word (joined fs) ∙ (omega arith))
 
+pub joined-small : (fs : List Field) → span fs ≡ 12 → fittingAll fs ≡ true → joined fs ≤ 4095
+joined-small fs t h = let k : joined fs < 2 ^ 12 = subst (λ (k : ℕ). joined fs < 2 ^ k) t (joined-lt fs h) in omega arith
+
 joined-good : (fs : List Field) → span fs ≡ 12 → fittingAll fs ≡ true → Good (wordOf (joined fs))
-joined-good fs t h = word-good (joined fs) (let k : joined fs < 2 ^ 12 = subst (λ (k : ℕ). joined fs < 2 ^ k) t (joined-lt fs h) in omega arith)
+joined-good fs t h = word-good (joined fs) (joined-small fs t h)
 
 -- ---- all words, each by itself
 
