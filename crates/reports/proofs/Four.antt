@@ -1,0 +1,172 @@
+-- Reports of four words: words that pass the tests hold the fields of what they are read as, and words that hold a report's fields pass the
+-- tests and are read as that report. Assumes nothing.
+use Prim.Native.Nat.{ℕ, _≤_}
+use mathlib.Core.Path.{_≡_, refl}
+use mathlib.Core.Bool.{true, false}
+use mathlib.Core.List.{List}
+use native.Mathlib.Omega.{arith}
+use borrow.Author.Tests.{eqb-true, ne-eqb}
+use lib.Dec.{eqb, lit≤}
+use Rattle.words.specs.Tests.{pick}
+use Rattle.words.specs.Word.{bits, bit}
+use Rattle.words.specs.Layout.{LaidFrom}
+use Rattle.words.proofs.Fields.{flagged, unflagged}
+use Rattle.words.proofs.Layouts.{both}
+use Rattle.reports.specs.declared.Search.{Search}
+use Rattle.reports.specs.declared.Strobe.{Strobe}
+use Rattle.reports.specs.declared.Map.{Map}
+use Rattle.reports.specs.declared.Status.{Status}
+use Rattle.reports.specs.declared.Rtqc.{Rtqc}
+use Rattle.reports.specs.declared.Report.{Report}
+use Rattle.reports.specs.declared.Report.the-variants as R
+use Rattle.reports.specs.Altitude.{AltitudeForm}
+use Rattle.reports.specs.Forms.{isSearch, isStrobe, isStatus, isMap, hasRtqcPattern}
+use Rattle.reports.specs.Records.{searchOf, strobeOf, mapOf, statusOf, rtqcOf, fourOf}
+use Rattle.reports.specs.Layouts.{layoutOf}
+use Rattle.reports.specs.Conditions.{unknownForm, fourZeros}
+use Rattle.reports.proofs.Tests.{by-picks, last-holds, _&_}
+
+-- an RTQC's pattern is no Map's
+rtqc-no-map : (ws : List ℕ) → bits ws 4 10 ≡ 0b1001000 → isMap ws ≡ false
+rtqc-no-map ws k = ne-eqb (bits ws 4 8) 0 (λ e. omega arith)
+
+-- ---- from words to fields: a flag is its bit, a fixed field is what a test found, any other is read as it stands
+
+module _ (form : AltitudeForm) (ws : List ℕ) (two : bits ws 2 3 ≡ 0b00) where
+  search-laid : bits ws 4 10 ≡ 0b1101100 → bits ws 25 25 ≡ 0 → LaidFrom 1 (layoutOf form (R.Search (searchOf ws))) ws
+  search-laid k z =
+      (flagged _ & two & k & flagged _ & flagged _ & tt)
+      & (refl & z & tt)
+      & (refl & tt)
+      & (flagged _ & refl & refl & refl & tt)
+      & tt
+
+  strobe-laid : bits ws 4 10 ≡ 0b1100000 → bits ws 25 25 ≡ 0 → LaidFrom 1 (layoutOf form (R.Strobe (strobeOf ws))) ws
+  strobe-laid k z =
+      (flagged _ & two & k & flagged _ & flagged _ & tt)
+      & (refl & z & tt)
+      & (refl & tt)
+      & (refl & refl & tt)
+      & tt
+
+  status-laid : bits ws 4 10 ≡ 0b0110000 → LaidFrom 1 (layoutOf form (R.Status (statusOf ws))) ws
+  status-laid k =
+      (flagged _ & two & k & flagged _ & flagged _ & tt)
+      & (refl & tt)
+      & (refl & tt)
+      & (refl & tt)
+      & tt
+
+  rtqc-laid : bits ws 1 1 ≡ 1 → bits ws 4 10 ≡ 0b1001000 → bits ws 25 25 ≡ 0 → LaidFrom 1 (layoutOf form (R.Rtqc (rtqcOf ws))) ws
+  rtqc-laid one k z =
+      (one & two & k & flagged _ & flagged _ & tt)
+      & (refl & z & tt)
+      & (refl & tt)
+      & (refl & refl & tt)
+      & tt
+
+  map-laid : bits ws 4 8 ≡ 0b00000 → bits ws 25 25 ≡ 0 → bits ws 51 51 ≡ 0 → LaidFrom 1 (layoutOf form (R.Map (mapOf ws))) ws
+  map-laid k z y =
+      (flagged _ & two & k & refl & flagged _ & flagged _ & tt)
+      & (refl & z & tt)
+      & (refl & tt)
+      & (refl & y & tt)
+      & tt
+
+  module _ (known : unknownForm ws ≡ false) (n1 : isSearch ws ≡ false) (n2 : isStrobe ws ≡ false) (n3 : isStatus ws ≡ false) where
+    -- what is known and none of the others is a Map or an RTQC, and an RTQC has bit 1 one
+    one : hasRtqcPattern ws ≡ true → bits ws 1 1 ≡ 1
+    one k = eqb-true _ _ (both (bit ws 1) true (last-holds (pick (bit ws 1) true false) (simp (two, n1, n2, n3, rtqc-no-map ws (eqb-true _ _ k), k) at known)) .0)
+
+    none : hasRtqcPattern ws ≡ false → bits ws 4 8 ≡ 0b00000
+    none n4 = eqb-true _ _ (last-holds (isMap ws) (simp (two, n1, n2, n3, n4) at known))
+
+  abbrev Laid4 : Report → ℕ → Type 0
+  Laid4 r n = n ≡ 0 → LaidFrom 1 (layoutOf form r) ws
+
+  pub four-laid : unknownForm ws ≡ false → Laid4 (fourOf ws) (fourZeros ws)
+  unfolding fourOf fourZeros
+  four-laid u =
+      by-picks Laid4 (isSearch ws) (λ k. search-laid (eqb-true _ _ k))
+      (λ n1. by-picks Laid4 (isStrobe ws) (λ k. strobe-laid (eqb-true _ _ k))
+      (λ n2. by-picks Laid4 (isStatus ws) (λ k z. status-laid (eqb-true _ _ k))
+      (λ n3. by-picks Laid4 (hasRtqcPattern ws) (λ k. rtqc-laid (one u n1 n2 n3 k) (eqb-true _ _ k))
+      (λ n4 z. map-laid (none u n1 n2 n3 n4) (omega arith) (omega arith)))))
+
+-- ---- from fields to words: the tests find the fixed fields, and each field of the record is its bits
+
+-- four words that pass as r
+pub record Held (ws : List ℕ) (r : Report) : Type 0 where
+  pub two : bits ws 2 3 ≡ 0b00
+  pub known : unknownForm ws ≡ false
+  pub spare : fourZeros ws ≡ 0
+  pub report : fourOf ws ≡ r
+
+-- bits 4 to 8 of a Map are zero, so bits 4 to 10 are no other kind's
+not-map : (ws : List ℕ) (n : ℕ) → bits ws 4 8 ≡ 0 → 4 ≤ n → eqb (bits ws 4 10) n ≡ false
+not-map ws n z l = ne-eqb (bits ws 4 10) n (λ e. omega arith)
+
+module _ (form : AltitudeForm) (ws : List ℕ) where
+  search-held : (s : Search) → LaidFrom 1 (layoutOf form (R.Search s)) ws → Held ws (R.Search s)
+  unfolding fourOf fourZeros
+  search-held s h =
+      let two = h .0 .1 .0 in
+      let k = h .0 .1 .1 .0 in
+      record {
+        two = two;
+        known = simp (two, k);
+        spare = simp (k, h .1 .0 .1 .0);
+        report = simp (k, unflagged, h .0 .0, h .0 .1 .1 .1 .0, h .0 .1 .1 .1 .1 .0, h .1 .0 .0, h .1 .1 .0 .0, h .1 .1 .1 .0 .0, h .1 .1 .1 .0 .1 .0, h .1 .1 .1 .0 .1 .1 .0, h .1 .1 .1 .0 .1 .1 .1 .0);
+      }
+
+  strobe-held : (s : Strobe) → LaidFrom 1 (layoutOf form (R.Strobe s)) ws → Held ws (R.Strobe s)
+  unfolding fourOf fourZeros
+  strobe-held s h =
+      let two = h .0 .1 .0 in
+      let k = h .0 .1 .1 .0 in
+      record {
+        two = two;
+        known = simp (two, k);
+        spare = simp (k, h .1 .0 .1 .0);
+        report = simp (k, unflagged, h .0 .0, h .0 .1 .1 .1 .0, h .0 .1 .1 .1 .1 .0, h .1 .0 .0, h .1 .1 .0 .0, h .1 .1 .1 .0 .0, h .1 .1 .1 .0 .1 .0);
+      }
+
+  status-held : (s : Status) → LaidFrom 1 (layoutOf form (R.Status s)) ws → Held ws (R.Status s)
+  unfolding fourOf fourZeros
+  status-held s h =
+      let two = h .0 .1 .0 in
+      let k = h .0 .1 .1 .0 in
+      record {
+        two = two;
+        known = simp (two, k);
+        spare = simp (k);
+        report = simp (k, unflagged, h .0 .0, h .0 .1 .1 .1 .0, h .0 .1 .1 .1 .1 .0, h .1 .0 .0, h .1 .1 .0 .0, h .1 .1 .1 .0 .0);
+      }
+
+  rtqc-held : (s : Rtqc) → LaidFrom 1 (layoutOf form (R.Rtqc s)) ws → Held ws (R.Rtqc s)
+  unfolding fourOf fourZeros
+  rtqc-held s h =
+      let two = h .0 .1 .0 in
+      let k = h .0 .1 .1 .0 in
+      record {
+        two = two;
+        known = simp (two, rtqc-no-map ws k, k, h .0 .0);
+        spare = simp (k, h .1 .0 .1 .0);
+        report = simp (k, unflagged, h .0 .1 .1 .1 .0, h .0 .1 .1 .1 .1 .0, h .1 .0 .0, h .1 .1 .0 .0, h .1 .1 .1 .0 .0, h .1 .1 .1 .0 .1 .0);
+      }
+
+  map-held : (m : Map) → LaidFrom 1 (layoutOf form (R.Map m)) ws → Held ws (R.Map m)
+  unfolding fourOf fourZeros
+  map-held m h =
+      let two = h .0 .1 .0 in
+      let k = h .0 .1 .1 .0 in
+      let n1 = not-map ws 0b1101100 k (lit≤ tt) in
+      let n2 = not-map ws 0b1100000 k (lit≤ tt) in
+      let n3 = not-map ws 0b0110000 k (lit≤ tt) in
+      let n4 = not-map ws 0b1001000 k (lit≤ tt) in
+      record {
+        two = two;
+        known = simp (two, n1, n2, n3, n4, k);
+        spare = simp (n1, n2, n3, n4, h .1 .0 .1 .0, h .1 .1 .1 .0 .1 .0);
+        report = simp (n1, n2, n3, n4, unflagged, h .0 .0, h .0 .1 .1 .1 .0, h .0 .1 .1 .1 .1 .0, h .0 .1 .1 .1 .1 .1 .0, h .1 .0 .0, h .1 .1 .0 .0, h .1 .1 .1 .0 .0);
+      }

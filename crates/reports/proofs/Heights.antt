@@ -1,0 +1,118 @@
+-- Bits 6, 12 and 79 to 90 of DABS and ATCRBS: the words hold the height that they are read as, and are read as the height that they hold.
+-- Assumes nothing.
+use Prim.Native.Nat.{ℕ, _%_, _<_}
+use mathlib.Core.Path.{_≡_, refl, sym, ap, _∙_, subst}
+use mathlib.Core.Bool.{Bool, true, false, not}
+use mathlib.Core.List.{List, [], _∷_}
+use native.Mathlib.Nat.{mod-lt}
+use native.Mathlib.Omega.{arith}
+use borrow.Author.Tests.{eqb-true}
+use lib.Dec.{eqb, lit<}
+use lib.IntN.{ℤ}
+use Rattle.words.specs.Tests.{pick}
+use Rattle.words.specs.Word.{bits, bit}
+use Rattle.words.specs.Layout.{StandFrom}
+use Rattle.words.proofs.Fields.{flagged, unflagged}
+use Rattle.reports.specs.declared.Height.{Height}
+use Rattle.reports.specs.declared.Height.the-variants as H
+use Rattle.reports.specs.Altitude.{AltitudeForm, Sound}
+use Rattle.reports.specs.Forms.{told, isCd, isMtd, isRdas, isMtdSearch, isRdasSearch}
+use Rattle.reports.specs.Records.{heightOf}
+use Rattle.reports.specs.Layouts.{lastWord, modeC, radar}
+use Rattle.reports.specs.Conditions.{unassigned, heightSpares, minusZero}
+use Rattle.reports.proofs.Tests.{by-picks, bit-one, bit-zero, _&_}
+
+-- ---- what bits 12 and 88 to 90 tell
+
+told-is : (b : Bool) (m k : ℕ) → k < 8 → pick b m 8 ≡ k → (b ≡ true) × (m ≡ k)
+told-is true m k l e = (refl, e)
+told-is false m k l e = absurd (omega arith)
+
+-- bit 12 is one, and bits 88 to 90 are k
+pub tells : (ws : List ℕ) (k : ℕ) → k < 8 → eqb (told ws) k ≡ true → (bits ws 12 12 ≡ 1) × (bits ws 88 90 ≡ k)
+tells ws k l h = let t = told-is (bit ws 12) (bits ws 88 90) k l (eqb-true _ k h) in (eqb-true _ 1 (t .0), t .1)
+
+-- ---- from words to the height
+
+holds-not : (b : Bool) → pick b true false ≡ false → b ≡ false
+holds-not true h = h
+holds-not false h = refl
+
+-- the words hold the height h
+abbrev pub Stands : AltitudeForm → List ℕ → Height → Type 0
+Stands form ws h = (bits ws 6 6 ≡ pick (modeC h) 1 0) × (bits ws 12 12 ≡ pick (radar h) 1 0) × StandFrom 79 (lastWord form h) ws
+
+module _ (form : AltitudeForm) (sound : Sound form) (ws : List ℕ) (two : bits ws 2 3 ≡ 0b11) where
+  abbrev Laid79 : Height → ℕ → Type 0
+  Laid79 h n = n ≡ 0 → Stands form ws h
+
+  -- where none of the three stands in, bit 12 is zero
+  pub height-laid : (isCd ws ≡ false → isMtd ws ≡ false → isRdas ws ≡ false → bit ws 12 ≡ false) → minusZero form ws ≡ false → Laid79 (heightOf form ws) (heightSpares ws)
+  unfolding heightOf heightSpares
+  height-laid other sign =
+      by-picks Laid79 (isCd ws) (λ k z. let t = tells ws 0b100 (lit< tt) k in (flagged _, t .0, refl & z & t .1 & tt))
+      (λ n1. by-picks Laid79 (isMtd ws) (λ k z. let t = tells ws 0b110 (lit< tt) k in (flagged _, t .0, refl & z & t .1 & tt))
+      (λ n2. by-picks Laid79 (isRdas ws) (λ k z. let t = tells ws 0b101 (lit< tt) k in (flagged _, t .0, refl & z & t .1 & tt))
+      (λ n3. plain (other n1 n2 n3) (bit ws 6) refl)))
+    where
+      plain : bit ws 12 ≡ false → (b : Bool) → bit ws 6 ≡ b → Laid79 (pick b (H.Altitude (form .altitude (bits ws 79 90))) (H.Carried (bits ws 79 90))) 0
+      plain none true k z = (
+        bit-one _ k,
+        bit-zero _ none,
+        sym (sound .again (bits ws 79 90) (mod-lt _ (lit< tt)) (let m = simp (two, none, k) at sign in holds-not (form .refused (bits ws 79 90)) m)) & tt,
+      )
+      plain none false k z = (bit-zero _ k, bit-zero _ none, refl & tt)
+
+  -- ---- from the height to words
+
+  -- the words pass as the height h
+  pub record Held79 (h : Height) : Type 0 where
+    pub same : heightOf form ws ≡ h
+    pub spare : heightSpares ws ≡ 0
+    pub assigned : unassigned ws ≡ false
+    pub altitude : minusZero form ws ≡ false
+    pub beacon : (isMtdSearch ws ≡ false) × (isRdasSearch ws ≡ false)
+
+  -- an altitude that stands in twelve bits has them
+  twelve-bits : (z : ℤ) → bits ws 79 90 ≡ form .bitsOf z → form .bitsOf z < 4096
+  twelve-bits z e = subst (λ (n : ℕ). n < 4096) e (mod-lt _ (lit< tt))
+
+  pub height-held : (h : Height) → Stands form ws h → Held79 h
+  unfolding heightOf heightSpares
+  height-held (H.Altitude z) s =
+      let b = sound .back z (twelve-bits z (s .2 .0)) in
+      record {
+        same = simp (s .0, s .1) (ap H.Altitude (ap (form .altitude) (s .2 .0) ∙ b .1));
+        spare = simp (s .1);
+        assigned = simp (two, s .1);
+        altitude = simp (two, s .0, s .1, s .2 .0, b .0);
+        beacon = (simp (s .1), simp (s .1));
+      }
+  height-held (H.Carried n) s = record {
+    same = simp (s .0, s .1, s .2 .0);
+    spare = simp (s .1);
+    assigned = simp (two, s .1);
+    altitude = simp (two, s .0, s .1);
+    beacon = (simp (s .1), simp (s .1));
+  }
+  height-held (H.Cd m n) s = record {
+    same = simp (s .0, s .1, s .2 .0, s .2 .1 .1 .0, unflagged);
+    spare = simp (s .1, s .2 .1 .0, s .2 .1 .1 .0);
+    assigned = simp (two, s .1, s .2 .1 .1 .0);
+    altitude = simp (two, s .1);
+    beacon = (simp (s .1, s .2 .1 .1 .0), simp (s .1, s .2 .1 .1 .0));
+  }
+  height-held (H.Mtd m n) s = record {
+    same = simp (s .0, s .1, s .2 .0, s .2 .1 .1 .0, unflagged);
+    spare = simp (s .1, s .2 .1 .0, s .2 .1 .1 .0);
+    assigned = simp (two, s .1, s .2 .1 .1 .0);
+    altitude = simp (two, s .1);
+    beacon = (simp (s .1, s .2 .1 .1 .0), simp (s .1, s .2 .1 .1 .0));
+  }
+  height-held (H.Rdas m n) s = record {
+    same = simp (s .0, s .1, s .2 .0, s .2 .1 .1 .0, unflagged);
+    spare = simp (s .1, s .2 .1 .0, s .2 .1 .1 .0);
+    assigned = simp (two, s .1, s .2 .1 .1 .0);
+    altitude = simp (two, s .1);
+    beacon = (simp (s .1, s .2 .1 .1 .0), simp (s .1, s .2 .1 .1 .0));
+  }

@@ -1,0 +1,35 @@
+-- How a definition by tests is gone through, and a list of proofs written down.
+-- Assumes nothing.
+use Prim.Native.Nat.{ℕ, _%_}
+use mathlib.Core.Path.{_≡_, refl, sym}
+use mathlib.Core.Bool.{Bool, true, false, not}
+use native.Mathlib.Omega.{arith}
+use borrow.Author.Tests.{eqb-true, eqb-false}
+use lib.Dec.{eqb}
+use Rattle.words.specs.Tests.{pick}
+
+-- what holds of both that a test picks from, under the test's outcome, holds of what it picks
+pub by-pick : {X : Type 0} (P : X → Type 0) (b : Bool) {x y : X} → (b ≡ true → P x) → (b ≡ false → P y) → P (pick b x y)
+by-pick P true p q = p refl
+by-pick P false p q = q refl
+
+-- the same where one test picks twice
+pub by-picks : {X Y : Type 0} (P : X → Y → Type 0) (b : Bool) {x u : X} {y v : Y} → (b ≡ true → P x y) → (b ≡ false → P u v) → P (pick b x u) (pick b y v)
+by-picks P true p q = p refl
+by-picks P false p q = q refl
+
+-- where one of a list of tests holds and only this one is left, it holds
+pub last-holds : (b : Bool) → not (pick b true false) ≡ false → b ≡ true
+last-holds true h = refl
+last-holds false h = sym h
+
+-- a pair, so that a word's fields are listed with no brackets
+infixr 4 _&_
+abbrev pub _&_ : {A B : Type 0} → A → B → A × B
+a & b = (a, b)
+
+pub bit-one : (n : ℕ) → eqb (n % 2) 1 ≡ true → n % 2 ≡ 1
+bit-one n h = eqb-true (n % 2) 1 h
+
+pub bit-zero : (n : ℕ) → eqb (n % 2) 1 ≡ false → n % 2 ≡ 0
+bit-zero n h = let k = eqb-false (n % 2) 1 h in omega arith
