@@ -107,7 +107,7 @@ not-map : (ws : List ℕ) (n : ℕ) → bits ws 4 8 ≡ 0 → 4 ≤ n → eqb (b
 not-map ws n z l = ne-eqb (bits ws 4 10) n (λ e. omega arith)
 
 module _ (form : AltitudeForm) (ws : List ℕ) where
-  search-held : (s : Search) → LaidFrom 1 (layoutOf form (R.Search s)) ws → Held ws (R.Search s)
+  pub search-held : (s : Search) → LaidFrom 1 (layoutOf form (R.Search s)) ws → Held ws (R.Search s)
   unfolding fourOf fourZeros
   search-held s h =
       let two = h .0 .1 .0 in
@@ -119,7 +119,7 @@ module _ (form : AltitudeForm) (ws : List ℕ) where
         report = simp (k, unflagged, h .0 .0, h .0 .1 .1 .1 .0, h .0 .1 .1 .1 .1 .0, h .1 .0 .0, h .1 .1 .0 .0, h .1 .1 .1 .0 .0, h .1 .1 .1 .0 .1 .0, h .1 .1 .1 .0 .1 .1 .0, h .1 .1 .1 .0 .1 .1 .1 .0);
       }
 
-  strobe-held : (s : Strobe) → LaidFrom 1 (layoutOf form (R.Strobe s)) ws → Held ws (R.Strobe s)
+  pub strobe-held : (s : Strobe) → LaidFrom 1 (layoutOf form (R.Strobe s)) ws → Held ws (R.Strobe s)
   unfolding fourOf fourZeros
   strobe-held s h =
       let two = h .0 .1 .0 in
@@ -131,7 +131,7 @@ module _ (form : AltitudeForm) (ws : List ℕ) where
         report = simp (k, unflagged, h .0 .0, h .0 .1 .1 .1 .0, h .0 .1 .1 .1 .1 .0, h .1 .0 .0, h .1 .1 .0 .0, h .1 .1 .1 .0 .0, h .1 .1 .1 .0 .1 .0);
       }
 
-  status-held : (s : Status) → LaidFrom 1 (layoutOf form (R.Status s)) ws → Held ws (R.Status s)
+  pub status-held : (s : Status) → LaidFrom 1 (layoutOf form (R.Status s)) ws → Held ws (R.Status s)
   unfolding fourOf fourZeros
   status-held s h =
       let two = h .0 .1 .0 in
@@ -143,7 +143,7 @@ module _ (form : AltitudeForm) (ws : List ℕ) where
         report = simp (k, unflagged, h .0 .0, h .0 .1 .1 .1 .0, h .0 .1 .1 .1 .1 .0, h .1 .0 .0, h .1 .1 .0 .0, h .1 .1 .1 .0 .0);
       }
 
-  rtqc-held : (s : Rtqc) → LaidFrom 1 (layoutOf form (R.Rtqc s)) ws → Held ws (R.Rtqc s)
+  pub rtqc-held : (s : Rtqc) → LaidFrom 1 (layoutOf form (R.Rtqc s)) ws → Held ws (R.Rtqc s)
   unfolding fourOf fourZeros
   rtqc-held s h =
       let two = h .0 .1 .0 in
@@ -155,7 +155,7 @@ module _ (form : AltitudeForm) (ws : List ℕ) where
         report = simp (k, unflagged, h .0 .1 .1 .1 .0, h .0 .1 .1 .1 .1 .0, h .1 .0 .0, h .1 .1 .0 .0, h .1 .1 .1 .0 .0, h .1 .1 .1 .0 .1 .0);
       }
 
-  map-held : (m : Map) → LaidFrom 1 (layoutOf form (R.Map m)) ws → Held ws (R.Map m)
+  pub map-held : (m : Map) → LaidFrom 1 (layoutOf form (R.Map m)) ws → Held ws (R.Map m)
   unfolding fourOf fourZeros
   map-held m h =
       let two = h .0 .1 .0 in

@@ -8,3 +8,4 @@ pub mod Runs
 pub mod Found
 pub mod Data
 pub mod Values
+pub mod Claims

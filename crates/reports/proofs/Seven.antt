@@ -1,0 +1,173 @@
+-- Reports of seven words: words that pass the tests hold the fields of what they are read as, and words that hold a report's fields pass
+-- the tests and are read as that report. Assumes nothing.
+use Prim.Native.Nat.{ℕ, _+_}
+use mathlib.Core.Path.{_≡_, refl, sym}
+use mathlib.Core.Bool.{Bool, true, false, not}
+use mathlib.Core.List.{List, [], _∷_}
+use native.Mathlib.Omega.{arith}
+use borrow.Author.Tests.{eqb-true}
+use lib.Dec.{eqb, lit<}
+use lib.Pow.{split}
+use Rattle.words.specs.Tests.{pick}
+use Rattle.words.specs.Word.{bits, bit}
+use Rattle.words.specs.Layout.{LaidFrom}
+use Rattle.words.proofs.Fields.{flagged, unflagged, upper, lower}
+use Rattle.reports.specs.declared.Height.{Height}
+use Rattle.reports.specs.declared.Dabs.{Dabs}
+use Rattle.reports.specs.declared.Atcrbs.{Atcrbs}
+use Rattle.reports.specs.declared.Mtd.{Mtd}
+use Rattle.reports.specs.declared.Rdas.{Rdas}
+use Rattle.reports.specs.declared.Report.{Report}
+use Rattle.reports.specs.declared.Report.the-variants as R
+use Rattle.reports.specs.Altitude.{AltitudeForm, Sound}
+use Rattle.reports.specs.Forms.{isDabs, isCd, isMtd, isRdas, isMtdSearch, isRdasSearch}
+use Rattle.reports.specs.Records.{heightOf, dabsOf, atcrbsOf, mtdOf, rdasOf, sevenOf}
+use Rattle.reports.specs.Layouts.{layoutOf}
+use Rattle.reports.specs.Conditions.{unassigned, heightSpares, sevenSpares, minusZero}
+use Rattle.reports.proofs.Tests.{by-picks, bit-zero, _&_}
+use Rattle.reports.proofs.Heights.{Stands, tells, height-laid, height-held}
+
+-- ---- from words to fields: a flag is its bit, a fixed field is what a test found, a number in two parts is its parts, any other is read
+-- as it stands
+
+module _ (form : AltitudeForm) (sound : Sound form) (ws : List ℕ) (two : bits ws 2 3 ≡ 0b11) where
+  dabs-laid : (h : Height) → Stands form ws h → bits ws 4 4 ≡ 1 → bits ws 45 46 ≡ 0 → LaidFrom 1 (layoutOf form (R.Dabs (dabsOf ws h))) ws
+  dabs-laid h s one z =
+      (flagged _ & two & one & flagged _ & (s .0) & flagged _ & flagged _ & flagged _ & flagged _ & flagged _ & (s .1) & tt)
+      & (upper 3 _ _ & tt)
+      & (lower 3 _ _ & upper 4 _ _ & tt)
+      & (lower 4 _ _ & flagged _ & z & flagged _ & refl & tt)
+      & (upper 12 _ _ & tt)
+      & (lower 12 _ _ & tt)
+      & s .2
+      & tt
+
+  atcrbs-laid : (h : Height) → Stands form ws h → bits ws 4 4 ≡ 0 → LaidFrom 1 (layoutOf form (R.Atcrbs (atcrbsOf ws h))) ws
+  atcrbs-laid h s none =
+      (flagged _ & two & none & flagged _ & (s .0) & flagged _ & flagged _ & flagged _ & flagged _ & flagged _ & (s .1) & tt)
+      & (upper 3 _ _ & tt)
+      & (lower 3 _ _ & upper 4 _ _ & tt)
+      & (lower 4 _ _ & flagged _ & flagged _ & flagged _ & flagged _ & refl & tt)
+      & (refl & tt)
+      & (refl & tt)
+      & s .2
+      & tt
+
+  mtd-laid : bits ws 4 4 ≡ 0 → isMtdSearch ws ≡ true → bits ws 5 10 + bits ws 45 45 + bits ws 87 87 ≡ 0 → LaidFrom 1 (layoutOf form (R.Mtd (mtdOf ws))) ws
+  mtd-laid none k z =
+      let t = tells ws 0b010 (lit< tt) k in
+      (flagged _ & two & none & (omega arith) & flagged _ & (t .0) & tt)
+      & (upper 3 _ _ & tt)
+      & (lower 3 _ _ & upper 4 _ _ & tt)
+      & (lower 4 _ _ & flagged _ & (omega arith) & refl & tt)
+      & (refl & refl & tt)
+      & (refl & tt)
+      & (refl & refl & flagged _ & flagged _ & (omega arith) & (t .1) & tt)
+      & tt
+
+  rdas-laid : bits ws 4 4 ≡ 0 → isRdasSearch ws ≡ true → bits ws 5 10 + bits ws 45 45 + bits ws 53 64 + bits ws 83 84 + bits ws 86 87 ≡ 0
+      → LaidFrom 1 (layoutOf form (R.Rdas (rdasOf ws))) ws
+  rdas-laid none k z =
+      let t = tells ws 0b001 (lit< tt) k in
+      (flagged _ & two & none & (omega arith) & flagged _ & (t .0) & tt)
+      & (upper 3 _ _ & tt)
+      & (lower 3 _ _ & upper 4 _ _ & tt)
+      & (lower 4 _ _ & flagged _ & (omega arith) & refl & tt)
+      & ((omega arith) & tt)
+      & (refl & tt)
+      & (refl & (omega arith) & flagged _ & (omega arith) & (t .1) & tt)
+      & tt
+
+  -- what is assigned and stands in for nothing has bit 12 zero
+  dabs-plain : unassigned ws ≡ false → isDabs ws ≡ true → isCd ws ≡ false → isMtd ws ≡ false → isRdas ws ≡ false → bit ws 12 ≡ false
+  dabs-plain u k n1 n2 n3 = go (bit ws 12) refl
+    where
+      go : (b : Bool) → bit ws 12 ≡ b → b ≡ false
+      go true e = let z = simp (two, e, k, simp e at n1, simp e at n2, simp e at n3) at u in z
+      go false e = refl
+
+  atcrbs-plain : unassigned ws ≡ false → isDabs ws ≡ false → isMtdSearch ws ≡ false → isRdasSearch ws ≡ false → isCd ws ≡ false → isMtd ws ≡ false → isRdas ws ≡ false → bit ws 12 ≡ false
+  atcrbs-plain u k m2 m1 n1 n2 n3 = go (bit ws 12) refl
+    where
+      go : (b : Bool) → bit ws 12 ≡ b → b ≡ false
+      go true e = let z = simp (two, e, k, simp e at m2, simp e at m1, simp e at n1, simp e at n2, simp e at n3) at u in z
+      go false e = refl
+
+  abbrev Laid7 : Report → ℕ → Type 0
+  Laid7 r n = n ≡ 0 → LaidFrom 1 (layoutOf form r) ws
+
+  pub seven-laid : unassigned ws ≡ false → minusZero form ws ≡ false → Laid7 (sevenOf form ws) (sevenSpares ws)
+  unfolding sevenOf sevenSpares
+  seven-laid u m =
+      by-picks Laid7 (isDabs ws)
+      (λ k z. dabs-laid (heightOf form ws) (height-laid form sound ws two (λ n1 n2 n3. dabs-plain u k n1 n2 n3) m (omega arith)) (eqb-true _ _ k) (omega arith))
+      (λ k. by-picks Laid7 (isMtdSearch ws) (mtd-laid (bit-zero _ k))
+      (λ m2. by-picks Laid7 (isRdasSearch ws) (rdas-laid (bit-zero _ k))
+      (λ m1 z. atcrbs-laid (heightOf form ws) (height-laid form sound ws two (λ n1 n2 n3. atcrbs-plain u k m2 m1 n1 n2 n3) m z) (bit-zero _ k))))
+
+-- ---- from fields to words: the tests find the fixed fields, and each field of the record is its bits
+
+-- seven words that pass as r
+pub record Held (form : AltitudeForm) (ws : List ℕ) (r : Report) : Type 0 where
+  pub two : bits ws 2 3 ≡ 0b11
+  pub assigned : unassigned ws ≡ false
+  pub spare : sevenSpares ws ≡ 0
+  pub altitude : minusZero form ws ≡ false
+  pub report : sevenOf form ws ≡ r
+
+module _ (form : AltitudeForm) (sound : Sound form) (ws : List ℕ) where
+  pub dabs-held : (d′ : Dabs) → LaidFrom 1 (layoutOf form (R.Dabs d′)) ws → Held form ws (R.Dabs d′)
+  unfolding sevenOf sevenSpares
+  dabs-held d′ h =
+      let k = h .0 .1 .1 .0 in
+      let p = height-held form sound ws (h .0 .1 .0) (d′ .height) (h .0 .1 .1 .1 .1 .0, h .0 .1 .1 .1 .1 .1 .1 .1 .1 .1 .1 .0, h .1 .1 .1 .1 .1 .1 .0) in
+      record {
+        two = h .0 .1 .0;
+        assigned = p .assigned;
+        spare = simp (k, h .1 .1 .1 .0 .1 .1 .0, p .spare);
+        altitude = p .altitude;
+        report = simp (k, p .same, unflagged, h .0 .0, h .0 .1 .1 .1 .0, h .0 .1 .1 .1 .1 .1 .0, h .0 .1 .1 .1 .1 .1 .1 .0, h .0 .1 .1 .1 .1 .1 .1 .1 .0, h .0 .1 .1 .1 .1 .1 .1 .1 .1 .0, h .0 .1 .1 .1 .1 .1 .1 .1 .1 .1 .0, h .1 .0 .0, h .1 .1 .0 .0, h .1 .1 .0 .1 .0, h .1 .1 .1 .0 .0, h .1 .1 .1 .0 .1 .0, h .1 .1 .1 .0 .1 .1 .1 .0, h .1 .1 .1 .0 .1 .1 .1 .1 .0, h .1 .1 .1 .1 .0 .0, h .1 .1 .1 .1 .1 .0 .0, split (d′ .range .0) 3, split (d′ .azimuth .0) 4, split (d′ .address) 12);
+      }
+
+  pub atcrbs-held : (r : Atcrbs) → LaidFrom 1 (layoutOf form (R.Atcrbs r)) ws → Held form ws (R.Atcrbs r)
+  unfolding sevenOf sevenSpares
+  atcrbs-held r h =
+      let k = h .0 .1 .1 .0 in
+      let p = height-held form sound ws (h .0 .1 .0) (r .height) (h .0 .1 .1 .1 .1 .0, h .0 .1 .1 .1 .1 .1 .1 .1 .1 .1 .1 .0, h .1 .1 .1 .1 .1 .1 .0) in
+      record {
+        two = h .0 .1 .0;
+        assigned = p .assigned;
+        spare = simp (k, p .beacon .0, p .beacon .1, p .spare);
+        altitude = p .altitude;
+        report = simp (k, p .beacon .0, p .beacon .1, p .same, unflagged, h .0 .0, h .0 .1 .1 .1 .0, h .0 .1 .1 .1 .1 .1 .0, h .0 .1 .1 .1 .1 .1 .1 .0, h .0 .1 .1 .1 .1 .1 .1 .1 .0, h .0 .1 .1 .1 .1 .1 .1 .1 .1 .0, h .0 .1 .1 .1 .1 .1 .1 .1 .1 .1 .0, h .1 .0 .0, h .1 .1 .0 .0, h .1 .1 .0 .1 .0, h .1 .1 .1 .0 .0, h .1 .1 .1 .0 .1 .0, h .1 .1 .1 .0 .1 .1 .0, h .1 .1 .1 .0 .1 .1 .1 .0, h .1 .1 .1 .0 .1 .1 .1 .1 .0, h .1 .1 .1 .0 .1 .1 .1 .1 .1 .0, h .1 .1 .1 .1 .0 .0, h .1 .1 .1 .1 .1 .0 .0, split (r .range .0) 3, split (r .azimuth .0) 4);
+      }
+
+  pub mtd-held : (r : Mtd) → LaidFrom 1 (layoutOf form (R.Mtd r)) ws → Held form ws (R.Mtd r)
+  unfolding sevenOf sevenSpares
+  mtd-held r h =
+      let two = h .0 .1 .0 in
+      let k = h .0 .1 .1 .0 in
+      let x = h .0 .1 .1 .1 .1 .1 .0 in
+      let t = h .1 .1 .1 .1 .1 .1 .0 .1 .1 .1 .1 .1 .0 in
+      record {
+        two = two;
+        assigned = simp (two, k, x, t);
+        spare = simp (k, x, t, h .0 .1 .1 .1 .0, h .1 .1 .1 .0 .1 .1 .0, h .1 .1 .1 .1 .1 .1 .0 .1 .1 .1 .1 .0);
+        altitude = simp (two, x);
+        report = simp (k, x, t, unflagged, h .0 .0, h .0 .1 .1 .1 .1 .0, h .1 .0 .0, h .1 .1 .0 .0, h .1 .1 .0 .1 .0, h .1 .1 .1 .0 .0, h .1 .1 .1 .0 .1 .0, h .1 .1 .1 .0 .1 .1 .1 .0, h .1 .1 .1 .1 .0 .0, h .1 .1 .1 .1 .0 .1 .0, h .1 .1 .1 .1 .1 .0 .0, h .1 .1 .1 .1 .1 .1 .0 .0, h .1 .1 .1 .1 .1 .1 .0 .1 .0, h .1 .1 .1 .1 .1 .1 .0 .1 .1 .0, h .1 .1 .1 .1 .1 .1 .0 .1 .1 .1 .0, split (r .range .0) 3, split (r .azimuth .0) 4);
+      }
+
+  pub rdas-held : (r : Rdas) → LaidFrom 1 (layoutOf form (R.Rdas r)) ws → Held form ws (R.Rdas r)
+  unfolding sevenOf sevenSpares
+  rdas-held r h =
+      let two = h .0 .1 .0 in
+      let k = h .0 .1 .1 .0 in
+      let x = h .0 .1 .1 .1 .1 .1 .0 in
+      let t = h .1 .1 .1 .1 .1 .1 .0 .1 .1 .1 .1 .0 in
+      record {
+        two = two;
+        assigned = simp (two, k, x, t);
+        spare = simp (k, x, t, h .0 .1 .1 .1 .0, h .1 .1 .1 .0 .1 .1 .0, h .1 .1 .1 .1 .0 .0, h .1 .1 .1 .1 .1 .1 .0 .1 .0, h .1 .1 .1 .1 .1 .1 .0 .1 .1 .1 .0);
+        altitude = simp (two, x);
+        report = simp (k, x, t, unflagged, h .0 .0, h .0 .1 .1 .1 .1 .0, h .1 .0 .0, h .1 .1 .0 .0, h .1 .1 .0 .1 .0, h .1 .1 .1 .0 .0, h .1 .1 .1 .0 .1 .0, h .1 .1 .1 .0 .1 .1 .1 .0, h .1 .1 .1 .1 .1 .0 .0, h .1 .1 .1 .1 .1 .1 .0 .0, h .1 .1 .1 .1 .1 .1 .0 .1 .1 .0, split (r .range .0) 3, split (r .azimuth .0) 4);
+      }

@@ -1,0 +1,80 @@
+-- What is claimed of reports, in any sound form of the altitude: demand 2, and each refusal exactly under its condition. Statements only;
+-- proofs/Claims.antt proves them.
+use Prim.Native.Nat.{ℕ, _<_}
+use mathlib.Core.Path.{_≡_}
+use mathlib.Core.Bool.{true, false}
+use mathlib.Core.List.{List, [], _∷_}
+use mathlib.Core.Logic.{_↔_, _⊎_}
+use lib.ListN.{getD}
+use Rattle.refusals.specs.Numbers.{lineNumber, fieldNumber}
+use Rattle.refusals.specs.declared.LineRefusal.{LineRefusal}
+use Rattle.refusals.specs.declared.FieldRefusal.{FieldRefusal}
+use Rattle.reports.specs.declared.Report.{Report}
+use Rattle.reports.specs.declared.RunAnswer.the-variants.{Accepted, Refused}
+use Rattle.reports.specs.declared.kinds.Kind.{Kind}
+use Rattle.reports.specs.Kinds.{kindNumber}
+use Rattle.reports.specs.Altitude.{AltitudeForm, Sound, signMagnitude}
+use Rattle.reports.specs.Layouts.{wordsOf, Fits, Takes, asWritten, written}
+use Rattle.reports.specs.Conditions.{HasLayout}
+use Rattle.reports.specs.Runs.{Row, tableOf, judged, readRun}
+
+-- document 01's form of the altitude is one of those of which the claims below speak
+abbrev pub DocumentForm : Type 0
+DocumentForm = Sound signMagnitude
+
+-- ---- demand 2
+
+-- a run is the report r exactly when its words are those of r, and r's values fit their fields
+abbrev pub Demand2 : Type 0
+Demand2 = (form : AltitudeForm) → Sound form → (ws : List ℕ) (r : Report) → (readRun form ws ≡ Accepted r) ↔ ((ws ≡ wordsOf form r) × Fits form r)
+
+-- a run is accepted exactly when it has one of the layouts, by bit numbers; and that is to be the words of a record that fits
+abbrev pub AcceptedExactly : Type 0
+AcceptedExactly = (form : AltitudeForm) (ws : List ℕ) → ((r : Report) × (readRun form ws ≡ Accepted r)) ↔ HasLayout form ws
+
+abbrev pub LayoutIsWords : Type 0
+LayoutIsWords = (form : AltitudeForm) → Sound form → (ws : List ℕ) → HasLayout form ws ↔ ((r : Report) × (ws ≡ wordsOf form r) × Fits form r)
+
+-- an accepted run's record written out again gives the same words, and the writer, where it takes the record, hands them out
+abbrev pub WrittenAgain : Type 0
+WrittenAgain =
+    (form : AltitudeForm) → Sound form → (ws : List ℕ) (r : Report) → readRun form ws ≡ Accepted r
+    → (wordsOf form r ≡ ws) × (Takes form r → written form r ≡ asWritten ws)
+
+-- a record that the writer takes, written and read, gives the same record
+abbrev pub ReadBack : Type 0
+ReadBack =
+    (form : AltitudeForm) → Sound form → (r : Report) → Takes form r
+    → (written form r ≡ asWritten (wordsOf form r)) × (readRun form (wordsOf form r) ≡ Accepted r)
+
+-- the writer takes every record that can be read
+abbrev pub TakesWhatFits : Type 0
+TakesWhatFits = (form : AltitudeForm) (r : Report) → Fits form r → Takes form r
+
+-- ---- the refusals
+
+-- the row of refusal q and offset o is the first that holds
+abbrev pub Hit : List Row → LineRefusal → ℕ → Type 0
+Hit [] q o = ⊥
+Hit (x ∷ rows) q o = ((x .holds ≡ true) × (x .refusal ≡ q) × (x .offset ≡ o)) ⊎ ((x .holds ≡ false) × Hit rows q o)
+
+-- a refusal is given exactly where its row's condition holds and none of an earlier row does
+abbrev pub RefusedExactly : Type 0
+RefusedExactly = (form : AltitudeForm) (ws : List ℕ) (q : LineRefusal) (o : ℕ) → (readRun form ws ≡ Refused q o) ↔ Hit (tableOf form ws) q o
+
+-- ---- for the line
+
+-- of a run's words no more than the first seven are looked at once its length and its first wide and first even word are known
+abbrev pub FirstSeven : Type 0
+FirstSeven =
+    (form : AltitudeForm) (ws : List ℕ) (n w e : ℕ)
+    → judged form (getD ws 0 0 ∷ getD ws 1 0 ∷ getD ws 2 0 ∷ getD ws 3 0 ∷ getD ws 4 0 ∷ getD ws 5 0 ∷ getD ws 6 0 ∷ []) n w e ≡ judged form ws n w e
+
+-- ---- the kinds
+
+-- no two kinds share a number, and none has a refusal's
+abbrev pub KindNumbersDiffer : Type 0
+KindNumbersDiffer = (a b : Kind) → kindNumber a ≡ kindNumber b → a ≡ b
+
+abbrev pub KindsAboveRefusals : Type 0
+KindsAboveRefusals = (k : Kind) → ((q : LineRefusal) → lineNumber q < kindNumber k) × ((q : FieldRefusal) → fieldNumber q < kindNumber k)
