@@ -101,3 +101,11 @@ numbers-apart a b = omega (arith, ltb→lt (lineNumber a) 19 (line-told a .2), l
 
 pub no-number-is-zero : NoNumberIsZero
 no-number-is-zero = (λ a. ltb→lt 0 (lineNumber a) (line-told a .1), λ b. omega (arith, ltb→lt 19 (fieldNumber b) (field-told b .1)))
+
+-- ---- the bounds, for those who number other things
+
+pub line-below : (a : LineRefusal) → lineNumber a < 19
+line-below a = ltb→lt (lineNumber a) 19 (line-told a .2)
+
+pub field-below : (b : FieldRefusal) → fieldNumber b < 32
+field-below b = ltb→lt (fieldNumber b) 32 (field-told b .2)

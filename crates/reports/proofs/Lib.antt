@@ -6,3 +6,4 @@ pub mod Heights
 pub mod Seven
 pub mod Refusals
 pub mod Demand2
+pub mod Claims
