@@ -209,7 +209,7 @@ fn radar_of(h: Height) -> bool
 }
 
 // The magnitude of an altitude.
-fn magnitude(z: i16) -> u32
+pub fn magnitude(z: i16) -> u32
     ensures { λ r. ⌜ r ≡ natAbs z ⌝ }
 {
     if z < 0 {
@@ -220,7 +220,7 @@ fn magnitude(z: i16) -> u32
     }
 }
 
-fn is_negative(z: i16) -> bool
+pub fn is_negative(z: i16) -> bool
     ensures { λ r. ⌜ r ≡ negative z ⌝ }
 {
     z < 0
