@@ -1,14 +1,14 @@
 -- Document 01's form of the altitude: its two ways undo each other.
 -- Assumes nothing.
 use Prim.Native.Nat.{ℕ, zero, suc, _+_, _*_, _/_, _%_, _≤_, _<_}
-use mathlib.Core.Path.{_≡_, refl, sym, ap, _∙_}
+use mathlib.Core.Path.{_≡_, refl}
 use mathlib.Core.Bool.{Bool, true, false}
 use native.Mathlib.Omega.{arith}
-use borrow.Author.Tests.{eqb-true, eqb-false, eq-eqb, ne-eqb, leb-true, leb-false, le-leb}
+use borrow.Author.Tests.{eq-eqb, ne-eqb, leb-true, le-leb}
 use lib.Dec.{eqb, leb, eqb·suc-zero}
-use lib.IntN.{ℤ, pos, negsuc, natAbs}
+use lib.IntN.{ℤ, pos, negsuc}
 use Rattle.words.specs.Tests.{pick}
-use Rattle.reports.specs.Altitude.{Sound, sign, magnitude, signed, negative, signMagnitude}
+use Rattle.reports.specs.Altitude.{Sound, sign, magnitude, signed, signMagnitude}
 
 -- ---- from an altitude to its bits and back
 

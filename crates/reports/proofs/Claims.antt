@@ -1,13 +1,12 @@
 -- The claims of specs/Claims.antt about the form of the altitude and about the kinds' numbers. Demand 2 and what follows from it is proved in
 -- Demand2.antt, the refusals and the first seven words in Refusals.antt. Assumes nothing.
-use Prim.Native.Nat.{ℕ, _<_, _-_}
-use mathlib.Core.Path.{_≡_, refl, sym, ap, _∙_}
-use mathlib.Core.List.{List, [], _∷_}
+use Prim.Native.Nat.{ℕ, _-_}
+use mathlib.Core.Path.{refl}
+use mathlib.Core.List.{[], _∷_}
 use native.Mathlib.Omega.{arith}
-use lib.Dec.{T, ltb, ltb→lt}
+use lib.Dec.{ltb→lt}
 use lib.ListN.{getD}
-use Rattle.refusals.specs.Numbers.{lineNumber, fieldNumber}
-use Rattle.refusals.proofs.Claims.{line-below, field-below}
+use Rattle.refusals.proofs.Claims.{Told, differ, line-below, field-below}
 use Rattle.reports.specs.declared.kinds.Kind.{Kind}
 use Rattle.reports.specs.declared.kinds.Kind.the-variants as K
 use Rattle.reports.specs.Kinds.{kindNumber}
@@ -39,25 +38,25 @@ kind n =
     (n - 101)
     K.Rdas
 
-told : (k : Kind) → (kind (kindNumber k) ≡ k) × T (ltb 100 (kindNumber k))
-told K.Search = (refl, tt)
-told K.Strobe = (refl, tt)
-told K.Map = (refl, tt)
-told K.Status = (refl, tt)
-told K.Rtqc = (refl, tt)
-told K.Dabs = (refl, tt)
-told K.DabsCd = (refl, tt)
-told K.DabsMtd = (refl, tt)
-told K.DabsRdas = (refl, tt)
-told K.Atcrbs = (refl, tt)
-told K.AtcrbsCd = (refl, tt)
-told K.AtcrbsMtd = (refl, tt)
-told K.AtcrbsRdas = (refl, tt)
-told K.Mtd = (refl, tt)
-told K.Rdas = (refl, tt)
+told : (k : Kind) → Told kindNumber kind 100 116 k
+told K.Search = (refl, tt, tt)
+told K.Strobe = (refl, tt, tt)
+told K.Map = (refl, tt, tt)
+told K.Status = (refl, tt, tt)
+told K.Rtqc = (refl, tt, tt)
+told K.Dabs = (refl, tt, tt)
+told K.DabsCd = (refl, tt, tt)
+told K.DabsMtd = (refl, tt, tt)
+told K.DabsRdas = (refl, tt, tt)
+told K.Atcrbs = (refl, tt, tt)
+told K.AtcrbsCd = (refl, tt, tt)
+told K.AtcrbsMtd = (refl, tt, tt)
+told K.AtcrbsRdas = (refl, tt, tt)
+told K.Mtd = (refl, tt, tt)
+told K.Rdas = (refl, tt, tt)
 
 pub kind-numbers-differ : KindNumbersDiffer
-kind-numbers-differ a b same = sym (told a .0) ∙ ap kind same ∙ told b .0
+kind-numbers-differ = differ kindNumber kind 100 116 told
 
 pub kinds-above-refusals : KindsAboveRefusals
 kinds-above-refusals k = (

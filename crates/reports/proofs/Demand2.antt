@@ -3,16 +3,15 @@
 -- layout exactly when they are its words is one law of `words`. Assumes nothing.
 use Prim.Native.Nat.{ℕ}
 use mathlib.Core.Path.{_≡_, refl, ap, sym, _∙_, subst}
-use mathlib.Core.Bool.{Bool, true, false, not}
+use mathlib.Core.Bool.{Bool, true, false}
 use mathlib.Core.List.{List}
 use mathlib.Core.Logic.{_⊎_, inl, inr}
-use native.Mathlib.Omega.{arith}
 use borrow.Author.Tests.{eqb-true, eq-eqb, not-false}
 use lib.Dec.{eqb}
 use lib.ListN.{length}
 use Rattle.refusals.specs.declared.LineRefusal.the-variants.{ValueTooLarge}
 use Rattle.words.specs.Tests.{pick}
-use Rattle.words.specs.Word.{bits, AllGood}
+use Rattle.words.specs.Word.{AllGood}
 use Rattle.words.specs.Layout.{Laid, LaidFrom}
 use Rattle.words.proofs.Layouts as words
 use Rattle.reports.specs.declared.Report.{Report}
@@ -23,7 +22,7 @@ use Rattle.reports.specs.Altitude.{AltitudeForm, Sound}
 use Rattle.reports.specs.Forms.{isFour, isSeven, wordCount, isSearch, isStrobe, isStatus, hasRtqcPattern, isDabs, isMtdSearch, isRdasSearch}
 use Rattle.reports.specs.Records.{fourOf, sevenOf, reportOf}
 use Rattle.reports.specs.Layouts.{layoutOf, wordsOf, Fits, Takes, asWritten, written}
-use Rattle.reports.specs.Conditions.{unknownForm, fourZeros, sevenSpares, zeros, HasLayout}
+use Rattle.reports.specs.Conditions.{zeros, HasLayout}
 use Rattle.reports.specs.Runs.{readRun}
 use Rattle.reports.specs.Claims as claims
 use Rattle.reports.proofs.Tests.{by-pick}

@@ -1,7 +1,7 @@
 -- The words that the writer makes of a layout's data are the layout's words where every value fits, and 11 where one does not.
 -- Assumes nothing.
-use Prim.Native.Nat.{ℕ, _+_, _/_, _≤_, _<_}
-use mathlib.Core.Path.{_≡_, refl, sym, ap, _∙_}
+use Prim.Native.Nat.{ℕ, _+_, _/_, _≤_}
+use mathlib.Core.Path.{_≡_, refl}
 use mathlib.Core.Bool.{Bool, true, false}
 use mathlib.Core.List.{List, [], _∷_}
 use native.Mathlib.Omega.{arith}
@@ -17,7 +17,6 @@ use Rattle.reports.specs.declared.Height.{Height}
 use Rattle.reports.specs.declared.Height.the-variants as H
 use Rattle.reports.specs.declared.Report.{Report}
 use Rattle.reports.specs.declared.Report.the-variants as R
-use Rattle.reports.specs.declared.Written.{Written}
 use Rattle.reports.specs.declared.Written.the-variants as W
 use Rattle.reports.specs.Altitude.{AltitudeForm}
 use Rattle.reports.specs.Layouts.{lastWord, layoutOf, asWritten, written}

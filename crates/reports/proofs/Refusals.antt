@@ -1,12 +1,11 @@
 -- Each refusal is given exactly under its condition: the first row of the table that holds answers. And the reader needs seven words.
 -- Assumes nothing.
 use Prim.Native.Nat.{ℕ}
-use mathlib.Core.Path.{_≡_, refl, ap}
+use mathlib.Core.Path.{_≡_, refl}
 use mathlib.Core.Logic.{_⊎_, inl, inr, ⊎-elim}
 use mathlib.Core.Bool.{Bool, true, false}
 use mathlib.Core.List.{List, [], _∷_}
 use native.Mathlib.Omega.{arith}
-use lib.ListN.{length}
 use Rattle.refusals.specs.declared.LineRefusal.{LineRefusal}
 use Rattle.words.specs.Tests.{pick}
 use Rattle.words.specs.Word.{wide, even}
@@ -16,7 +15,7 @@ use Rattle.reports.specs.declared.RunAnswer.{RunAnswer}
 use Rattle.reports.specs.declared.RunAnswer.the-variants.{Accepted, Refused}
 use Rattle.reports.specs.Altitude.{AltitudeForm}
 use Rattle.reports.specs.Records.{heightOf, fourOf, sevenOf, reportOf}
-use Rattle.reports.specs.Conditions.{wideWord, evenWord, unknownForm, wrongLength, unassigned, spareSet, fourZeros, heightSpares, sevenSpares, zeros, minusZero, HasLayout}
+use Rattle.reports.specs.Conditions.{fourZeros, heightSpares, sevenSpares, zeros, HasLayout}
 use Rattle.reports.specs.Runs.{Row, firstHit, tableOf, readRun}
 use Rattle.reports.specs.Claims.{Hit, RefusedExactly, AcceptedExactly, FirstSeven}
 

@@ -1,14 +1,13 @@
 -- Reports of seven words: words that pass the tests hold the fields of what they are read as, and words that hold a report's fields pass
 -- the tests and are read as that report. Assumes nothing.
 use Prim.Native.Nat.{ℕ, _+_}
-use mathlib.Core.Path.{_≡_, refl, sym}
-use mathlib.Core.Bool.{Bool, true, false, not}
-use mathlib.Core.List.{List, [], _∷_}
+use mathlib.Core.Path.{_≡_, refl}
+use mathlib.Core.Bool.{Bool, true, false}
+use mathlib.Core.List.{List}
 use native.Mathlib.Omega.{arith}
 use borrow.Author.Tests.{eqb-true}
-use lib.Dec.{eqb, lit<}
+use lib.Dec.{lit<}
 use lib.Pow.{split}
-use Rattle.words.specs.Tests.{pick}
 use Rattle.words.specs.Word.{bits, bit}
 use Rattle.words.specs.Layout.{LaidFrom}
 use Rattle.words.proofs.Fields.{flagged, unflagged, upper, lower}
@@ -23,7 +22,7 @@ use Rattle.reports.specs.Altitude.{AltitudeForm, Sound}
 use Rattle.reports.specs.Forms.{isDabs, isCd, isMtd, isRdas, isMtdSearch, isRdasSearch}
 use Rattle.reports.specs.Records.{heightOf, dabsOf, atcrbsOf, mtdOf, rdasOf, sevenOf}
 use Rattle.reports.specs.Layouts.{layoutOf}
-use Rattle.reports.specs.Conditions.{unassigned, heightSpares, sevenSpares, minusZero}
+use Rattle.reports.specs.Conditions.{unassigned, sevenSpares, minusZero}
 use Rattle.reports.proofs.Tests.{by-picks, bit-zero, _&_}
 use Rattle.reports.proofs.Heights.{Stands, tells, height-laid, height-held}
 

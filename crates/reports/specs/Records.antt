@@ -122,6 +122,7 @@ atcrbsOf ws h = record {
   «false_target» = bit ws 46;
   relay = bit ws 47;
   time = record { 0 = bits ws 48 51 };
+  -- A4 A2 A1 B4 B2 B1 C4 C2 C1 D4 D2 D1: its octal digits are A, B, C and D
   code = bits ws 53 64;
   file = bits ws 66 77;
   height = h;

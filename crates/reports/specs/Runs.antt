@@ -3,7 +3,6 @@ use Prim.Native.Nat.{ℕ}
 use mathlib.Core.Bool.{Bool, not}
 use mathlib.Core.List.{List, [], _∷_}
 use lib.Dec.{eqb, ltb}
-use lib.ListN.{length}
 use Rattle.refusals.specs.Numbers.{lineNumber}
 use Rattle.refusals.specs.declared.LineRefusal.{LineRefusal}
 use Rattle.refusals.specs.declared.LineRefusal.the-variants.{WordTooWide, EvenWord, UnknownForm, WrongLength, UnassignedRadar, SpareBitSet, MinusZero}
@@ -14,7 +13,7 @@ use Rattle.reports.specs.declared.RunAnswer.the-variants.{Accepted, Refu
 use Rattle.reports.specs.Altitude.{AltitudeForm}
 use Rattle.reports.specs.Forms.{wordCount}
 use Rattle.reports.specs.Records.{reportOf}
-use Rattle.reports.specs.Conditions.{unknownForm, unassigned, spareSet, minusZero}
+use Rattle.reports.specs.Conditions.{wideWord, evenWord, unknownForm, wrongLength, unassigned, spareSet, minusZero}
 
 -- a row of the table: whether its condition holds, its refusal, and the offset of the word that it names
 pub record Row : Type 0 where
@@ -46,9 +45,14 @@ table form ws n w e =
 abbrev pub judged : AltitudeForm → List ℕ → ℕ → ℕ → ℕ → RunAnswer
 judged form ws n w e = firstHit (table form ws n w e) (Accepted (reportOf form ws))
 
--- the table of a run, and the answer to it
+-- the table of a run, row by row as document 01 prints it, and the answer to it
 abbrev pub tableOf : AltitudeForm → List ℕ → List Row
-tableOf form ws = table form ws (length ws) (first wide ws) (first even ws)
+tableOf form ws =
+    row (wideWord ws) WordTooWide (first wide ws)
+    ∷ row (evenWord ws) EvenWord (first even ws)
+    ∷ row (unknownForm ws) UnknownForm 0
+    ∷ row (wrongLength ws) WrongLength 0
+    ∷ lastRows form ws
 
 abbrev pub readRun : AltitudeForm → List ℕ → RunAnswer
 readRun form ws = firstHit (tableOf form ws) (Accepted (reportOf form ws))

@@ -2,7 +2,6 @@
 // Relies on content for the fields; what each test means stands in specs/Conditions.antt.
 ghost use mathlib.Core.Path.{_≡_};
 ghost use mathlib.Core.List.{[], _∷_};
-ghost use Prim.Native.Nat.{_<_};
 ghost use Rattle.reports.specs.Altitude.{signMagnitude};
 ghost use Rattle.reports.specs.Forms.{told, wordCount};
 ghost use Rattle.reports.specs.Conditions.{unknownForm, unassigned, minusZero};
@@ -12,6 +11,7 @@ ghost use Rattle.reports.specs.Runs.{firstHit, lastRows, judged};
 use crate::Height;
 use crate::Report;
 use crate::RunAnswer;
+use crate::altitude;
 use crate::content;
 use measures::RunLength;
 use refusals::LineRefusal;
@@ -67,19 +67,6 @@ fn four_of(a: u16, b: u16, c: u16, d: u16) -> Found
 
 // ---- seven words
 
-// The altitude of twelve bits: a sign, 1 negative, and eleven bits.
-fn altitude_of(n: u16) -> i16
-    requires { ⌜ n < 4096 ⌝ }
-    ensures { λ r. ⌜ r ≡ signMagnitude .altitude n ⌝ }
-{
-    let magnitude = (n % 2048) as i16;
-    if n / 2048 == 1 {
-        0 - magnitude
-    } else {
-        magnitude
-    }
-}
-
 // Bits 88 to 90 where bit 12 is one, else 8.
 fn told_by(a: u16, g: u16) -> u16
     ensures { λ r. ⌜ r ≡ told (a ∷ 0 ∷ 0 ∷ 0 ∷ 0 ∷ 0 ∷ g ∷ []) ⌝ }
@@ -115,7 +102,7 @@ fn height_of(a: u16, g: u16) -> FoundHeight
     }
     if a / 128 % 2 == 1 {
         return FoundHeight {
-            height: Height::Altitude(altitude_of(g / 2 % 4096)),
+            height: Height::Altitude(altitude::altitude_of(g / 2 % 4096)),
             spare: 0,
         };
     }

@@ -4,12 +4,11 @@
 ghost use mathlib.Core.Path.{_≡_};
 ghost use mathlib.Core.List.{[], _∷_};
 ghost use Prim.Native.Nat.{_/_, _<_, _^_};
-ghost use lib.IntN.{natAbs};
 ghost use lib.ListN.{getD};
 ghost use Rattle.words.specs.Tests.{pick};
 ghost use Rattle.words.specs.Word.{wordOf};
 ghost use Rattle.words.specs.Layout.{joined, dataOrMore, flag, count, rest, fixed, spare};
-ghost use Rattle.reports.specs.Altitude.{signMagnitude, negative};
+ghost use Rattle.reports.specs.Altitude.{signMagnitude};
 ghost use Rattle.reports.specs.Layouts.{lastWord, modeC, radar, layoutOf, written};
 ghost use Rattle.reports.specs.Data.{dataBy, fromData};
 use crate::Atcrbs;
@@ -24,6 +23,7 @@ use crate::Search;
 use crate::Status;
 use crate::Strobe;
 use crate::Written;
+use crate::altitude;
 use refusals::LineRefusal;
 
 // The data of a report's words, each 4096 or more where a value in it is too large.
@@ -208,36 +208,6 @@ fn radar_of(h: Height) -> bool
     }
 }
 
-// The magnitude of an altitude.
-pub fn magnitude(z: i16) -> u32
-    ensures { λ r. ⌜ r ≡ natAbs z ⌝ }
-{
-    if z < 0 {
-        let n = 0 - (z as i32);
-        n as u32
-    } else {
-        z as u32
-    }
-}
-
-pub fn is_negative(z: i16) -> bool
-    ensures { λ r. ⌜ r ≡ negative z ⌝ }
-{
-    z < 0
-}
-
-// The twelve bits of an altitude; 4096 where it has none.
-fn altitude_bits(z: i16) -> u32
-    ensures { λ r. ⌜ (r ≡ signMagnitude .bitsOf z) × (r < 4097) ⌝ }
-{
-    let n = magnitude(z);
-    if n <= 2047 {
-        if is_negative(z) { 2048 + n } else { 0 + n }
-    } else {
-        4096
-    }
-}
-
 // The last word where a CD, an MTD or an RDAS stands in for the height.
 fn cd_last(run: u8) -> u32
     ensures { λ r. ⌜ r ≡ dataOrMore (count 3 run ∷ spare 6 ∷ fixed 3 0b100 ∷ []) ⌝ }
@@ -264,7 +234,7 @@ fn height_last(h: Height) -> u32
     ensures { λ r. ⌜ r ≡ dataOrMore (lastWord signMagnitude h) ⌝ }
 {
     match h {
-        Height::Altitude(z) => whole(altitude_bits(z)),
+        Height::Altitude(z) => whole(altitude::altitude_bits(z)),
         Height::Carried(n) => whole(n as u32),
         Height::Cd { mode_c: _, run } => cd_last(run.0),
         Height::Mtd { mode_c: _, quality } => mtd_quality_last(quality),

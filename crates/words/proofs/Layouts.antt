@@ -7,7 +7,6 @@ use mathlib.Core.Bool.{Bool, true, false}
 use mathlib.Core.List.{List, [], _∷_}
 use mathlib.Core.Logic.{_↔_}
 use native.Mathlib.Nat.{div-eq-of-lt, le-div-iff-mul-le, mod-lt, mod-eq-of-lt, mod-one, add-assoc, mul-assoc, add-mul, add-comm}
-use native.Mathlib.Numerals.{add-one}
 use native.Mathlib.Omega.{arith}
 use borrow.Author.Tests.{eqb-true, ltb-true, ltb-false, lt-ltb}
 use lib.Arith.{digits-lt}

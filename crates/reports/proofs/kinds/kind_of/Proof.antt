@@ -2,7 +2,6 @@
 use mathlib.Core.Path.{ap, sym, _∙_}
 use Rattle.reports.specs.Kinds.{kindOf}
 use borrow.Author.Needs.{needs}
-use borrow.Author.Tests.{eq-eqb, ne-eqb, lt-ltb, le-ltb}
 use Rattle.reports.proofs.kinds.kind_of.Statement.{statement}
 use Rattle.reports.proofs.kinds.kind_of.Tie as tie
 

@@ -6,7 +6,7 @@ use Rattle.reports.specs.Records.{fourOf, reportOf}
 use Rattle.reports.specs.Conditions.{fourZeros, zeros}
 use Rattle.reports.specs.Found.{four}
 use borrow.Author.Needs.{needs}
-use borrow.Author.Tests.{eq-eqb, ne-eqb, lt-ltb, le-ltb}
+use borrow.Author.Tests.{eq-eqb, ne-eqb}
 use Rattle.reports.proofs.reading.found_of.Statement.{statement}
 use Rattle.reports.proofs.reading.found_of.Tie as tie
 

@@ -2,7 +2,7 @@
 use Rattle.reports.specs.Records.{fourOf}
 use Rattle.reports.specs.Conditions.{fourZeros}
 use borrow.Author.Needs.{needs}
-use borrow.Author.Tests.{eq-eqb, ne-eqb, lt-ltb, le-ltb}
+use borrow.Author.Tests.{eq-eqb, ne-eqb}
 use Rattle.reports.proofs.reading.four_of.Statement.{statement}
 use Rattle.reports.proofs.reading.four_of.Tie as tie
 

@@ -8,7 +8,7 @@ use Rattle.reports.specs.declared.reading.FoundHeight.{FoundHeight}
 use Rattle.reports.specs.Records.{heightOf}
 use Rattle.reports.specs.Conditions.{heightSpares}
 use borrow.Author.Needs.{needs}
-use borrow.Author.Tests.{eq-eqb, ne-eqb, lt-ltb, le-ltb}
+use borrow.Author.Tests.{eq-eqb, ne-eqb}
 use Rattle.reports.proofs.reading.height_of.Statement.{statement}
 use Rattle.reports.proofs.reading.height_of.Tie as tie
 

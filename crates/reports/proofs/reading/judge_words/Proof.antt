@@ -13,7 +13,7 @@ use Rattle.reports.specs.Conditions.{unassigned, zeros, minusZero}
 use Rattle.reports.specs.Runs.{firstHit, lastRows}
 use Rattle.reports.specs.Found.{found}
 use borrow.Author.Needs.{needs}
-use borrow.Author.Tests.{eq-eqb, ne-eqb, lt-ltb, le-ltb}
+use borrow.Author.Tests.{ne-eqb}
 use Rattle.reports.proofs.reading.judge_words.Statement.{statement}
 use Rattle.reports.proofs.reading.judge_words.Tie as tie
 

@@ -18,7 +18,7 @@ use Rattle.reports.specs.Records.{heightOf, dabsOf, atcrbsOf, sevenOf}
 use Rattle.reports.specs.Conditions.{heightSpares, sevenSpares}
 use Rattle.reports.specs.Found.{height}
 use borrow.Author.Needs.{needs}
-use borrow.Author.Tests.{eq-eqb, ne-eqb, lt-ltb, le-ltb}
+use borrow.Author.Tests.{eq-eqb, ne-eqb}
 use Rattle.reports.proofs.reading.seven_of.Statement.{statement}
 use Rattle.reports.proofs.reading.seven_of.Tie as tie
 

@@ -4,7 +4,6 @@ use Rattle.reports.specs.declared.Report.{Report}
 use Rattle.reports.specs.declared.values.Values.{Values}
 use Rattle.reports.specs.Values.{countedOf, Yields}
 use borrow.Author.Needs.{needs}
-use borrow.Author.Tests.{eq-eqb, ne-eqb, lt-ltb, le-ltb}
 use Rattle.reports.proofs.values.values_of.Statement.{statement}
 use Rattle.reports.proofs.values.values_of.Tie as tie
 

@@ -5,7 +5,6 @@ use mathlib.Core.Bool.{Bool}
 use native.Mathlib.Omega.{arith}
 use Rattle.words.specs.Tests.{pick}
 use borrow.Author.Needs.{needs}
-use borrow.Author.Tests.{eq-eqb, ne-eqb, lt-ltb, le-ltb}
 use Rattle.reports.proofs.writing.dabs_first.Statement.{statement}
 use Rattle.reports.proofs.writing.dabs_first.Tie as tie
 

@@ -6,7 +6,6 @@ use Rattle.reports.specs.Altitude.{signMagnitude}
 use Rattle.reports.specs.Layouts.{layoutOf}
 use Rattle.reports.specs.Data.{dataBy}
 use borrow.Author.Needs.{needs}
-use borrow.Author.Tests.{eq-eqb, ne-eqb, lt-ltb, le-ltb}
 use Rattle.reports.proofs.writing.data_of.Statement.{statement}
 use Rattle.reports.proofs.writing.data_of.Tie as tie
 

@@ -1,6 +1,6 @@
 -- `reports::writing::four_words` meets its contract: where nothing is over, each number is its word's data. Assumes nothing.
 use borrow.Author.Needs.{needs}
-use borrow.Author.Tests.{eq-eqb, ne-eqb, lt-ltb, le-ltb}
+use borrow.Author.Tests.{eq-eqb, ne-eqb}
 use Rattle.reports.specs.declared.Written.the-variants.{Four}
 use Rattle.reports.proofs.writing.four_words.Statement.{statement}
 use Rattle.reports.proofs.writing.four_words.Tie as tie

@@ -11,7 +11,6 @@ use Rattle.reports.specs.declared.Height.the-variants.{Altitude}
 use Rattle.reports.specs.Altitude.{signMagnitude}
 use Rattle.reports.specs.Layouts.{lastWord}
 use borrow.Author.Needs.{needs}
-use borrow.Author.Tests.{eq-eqb, ne-eqb, lt-ltb, le-ltb}
 use Rattle.reports.proofs.writing.height_last.Statement.{statement}
 use Rattle.reports.proofs.writing.height_last.Tie as tie
 

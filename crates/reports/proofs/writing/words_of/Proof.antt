@@ -4,7 +4,6 @@ use Rattle.reports.specs.Altitude.{signMagnitude}
 use Rattle.reports.specs.Data.{fromData}
 use Rattle.reports.proofs.Made.{made}
 use borrow.Author.Needs.{needs}
-use borrow.Author.Tests.{eq-eqb, ne-eqb, lt-ltb, le-ltb}
 use Rattle.reports.proofs.writing.words_of.Statement.{statement}
 use Rattle.reports.proofs.writing.words_of.Tie as tie
 

@@ -1,4 +1,4 @@
--- `reports::writing::altitude_bits` meets its contract. Assumes nothing.
+-- `reports::altitude::altitude_bits` meets its contract. Assumes nothing.
 use mir.Facts.{toZ-ofZ}
 use Prim.Native.Nat.{ℕ, _+_, _≤_, _<_}
 use mathlib.Core.Path.{_≡_, ap, sym, _∙_}
@@ -8,9 +8,8 @@ use borrow.Author.Tests.{le-leb, lt-leb}
 use lib.IntN.{ℤ, natAbs}
 use Rattle.reports.specs.Altitude.{signMagnitude, negative}
 use borrow.Author.Needs.{needs}
-use borrow.Author.Tests.{eq-eqb, ne-eqb, lt-ltb, le-ltb}
-use Rattle.reports.proofs.writing.altitude_bits.Statement.{statement}
-use Rattle.reports.proofs.writing.altitude_bits.Tie as tie
+use Rattle.reports.proofs.altitude.altitude_bits.Statement.{statement}
+use Rattle.reports.proofs.altitude.altitude_bits.Tie as tie
 
 below-minus : (z : ℤ) (n : ℕ) → n ≡ natAbs z → n ≤ 2047 → negative z ≡ true → 2048 + n ≡ signMagnitude .bitsOf z
 below-minus z n e h s = simp (sym e, le-leb n 2047 h, s)

@@ -1,4 +1,4 @@
--- `reports::writing::is_negative` meets its contract. Assumes nothing.
+-- `reports::altitude::is_negative` meets its contract. Assumes nothing.
 use mathlib.Core.Path.{_≡_, refl, ap, _∙_}
 use Prim.Native.Nat.{zero-le}
 use lib.IntN.{ℤ, pos, negsuc}
@@ -6,8 +6,8 @@ use lib.Signed.{ltZ}
 use mir.Facts.{toZ-ofZ}
 use borrow.Author.Tests.{le-ltb}
 use Rattle.reports.specs.Altitude.{negative}
-use Rattle.reports.proofs.writing.is_negative.Statement.{statement}
-use Rattle.reports.proofs.writing.is_negative.Tie as tie
+use Rattle.reports.proofs.altitude.is_negative.Statement.{statement}
+use Rattle.reports.proofs.altitude.is_negative.Tie as tie
 
 below : (z : ℤ) → ltZ z (pos 0) ≡ negative z
 below (pos n) = le-ltb n 0 zero-le

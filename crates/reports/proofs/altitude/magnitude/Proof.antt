@@ -1,4 +1,4 @@
--- `reports::writing::magnitude` meets its contract: with 32 bits the negation of an `i16` fits. Assumes nothing.
+-- `reports::altitude::magnitude` meets its contract: with 32 bits the negation of an `i16` fits. Assumes nothing.
 use mathlib.Core.Path.{_≡_, refl, ap, sym, subst, _∙_}
 use Prim.Native.Nat.{ℕ, zero, suc}
 use mathlib.Core.Bool.{true, false}
@@ -11,8 +11,8 @@ use mir.Val.{Fits, SFits, toZ, ofZ}
 use mir.Facts.{toZ-ofZ, sfits-toZ, fits-ofZ}
 use borrow.Author.Tests.{ltb-true}
 use borrow.Author.Needs.{needs}
-use Rattle.reports.proofs.writing.magnitude.Statement.{statement}
-use Rattle.reports.proofs.writing.magnitude.Tie as tie
+use Rattle.reports.proofs.altitude.magnitude.Statement.{statement}
+use Rattle.reports.proofs.altitude.magnitude.Tie as tie
 
 -- an `i16`, as the machine reads it
 wide : (x : ℤ) → SFits w16 x → SFits w32 x

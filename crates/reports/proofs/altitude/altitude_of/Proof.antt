@@ -1,4 +1,4 @@
--- `reports::reading::altitude_of` meets its contract: a magnitude below 2048 fits an `i16` with either sign. Assumes nothing.
+-- `reports::altitude::altitude_of` meets its contract: a magnitude below 2048 fits an `i16` with either sign. Assumes nothing.
 use Prim.Native.Nat.{ℕ, zero, suc, _%_, _<_}
 use mathlib.Core.Path.{_≡_, ap, sym, subst, _∙_}
 use native.Mathlib.Omega.{arith}
@@ -8,9 +8,9 @@ use mir.Syntax.{w16}
 use mir.Val.{SFits, toZ, ofZ}
 use mir.Facts.{toZ-pos, toZ-ofZ}
 use borrow.Author.Needs.{needs}
-use borrow.Author.Tests.{eq-eqb, ne-eqb, lt-ltb, le-ltb}
-use Rattle.reports.proofs.reading.altitude_of.Statement.{statement}
-use Rattle.reports.proofs.reading.altitude_of.Tie as tie
+use borrow.Author.Tests.{eq-eqb, ne-eqb}
+use Rattle.reports.proofs.altitude.altitude_of.Statement.{statement}
+use Rattle.reports.proofs.altitude.altitude_of.Tie as tie
 
 plus : (n : ℕ) → n < 2048 → toZ w16 n ≡ pos n
 plus n h = toZ-pos w16 (omega arith)
