@@ -1,0 +1,4 @@
+pub mod Line
+pub mod Bytes
+pub mod Writing
+pub mod Scan
