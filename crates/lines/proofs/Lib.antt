@@ -5,3 +5,5 @@ pub mod Puts
 pub mod Runs
 pub mod Stretched
 pub mod Outcomes
+pub mod Parts
+pub mod Totals
