@@ -7,3 +7,6 @@ pub mod Stretched
 pub mod Outcomes
 pub mod Parts
 pub mod Totals
+pub mod Refused
+pub mod Back
+pub mod Written

@@ -1,22 +1,25 @@
 -- The writer's leaves, one word after the other, their composition, and what a call answers and leaves. Assumes nothing.
 use Prim.Native.Nat.{ℕ, suc, _+_, _-_, _≤_, _<_}
 use mathlib.Core.Path.{_≡_, refl, ap, sym, _∙_}
+use mathlib.Core.Bool.{not}
 use mathlib.Core.Logic.{_⊎_, inl, inr, ⊎-elim}
 use mathlib.Core.List.{List, [], _∷_, _++_, append-nil, append-assoc}
 use native.Mathlib.Omega.{arith}
 use native.Mathlib.Numerals.{add-one}
+use lib.Dec.{ltb}
 use lib.ListN.{length, getD, take, drop, set, length-append, length-drop, drop-of-length-le}
 use lib.Seq.{take-all, drop-cons, take-suc, set-at, append-snoc, drop-drop, length-take-le, take-at, drop-at}
-use borrow.Author.Tests.{lt-ltb, le-ltb}
+use borrow.Author.Tests.{lt-ltb, le-ltb, ltb-false, eq-eqb, ne-eqb}
 use Rattle.refusals.specs.declared.LineRefusal.{LineRefusal}
-use Rattle.refusals.specs.declared.LineRefusal.the-variants.{NoRoom, ValueTooLarge}
+use Rattle.refusals.specs.declared.LineRefusal.the-variants.{LineTooLong, PlaceBeyondLine, NoRoom, ValueTooLarge}
+use Rattle.words.specs.Tests.{pick}
 use Rattle.words.specs.Word.{idle}
 use Rattle.reports.specs.declared.Report.{Report}
 use Rattle.reports.specs.declared.Report.the-variants as R
 use Rattle.reports.specs.declared.Written.{Written}
 use Rattle.reports.specs.declared.Written.the-variants as M
 use Rattle.reports.specs.Altitude.{AltitudeForm}
-use Rattle.reports.specs.Layouts.{wordsOf, takes, asWritten, written}
+use Rattle.reports.specs.Layouts.{wordsOf, takes, Takes, asWritten, written}
 use Rattle.lines.specs.declared.Wrote.{Wrote}
 use Rattle.lines.specs.declared.Wrote.the-variants as W
 use Rattle.lines.specs.Line.{most}
@@ -165,3 +168,37 @@ words-writes form line place r m w exit k h e f g p =
           ∙ ap (leftBy (room line place (length (handed m))) line place) (sym (handed-words form r m e g))
           ∙ ap (λ (x : Wrote). leftBy x line place (wordsOf form r)) (sym a);
     }
+
+-- the answer within the line: number 11, then number 10
+pub room-for : (form : AltitudeForm) (line : List ℕ) (place : ℕ) (r : Report)
+    → roomFor line place (written form r) ≡ pick (not (takes form r)) (W.Refused ValueTooLarge place) (room line place (length (wordsOf form r)))
+room-for form line place r =
+    byTest (takes form r)
+    (λ t.
+    ap (roomFor line place) (picked (asWritten (wordsOf form r)) (M.Refused ValueTooLarge) t)
+    ∙ ⊎-elim (λ n. ap (roomFor line place) (picked _ _ (eq-eqb (length (wordsOf form r)) 4 n)) ∙ ap (room line place) (sym n))
+    (λ n. ap (roomFor line place) (passed _ _ (ne-eqb (length (wordsOf form r)) 4 (λ z. omega arith))) ∙ ap (room line place) (sym n))
+    (words-length form r)
+    ∙ sym (passed _ _ (ap not t)))
+    (λ t. ap (roomFor line place) (passed (asWritten (wordsOf form r)) (M.Refused ValueTooLarge) t) ∙ sym (picked _ _ (ap not t)))
+
+-- a call is refused, and gives the place back; or the report is taken and has room
+pub write-cases : (form : AltitudeForm) (line : List ℕ) (place : ℕ) (r : Report)
+    → ((q : LineRefusal) × (writeAt form line place r ≡ W.Refused q place))
+    ⊎ (Takes form r
+    × (length (wordsOf form r) < length line - place)
+    × (writeAt form line place r ≡ W.Next (place + length (wordsOf form r) + 1)))
+unfolding writeAt
+write-cases form line place r =
+    let n = length (wordsOf form r) in
+    byTest (ltb most (length line)) (λ a. inl (LineTooLong, picked _ _ a))
+    (λ a. byTest (ltb (length line) place) (λ b. inl (PlaceBeyondLine, passed _ _ a ∙ picked _ _ b))
+    (λ b. byTest (takes form r)
+    (λ c. byTest (ltb (length line - place) (n + 1))
+    (λ d. inl (NoRoom, passed _ _ a ∙ passed _ _ b ∙ room-for form line place r ∙ passed _ _ (ap not c) ∙ picked _ _ d))
+    (λ d. inr (
+      c,
+      let z = ltb-false (length line - place) (n + 1) d in omega arith,
+      passed _ _ a ∙ passed _ _ b ∙ room-for form line place r ∙ passed _ _ (ap not c) ∙ passed _ _ d,
+    )))
+    (λ c. inl (ValueTooLarge, passed _ _ a ∙ passed _ _ b ∙ room-for form line place r ∙ picked _ _ (ap not c)))))
