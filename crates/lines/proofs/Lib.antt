@@ -1,0 +1,12 @@
+pub mod Tests
+pub mod Scans
+pub mod ByteWords
+pub mod Puts
+pub mod Runs
+pub mod Stretched
+pub mod Outcomes
+pub mod Parts
+pub mod Totals
+pub mod Refused
+pub mod Back
+pub mod Written

@@ -1,0 +1,209 @@
+-- What is claimed of lines: demands 1 and 3. Statements only, with what they need to be said; the laws on whole lines hold for any answer
+-- to a run. Proved in proofs/: the file is named at each.
+use Prim.Native.Nat.{ℕ, _+_, _-_, _/_, _≤_, _<_}
+use mathlib.Core.Logic.{_↔_, _⊎_}
+use mathlib.Core.Bool.{Bool, false}
+use mathlib.Core.Path.{_≡_}
+use mathlib.Core.List.{List, [], _∷_, _++_, map}
+use lib.Dec.{ltb}
+use lib.ListN.{length, take, drop, replicate}
+use Rattle.refusals.specs.declared.LineRefusal.{LineRefusal}
+use Rattle.words.specs.Tests.{pick}
+use Rattle.words.specs.Word.{idle}
+use Rattle.reports.specs.declared.Report.{Report}
+use Rattle.reports.specs.declared.RunAnswer.{RunAnswer}
+use Rattle.reports.specs.declared.RunAnswer.the-variants as A
+use Rattle.reports.specs.Altitude.{AltitudeForm}
+use Rattle.reports.specs.Layouts.{wordsOf, Fits}
+use Rattle.lines.specs.declared.What.{What}
+use Rattle.lines.specs.declared.What.the-variants as W
+use Rattle.lines.specs.declared.Outcome.{Outcome}
+use Rattle.lines.specs.declared.Wrote.{Wrote}
+use Rattle.lines.specs.declared.Wrote.the-variants as P
+use Rattle.lines.specs.Line.{most, outcomeOf, endOf, isReport, isRefusal, isEnd, readBy, readAt, calls, outcomes}
+use Rattle.lines.specs.Bytes.{readBytes}
+use Rattle.lines.specs.Stretches.{Run, runs, idleWords, reportedWords, refusedWords}
+use Rattle.lines.specs.Spaced.{Spaced, lineOf, reportsOf, AllFit, Apart, back}
+use Rattle.lines.specs.Rows.{FirstIs, rowsAt, byteRowsAt, writerRowsAt}
+use Rattle.lines.specs.Writing.{writeAt, leftBy, put, puts, taken}
+
+-- what looks at the words of a run
+abbrev pub Answer : Type 0
+Answer = List ℕ → RunAnswer
+
+-- ---- demand 1: each refusal exactly under its condition (proofs/Refused.antt)
+
+-- the reader gives a refusal exactly where it is the first of the table whose condition holds
+abbrev pub ReaderRefuses : Type 0
+ReaderRefuses =
+    (form : AltitudeForm) (line : List ℕ) (place : ℕ) (q : LineRefusal) → (readAt form line place .what ≡ W.Refused q) ↔ FirstIs (rowsAt form line place) q
+
+abbrev pub ByteReaderRefuses : Type 0
+ByteReaderRefuses =
+    (form : AltitudeForm) (bytes : List ℕ) (place : ℕ) (q : LineRefusal) → (readBytes form bytes place .what ≡ W.Refused q) ↔ FirstIs (byteRowsAt form bytes place) q
+
+-- the writer gives the place back with it
+abbrev pub WriterRefuses : Type 0
+WriterRefuses =
+    (form : AltitudeForm) (line : List ℕ) (place : ℕ) (r : Report) (q : LineRefusal)
+    → (writeAt form line place r ≡ P.Refused q place) ↔ FirstIs (writerRowsAt form line place r) q
+
+-- ---- demand 1: the calls come to an end (proofs/Outcomes.antt)
+
+-- every outcome but the end goes on: the place after it lies beyond the caller's and within the line
+abbrev pub Onward : Type 0
+Onward =
+    (answer : Answer) (line : List ℕ) (place : ℕ) → length line ≤ most → place ≤ length line →
+    (readBy answer line place ≡ endOf (length line))
+    ⊎ ((isEnd (readBy answer line place .what) ≡ false) × (place < readBy answer line place .after) × (readBy answer line place .after ≤ length line))
+
+-- continuing from the place given, a line of n words is finished within (n + 1) / 2 rounded down, plus one, calls
+abbrev pub CallsEnough : Type 0
+CallsEnough =
+    (answer : Answer) (line : List ℕ) (k : ℕ) → length line ≤ most → (length line + 1) / 2 + 1 ≤ k → calls answer k line 0 ≡ outcomes answer line
+
+-- ---- demand 3: the unbroken stretches (proofs/Stretched.antt)
+
+-- words none of which is idle
+abbrev pub Solid : List ℕ → Type 0
+Solid [] = Unit {0}
+Solid (w ∷ ws) = (w ≡ idle → ⊥) × Solid ws
+
+-- runs from a place on: each has a word, none is idle, and an idle word parts it from the next
+abbrev pub Stretches : ℕ → List Run → Type 0
+Stretches p [] = Unit {0}
+Stretches p (r ∷ rs) = (p ≤ r .place) × (0 < length (r .words)) × Solid (r .words) × Stretches (r .place + length (r .words) + 1) rs
+
+-- a line of n words, from a place on: these runs, and idle words elsewhere
+unfoldable pub shown : ℕ → List Run → ℕ → List ℕ
+shown p [] n = replicate (n - p) idle
+shown p (r ∷ rs) n = replicate (r .place - p) idle ++ (r .words ++ shown (r .place + length (r .words)) rs n)
+
+-- the runs of a line are its unbroken stretches: such runs they are, and the line is they and idle words
+abbrev pub RunsAre : Type 0
+RunsAre = (line : List ℕ) → Stretches 0 (runs line) × (shown 0 (runs line) (length line) ≡ line)
+
+-- ---- demand 3: one outcome for each stretch (proofs/Outcomes.antt)
+
+-- an outcome with its places moved along
+abbrev pub moved : ℕ → Outcome → Outcome
+moved p o = outcomeOf (o .what) (p + o .first) (p + o .after) (p + o .named)
+
+-- what the words of a run get alone, as a line of their own, places moved along
+abbrev pub alone : Answer → Run → Outcome
+alone answer r = moved (r .place) (readBy answer (r .words) 0)
+
+-- on any line of at most 32,768 words, read from its start, each unbroken stretch of non-idle words gets exactly one outcome, in order:
+-- the one that those words get alone, places moved along; then comes the end
+abbrev pub OneEach : Type 0
+OneEach = (answer : Answer) (line : List ℕ) → length line ≤ most → outcomes answer line ≡ map (alone answer) (runs line) ++ (endOf (length line) ∷ [])
+
+-- from a place the line is read as if it began there, places moved along: from inside a stretch the run begins at the place
+abbrev pub FromThere : Type 0
+FromThere =
+    (answer : Answer) (line : List ℕ) (place : ℕ) → length line ≤ most → place ≤ length line → readBy answer line place ≡ moved place (readBy answer (drop place line) 0)
+
+-- ---- demand 3: a line in parts (proofs/Parts.antt)
+
+-- empty, or ending in idle
+abbrev pub EndsIdle : List ℕ → Type 0
+EndsIdle ws = (ws ≡ []) ⊎ ((front : List ℕ) × (ws ≡ front ++ (idle ∷ [])))
+
+-- empty, or beginning with idle
+abbrev pub BeginsIdle : List ℕ → Type 0
+BeginsIdle ws = (ws ≡ []) ⊎ ((rest : List ℕ) × (ws ≡ idle ∷ rest))
+
+-- the outcomes before the end
+unfoldable pub beforeEnd : List Outcome → List Outcome
+beforeEnd [] = []
+beforeEnd (o ∷ os) = pick (isEnd (o .what)) [] (o ∷ beforeEnd os)
+
+-- a line in three parts that meet at idle words has the outcomes of the parts, moved along
+abbrev pub Splits : Type 0
+Splits =
+    (answer : Answer) (pre mid post : List ℕ) → EndsIdle pre → BeginsIdle post → length (pre ++ (mid ++ post)) ≤ most →
+    outcomes answer (pre ++ (mid ++ post))
+    ≡ beforeEnd (outcomes answer pre)
+    ++ (map (moved (length pre)) (beforeEnd (outcomes answer mid)) ++ map (moved (length pre + length mid)) (outcomes answer post))
+
+-- the outcomes whose first word does not lie from one place up to another
+unfoldable pub outside : ℕ → ℕ → List Outcome → List Outcome
+outside lo hi [] = []
+outside lo hi (o ∷ os) =
+    pick (ltb (o .first) lo) (o ∷ outside lo hi os) (pick (ltb (o .first) hi) (outside lo hi os) (o ∷ outside lo hi os))
+
+-- the words between two idle words that stay are replaced by equally many others: every outcome outside is the same
+abbrev pub Replaced : Type 0
+Replaced =
+    (answer : Answer) (a x y b : List ℕ) → length x ≡ length y → length (a ++ (idle ∷ (x ++ (idle ∷ b)))) ≤ most →
+    outside (length a + 1) (length a + 1 + length x) (outcomes answer (a ++ (idle ∷ (x ++ (idle ∷ b)))))
+    ≡ outside (length a + 1) (length a + 1 + length x) (outcomes answer (a ++ (idle ∷ (y ++ (idle ∷ b)))))
+
+-- ---- totals (proofs/Totals.antt)
+
+-- every word is idle, in a report or in a refused run
+abbrev pub TotalsAdd : Type 0
+TotalsAdd = (answer : Answer) (line : List ℕ) → idleWords line + reportedWords answer line + refusedWords answer line ≡ length line
+
+-- the words of the outcomes of a kind
+unfoldable pub spanned : (What → Bool) → List Outcome → ℕ
+spanned test [] = 0
+spanned test (o ∷ os) = pick (test (o .what)) (o .after - o .first) 0 + spanned test os
+
+-- they can be counted while the line is read
+abbrev pub TotalsCounted : Type 0
+TotalsCounted =
+    (answer : Answer) (line : List ℕ) → length line ≤ most →
+    (spanned isReport (outcomes answer line) ≡ reportedWords answer line) × (spanned isRefusal (outcomes answer line) ≡ refusedWords answer line)
+
+-- ---- demand 3: lists of reports (proofs/Back.antt, proofs/Written.antt)
+
+-- an answer that gives each report that fits for its words
+abbrev pub Returns : Answer → AltitudeForm → Type 0
+Returns answer form = (r : Report) → Fits form r → answer (wordsOf form r) ≡ A.Accepted r
+
+-- a list of reports that fit, written with at least one idle word between neighbours and any number at the ends, reads back with its places
+abbrev pub ReadsBack : Type 0
+ReadsBack =
+    (answer : Answer) (form : AltitudeForm) → Returns answer form → (ss : List Spaced) (tail : ℕ) → AllFit form ss → Apart ss →
+    length (lineOf form ss tail) ≤ most →
+    outcomes answer (lineOf form ss tail) ≡ back form 0 ss ++ (endOf (length (lineOf form ss tail)) ∷ [])
+
+-- two such lists whose lines are equal are equal
+abbrev pub EqualLists : Type 0
+EqualLists =
+    (answer : Answer) (form : AltitudeForm) → Returns answer form → (ss ts : List Spaced) (m n : ℕ) → AllFit form ss → Apart ss → AllFit form ts → Apart ts →
+    length (lineOf form ss m) ≤ most → lineOf form ss m ≡ lineOf form ts n → reportsOf ss ≡ reportsOf ts
+
+-- calls of the writer one after the other on a line of idle words leave such a list: the reports that were not refused
+abbrev pub WrittenSo : Type 0
+WrittenSo =
+    (form : AltitudeForm) (n place : ℕ) (rs : List Report) → place ≤ n →
+    (ss : List Spaced)
+    × (tail : ℕ)
+    × AllFit form ss
+    × Apart ss
+    × (reportsOf ss ≡ taken form (replicate n idle) place rs)
+    × (puts form (replicate n idle) place rs ≡ lineOf form ss tail)
+
+-- ---- the writer (proofs/Written.antt)
+
+-- an accepted call is its two leaves: the words, and then one idle word right behind them
+abbrev pub Composed : Type 0
+Composed =
+    (form : AltitudeForm) (line : List ℕ) (place next : ℕ) (r : Report) → writeAt form line place r ≡ P.Next next →
+    leftBy (P.Next next) line place (wordsOf form r)
+    ≡ put (put line place (wordsOf form r)) (place + length (wordsOf form r)) (replicate 1 idle)
+
+-- an accepted call changes nothing outside its words, from the place up to the one that it gives; a refused one changes nothing
+abbrev pub OnlyItsWords : Type 0
+OnlyItsWords =
+    (form : AltitudeForm) (line : List ℕ) (place next : ℕ) (r : Report) → writeAt form line place r ≡ P.Next next →
+    (length (leftBy (P.Next next) line place (wordsOf form r)) ≡ length line)
+    × (take place (leftBy (P.Next next) line place (wordsOf form r)) ≡ take place line)
+    × (drop next (leftBy (P.Next next) line place (wordsOf form r)) ≡ drop next line)
+
+abbrev pub RefusedLeaves : Type 0
+RefusedLeaves =
+    (form : AltitudeForm) (line : List ℕ) (place p : ℕ) (r : Report) (q : LineRefusal) → writeAt form line place r ≡ P.Refused q p →
+    (p ≡ place) × (leftBy (writeAt form line place r) line place (wordsOf form r) ≡ line)

@@ -1,0 +1,8 @@
+pub mod Line
+pub mod Bytes
+pub mod Writing
+pub mod Scan
+pub mod Stretches
+pub mod Spaced
+pub mod Rows
+pub mod Claims
