@@ -1,0 +1,2 @@
+// The calls of a C program.
+pub mod items;
