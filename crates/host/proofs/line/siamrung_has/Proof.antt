@@ -1,0 +1,30 @@
+-- `host::line::siamrung_has` meets its contract, by the reader's. Assumes nothing.
+use mathlib.Core.Path.{ap, sym, _∙_}
+use Rattle.lines.specs.declared.Outcome.{Outcome}
+use Rattle.host.specs.Line.{itemAt, isOf}
+use borrow.Author.Needs.{needs}
+use borrow.Author.Tests.{eq-eqb, ne-eqb, lt-ltb, le-ltb}
+use Rattle.host.proofs.line.siamrung_has.Statement.{statement}
+use Rattle.host.proofs.line.siamrung_has.Tie as tie
+
+read-requires : tie.Need-read-requires
+read-requires c κs = search needs
+
+item-in-requires : tie.Need-item-in-requires
+item-in-requires c κs = search needs
+
+enum-told : tie.Need-enum-told
+enum-told c = search needs
+
+enum-told-2 : tie.Need-enum-told-2
+enum-told-2 c = search needs
+
+returns : tie.Need-returns
+returns c = sym (ap isOf (c .enum-told .given .1)) ∙ ap isOf (c .before .before .item-in .ensures) ∙ ap (λ (o : Outcome). isOf (itemAt (o .what) (c .before .before .before .before .before .args .item))) (c .before .before .before .read .ensures)
+
+returns-2 : tie.Need-returns-2
+returns-2 c = sym (ap isOf (c .enum-told2 .given .1)) ∙ ap isOf (c .before .before .item-in .ensures) ∙ ap (λ (o : Outcome). isOf (itemAt (o .what) (c .before .before .before .before .before .args .item))) (c .before .before .before .read .ensures)
+
+pub siamrung-has-spec : {M : Type 1} → statement M
+siamrung-has-spec =
+    tie.close (tie.spec read-requires item-in-requires enum-told enum-told-2 returns returns-2)

@@ -1,0 +1,33 @@
+-- `host::line::siamrung_item` meets its contract, by the reader's. Assumes nothing.
+use mir.Facts.{toZ-ofZ}
+use mir.Syntax.{w64}
+use mathlib.Core.Path.{ap, sym, _∙_}
+use Rattle.lines.specs.declared.Outcome.{Outcome}
+use Rattle.host.specs.Line.{itemAt, valueOf}
+use borrow.Author.Needs.{needs}
+use borrow.Author.Tests.{eq-eqb, ne-eqb, lt-ltb, le-ltb}
+use Rattle.host.proofs.line.siamrung_item.Statement.{statement}
+use Rattle.host.proofs.line.siamrung_item.Tie as tie
+
+read-requires : tie.Need-read-requires
+read-requires c κs = search needs
+
+item-in-requires : tie.Need-item-in-requires
+item-in-requires c κs = search needs
+
+enum-known-found : tie.Need-enum-known-found
+enum-known-found c = search needs
+
+enum-told : tie.Need-enum-told
+enum-told c = search needs
+
+returns : tie.Need-returns
+returns c = toZ-ofZ {w = w64} {z = c .before .found .given .0 .0} (search needs) ∙ sym (ap valueOf (c .before .found .given .1)) ∙ ap valueOf (c .before .before .before .item-in .ensures) ∙ ap (λ (o : Outcome). valueOf (itemAt (o .what) (c .before .before .before .before .before .before .args .item))) (c .before .before .before .before .read .ensures)
+
+returns-2 : tie.Need-returns-2
+returns-2 c = sym (ap valueOf (c .enum-told .given .1)) ∙ ap valueOf (c .before .before .item-in .ensures) ∙ ap (λ (o : Outcome). valueOf (itemAt (o .what) (c .before .before .before .before .before .args .item))) (c .before .before .before .read .ensures)
+
+pub siamrung-item-spec : {M : Type 1} → statement M
+siamrung-item-spec =
+    tie.close
+    (tie.spec read-requires item-in-requires enum-known-found enum-told returns returns-2)

@@ -1,0 +1,33 @@
+-- `host::line::values_in` meets its contract, arm by arm. Assumes nothing.
+use mathlib.Core.Path.{_≡_}
+use Rattle.host.proofs.Values.{yields-of}
+use borrow.Author.Needs.{needs}
+use borrow.Author.Tests.{eq-eqb, ne-eqb, lt-ltb, le-ltb}
+use Rattle.host.proofs.line.values_in.Statement.{statement}
+use Rattle.host.proofs.line.values_in.Tie as tie
+
+enum-known-what : tie.Need-enum-known-what
+enum-known-what c = search needs
+
+values-of-requires : tie.Need-values-of-requires
+values-of-requires c κs = search needs
+
+enum-told : tie.Need-enum-told
+enum-told c = search needs
+
+enum-told-2 : tie.Need-enum-told-2
+enum-told-2 c = search needs
+
+returns : tie.Need-returns
+returns c = yields-of _ _ _ (c .before .before .what .given .1) (c .values-of .ensures)
+
+returns-2 : tie.Need-returns-2
+returns-2 c = yields-of _ _ _ (c .enum-told .given .1) tt
+
+returns-3 : tie.Need-returns-3
+returns-3 c = yields-of _ _ _ (c .enum-told2 .given .1) tt
+
+pub values-in-spec : {M : Type 1} → statement M
+values-in-spec =
+    tie.close
+    (tie.spec enum-known-what values-of-requires enum-told enum-told-2 returns returns-2 returns-3)

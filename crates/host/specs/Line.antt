@@ -1,0 +1,71 @@
+-- What each call that reads a line answers, from the outcome at the place. The numbers of kinds are those of reports; these of what is no
+-- report are ours. Definitions only.
+use Prim.Native.Nat.{ℕ}
+use lib.IntN.{ℤ, pos}
+use Rattle.refusals.specs.Numbers.{lineNumber}
+use Rattle.reports.specs.Kinds.{kindOf, kindNumber}
+use Rattle.reports.specs.Values.{Counted, counts, none, countedOf}
+use Rattle.lines.specs.declared.What.{What}
+use Rattle.lines.specs.declared.What.the-variants as W
+use Rattle.host.specs.declared.items.Item.{Item}
+use Rattle.host.specs.declared.items.Item.the-variants as I
+use Rattle.host.specs.Items.{itemOf}
+
+abbrev pub version : ℕ
+version = 1
+
+-- what a place has that is no report
+abbrev pub refusedKind : ℕ
+refusedKind = 120
+
+abbrev pub endKind : ℕ
+endKind = 121
+
+abbrev pub kindNumberOf : What → ℕ
+kindNumberOf (W.Accepted r) = kindNumber (kindOf r)
+kindNumberOf (W.Refused q) = refusedKind
+kindNumberOf W.End = endKind
+
+-- the paper's number, 0 where nothing is refused
+abbrev pub refusalOf : What → ℕ
+refusalOf (W.Accepted r) = 0
+refusalOf (W.Refused q) = lineNumber q
+refusalOf W.End = 0
+
+-- ---- the fields
+
+abbrev pub itemAt : What → ℕ → Item
+itemAt (W.Accepted r) n = itemOf r n
+itemAt (W.Refused q) n = I.Missing
+itemAt W.End n = I.Missing
+
+abbrev pub isOf : Item → ℕ
+isOf (I.Of z) = 1
+isOf I.Missing = 0
+
+abbrev pub valueOf : Item → ℤ
+valueOf (I.Of z) = z
+valueOf I.Missing = pos 0
+
+-- ---- the values, in 1024ths of a nmi, of a degree and of a second; 0 where there are none
+
+abbrev pub countedAt : What → Counted
+countedAt (W.Accepted r) = countedOf r
+countedAt (W.Refused q) = none
+countedAt W.End = none
+
+abbrev pub has : Counted → ℕ
+has (counts r a t) = 1
+has none = 0
+
+abbrev pub rangeOf : Counted → ℕ
+rangeOf (counts r a t) = r
+rangeOf none = 0
+
+abbrev pub azimuthOf : Counted → ℕ
+azimuthOf (counts r a t) = a
+azimuthOf none = 0
+
+abbrev pub timeOf : Counted → ℕ
+timeOf (counts r a t) = t
+timeOf none = 0

@@ -1,0 +1,199 @@
+// The calls that read a line lent as bytes, two a word, high byte first, at a place counted in words. Each answers one thing about the run
+// at or behind the place, and reads that run and no more. Any bytes and any place are taken.
+// Relies on lines for the outcome, items for the fields, reports for kinds and values.
+ghost use mathlib.Core.Path.{_≡_};
+ghost use Rattle.measures.specs.Exact.{Exact};
+ghost use Rattle.lines.specs.Bytes.{readBytes};
+ghost use Rattle.reports.specs.Altitude.{signMagnitude};
+ghost use Rattle.reports.specs.Values.{Yields};
+ghost use Rattle.host.specs.Line.{version, kindNumberOf, refusalOf, itemAt, isOf, valueOf, countedAt, has, rangeOf, azimuthOf, timeOf};
+use crate::items;
+use crate::items::Item;
+use lines::What;
+use measures::Time;
+use reports::kinds;
+use reports::values;
+use reports::values::Values;
+
+// The version of these calls. It changes when a call is added; none is ever changed or taken away.
+#[no_mangle]
+pub extern "C" fn siamrung_version() -> u32
+    ensures { λ r. ⌜ r ≡ version ⌝ }
+{
+    1
+}
+
+// ---- what stands at a place
+
+fn kind_number(what: What) -> u32
+    ensures { λ r. ⌜ r ≡ kindNumberOf what ⌝ }
+{
+    match what {
+        What::Accepted(report) => kinds::kind_of(report).number() as u32,
+        What::Refused(_) => 120,
+        What::End => 121,
+    }
+}
+
+fn refusal_number(what: What) -> u32
+    ensures { λ r. ⌜ r ≡ refusalOf what ⌝ }
+{
+    match what {
+        What::Accepted(_) => 0,
+        What::Refused(why) => why.number() as u32,
+        What::End => 0,
+    }
+}
+
+#[no_mangle]
+pub extern "C" fn siamrung_kind(bytes: &[u8], place: usize) -> u32
+    ensures { λ r. ⌜ r ≡ kindNumberOf (readBytes signMagnitude (now (bytes .entry)) place .what) ⌝ }
+{
+    let o = lines::bytes::read(bytes, place);
+    let what = o.what;
+    kind_number(what)
+}
+
+#[no_mangle]
+pub extern "C" fn siamrung_refusal(bytes: &[u8], place: usize) -> u32
+    ensures { λ r. ⌜ r ≡ refusalOf (readBytes signMagnitude (now (bytes .entry)) place .what) ⌝ }
+{
+    let o = lines::bytes::read(bytes, place);
+    let what = o.what;
+    refusal_number(what)
+}
+
+#[no_mangle]
+pub extern "C" fn siamrung_first(bytes: &[u8], place: usize) -> usize
+    ensures { λ r. ⌜ r ≡ readBytes signMagnitude (now (bytes .entry)) place .first ⌝ }
+{
+    let o = lines::bytes::read(bytes, place);
+    o.first
+}
+
+#[no_mangle]
+pub extern "C" fn siamrung_after(bytes: &[u8], place: usize) -> usize
+    ensures { λ r. ⌜ r ≡ readBytes signMagnitude (now (bytes .entry)) place .after ⌝ }
+{
+    let o = lines::bytes::read(bytes, place);
+    o.after
+}
+
+#[no_mangle]
+pub extern "C" fn siamrung_named(bytes: &[u8], place: usize) -> usize
+    ensures { λ r. ⌜ r ≡ readBytes signMagnitude (now (bytes .entry)) place .named ⌝ }
+{
+    let o = lines::bytes::read(bytes, place);
+    o.named
+}
+
+// ---- the fields of a report
+
+fn item_in(what: What, item: u32) -> Item
+    ensures { λ r. ⌜ r ≡ itemAt what item ⌝ }
+{
+    match what {
+        What::Accepted(report) => items::item_of(report, item),
+        What::Refused(_) => Item::Missing,
+        What::End => Item::Missing,
+    }
+}
+
+#[no_mangle]
+pub extern "C" fn siamrung_has(bytes: &[u8], place: usize, item: u32) -> u32
+    ensures { λ r. ⌜ r ≡ isOf (itemAt (readBytes signMagnitude (now (bytes .entry)) place .what) item) ⌝ }
+{
+    let o = lines::bytes::read(bytes, place);
+    let what = o.what;
+    let found = item_in(what, item);
+    match found {
+        Item::Of(_) => 1,
+        Item::Missing => 0,
+    }
+}
+
+// 0 where the report has no such item, which siamrung_has tells.
+#[no_mangle]
+pub extern "C" fn siamrung_item(bytes: &[u8], place: usize, item: u32) -> i64
+    ensures { λ r. ⌜ r ≡ valueOf (itemAt (readBytes signMagnitude (now (bytes .entry)) place .what) item) ⌝ }
+{
+    let o = lines::bytes::read(bytes, place);
+    let what = o.what;
+    let found = item_in(what, item);
+    match found {
+        Item::Of(z) => z,
+        Item::Missing => 0,
+    }
+}
+
+// ---- range, azimuth and time as floats
+
+fn values_in(what: What) -> Values
+    ensures { λ r. ⌜ Yields (countedAt what) r ⌝ }
+{
+    match what {
+        What::Accepted(report) => values::values_of(report),
+        What::Refused(_) => Values::Nothing,
+        What::End => Values::Nothing,
+    }
+}
+
+// Plus zero.
+fn nothing() -> f64
+    ensures { λ r. ⌜ Exact 0 r ⌝ }
+{
+    Time(0).seconds()
+}
+
+#[no_mangle]
+pub extern "C" fn siamrung_has_values(bytes: &[u8], place: usize) -> u32
+    ensures { λ r. ⌜ r ≡ has (countedAt (readBytes signMagnitude (now (bytes .entry)) place .what)) ⌝ }
+{
+    let o = lines::bytes::read(bytes, place);
+    let what = o.what;
+    let found = values_in(what);
+    match found {
+        Values::Measured(_) => 1,
+        Values::Nothing => 0,
+    }
+}
+
+// Plus zero where there is no range, which siamrung_has_values tells; so for the next two.
+#[no_mangle]
+pub extern "C" fn siamrung_nmi(bytes: &[u8], place: usize) -> f64
+    ensures { λ r. ⌜ Exact (rangeOf (countedAt (readBytes signMagnitude (now (bytes .entry)) place .what))) r ⌝ }
+{
+    let o = lines::bytes::read(bytes, place);
+    let what = o.what;
+    let found = values_in(what);
+    match found {
+        Values::Measured(m) => m.range,
+        Values::Nothing => nothing(),
+    }
+}
+
+#[no_mangle]
+pub extern "C" fn siamrung_degrees(bytes: &[u8], place: usize) -> f64
+    ensures { λ r. ⌜ Exact (azimuthOf (countedAt (readBytes signMagnitude (now (bytes .entry)) place .what))) r ⌝ }
+{
+    let o = lines::bytes::read(bytes, place);
+    let what = o.what;
+    let found = values_in(what);
+    match found {
+        Values::Measured(m) => m.azimuth,
+        Values::Nothing => nothing(),
+    }
+}
+
+#[no_mangle]
+pub extern "C" fn siamrung_seconds(bytes: &[u8], place: usize) -> f64
+    ensures { λ r. ⌜ Exact (timeOf (countedAt (readBytes signMagnitude (now (bytes .entry)) place .what))) r ⌝ }
+{
+    let o = lines::bytes::read(bytes, place);
+    let what = o.what;
+    let found = values_in(what);
+    match found {
+        Values::Measured(m) => m.time,
+        Values::Nothing => nothing(),
+    }
+}
