@@ -1,0 +1,166 @@
+// Reads lines of its standard input with both readers, call by call to the end, and writes reports into lines.
+// A case is 68 numbers of two bytes: what to do, how many words the line has, how many words are repeated along it, the place, and 64 words
+// of which so many are repeated. tests/lines.rs works out the cases and what must be printed.
+ghost use Prim.Native.Nat.{_<_};
+use libc::STDIN_FILENO;
+use lines::What;
+use measures::CoarseAzimuth;
+use measures::CoarseRange;
+use measures::RunLength;
+use measures::Time;
+use reports::Report;
+use reports::Search;
+
+mod lent; // lent.rt: the line and its bytes, filled
+mod print; // print.rt: outcomes, answers and words
+mod walk; // walk.rt: call by call to the end
+
+// One word more than a line may have.
+const ROOM: usize = 32769;
+
+// A number of two bytes that stands for the largest place.
+const FAR: u16 = 65535;
+
+fn widened(byte: u8) -> u16
+    ensures { λ r. ⌜ r < 256 ⌝ }
+{
+    byte as u16
+}
+
+// The two bytes at a place of a case, as a number.
+fn number(case: [u8; 136], at: usize) -> u16
+    requires { ⌜ at < 68 ⌝ }
+{
+    widened(case[at * 2]) * 256 + widened(case[at * 2 + 1])
+}
+
+fn place_of(n: u16) -> usize {
+    if n == FAR {
+        return 18446744073709551615;
+    }
+    n as usize
+}
+
+// The words that are repeated, behind the first four numbers.
+fn repeated(case: [u8; 136]) -> [u16; 64] {
+    let mut words = [0u16; 64];
+    let mut i: usize = 0;
+    while i < 64 {
+        words[i] = number(case, i + 4);
+        i += 1;
+    }
+    words
+}
+
+// A line read from a place to its end, each outcome printed where the line is short.
+fn read_line(line: &mut [u16], bytes: &mut [u8], n: usize, k: usize, place: usize, words: [u16; 64])
+    requires { ⌜ n < 65536 ⌝ }
+{
+    if line.len() < n {
+        return;
+    }
+    if bytes.len() < n * 2 {
+        return;
+    }
+    lent::fill(&mut line[0..n], words, k);
+    lent::spell(bytes, &line[0..n]);
+    walk::to_the_end(&line[0..n], &bytes[0..n * 2], place, n <= 64);
+}
+
+// One byte fewer than the words have.
+fn read_odd(bytes: &[u8], n: usize, place: usize)
+    requires { ⌜ n < 65536 ⌝ }
+{
+    if n == 0 {
+        return;
+    }
+    let odd = n * 2 - 1;
+    if bytes.len() < odd {
+        return;
+    }
+    print::outcome(lines::bytes::read(&bytes[0..odd], place));
+}
+
+// A report written into a line whose words are numbered.
+fn write_report(line: &mut [u16], n: usize, place: usize, report: Report) {
+    if line.len() < n {
+        return;
+    }
+    lent::numbered(&mut line[0..n]);
+    print::answer(lines::writer::write(&mut line[0..n], place, report));
+    print::changed(&line[0..n]);
+}
+
+// What the first k words are.
+fn what_of(words: &[u16], k: usize) -> What {
+    if words.len() < k {
+        return What::End;
+    }
+    let found = lines::wide::read(&words[0..k], 0);
+    found.what
+}
+
+// The report that the words are, written.
+fn write_read(line: &mut [u16], n: usize, k: usize, place: usize, words: [u16; 64]) {
+    let what = what_of(&words, k);
+    match what {
+        What::Accepted(report) => write_report(line, n, place, report),
+        What::Refused(_) => print::line(b"NO REPORT"),
+        What::End => print::line(b"NO REPORT"),
+    }
+}
+
+// A time in storage that six bits do not hold.
+fn too_large() -> Report {
+    Report::Search(Search {
+        test: false,
+        faa: true,
+        af: false,
+        range: CoarseRange(320),
+        azimuth: CoarseAzimuth(1024),
+        aims: false,
+        code: 0,
+        run: RunLength(5),
+        time: Time(64),
+    })
+}
+
+fn one_case(case: [u8; 136]) {
+    let what = number(case, 0);
+    let n = number(case, 1) as usize;
+    let k = number(case, 2) as usize;
+    let place = place_of(number(case, 3));
+    let words = repeated(case);
+    let mut line = [0u16; ROOM];
+    let mut bytes = [0u8; ROOM * 2];
+    if what == 0 {
+        read_line(&mut line, &mut bytes, n, k, place, words);
+        return;
+    }
+    if what == 1 {
+        read_odd(&bytes, n, place);
+        return;
+    }
+    if what == 2 {
+        write_read(&mut line, n, k, place, words);
+        return;
+    }
+    write_report(&mut line, n, place, too_large());
+}
+
+// The cases of standard input, of which there are fewer than a thousand.
+fn cases() {
+    let mut left: usize = 1000;
+    while 0 < left {
+        let mut case = [0u8; 136];
+        if io::read_full(STDIN_FILENO, &mut case) < 136 {
+            return;
+        }
+        one_case(case);
+        left -= 1;
+    }
+}
+
+fn main() {
+    cases();
+}

@@ -1,0 +1,292 @@
+// Works out what crates/lines_test reads and must print, from document 01 alone: "The line" and "Line refusal numbers", a run's words taken
+// as a string of ones and zeros. Nothing of the proved library is used. `lines stdin` writes the cases, `lines stdout` what must be printed
+// of them. Besides chosen cases there are random ones, from a fixed seed.
+use std::io::Write;
+
+const IDLE: u16 = 1023;
+const MOST: usize = 32768;
+const FAR: u16 = 65535; // stands for the largest place
+
+const C1: [u16; 4] = [868, 1281, 2048, 647];
+const C2: [u16; 7] = [3973, 1281, 256, 7, 5175, 1414, 4102];
+const ATCRBS: [u16; 7] = [3333, 1281, 1022, 868, 1281, 2048, 647];
+
+// ---- a run: the number of its refusal and the offset of the word that it names, or nothing
+
+fn refusal(run: &[u16]) -> Option<(u8, usize)> {
+    if let Some(i) = run.iter().position(|w| *w > 8191) {
+        return Some((3, i));
+    }
+    if let Some(i) = run.iter().position(|w| format!("{:b}", w).matches('1').count() % 2 == 0) {
+        return Some((4, i));
+    }
+    let all: String = run.iter().map(|w| format!("{:013b}", w)).collect();
+    let bits = |a: usize, b: usize| &all[a - 1..b];
+    let ones = |spans: &[(usize, usize)]| spans.iter().any(|(a, b)| bits(*a, *b).contains('1'));
+    let form = bits(4, 10).to_string();
+    let words = match bits(2, 3) {
+        "11" => 7,
+        "00" if form == "1001000" && bits(1, 1) == "1" => 4,
+        "00" if ["1101100", "1100000", "0110000"].contains(&&form[..]) || form.starts_with("00000") => 4,
+        _ => return Some((5, 0)),
+    };
+    if run.len() != words {
+        return Some((6, 0));
+    }
+    if words == 4 {
+        let spare = (form != "0110000" && ones(&[(25, 25)])) || (form.starts_with("00000") && ones(&[(51, 51)]));
+        return if spare { Some((8, 0)) } else { None };
+    }
+    let (dabs, radar) = (bits(4, 4) == "1", bits(12, 12) == "1");
+    let mut spares: Vec<(usize, usize)> = if dabs { vec![(45, 46)] } else { vec![] };
+    if radar {
+        match bits(88, 90) {
+            "100" => spares.push((82, 87)),
+            "110" => spares.push((81, 87)),
+            "101" => spares.push((83, 87)),
+            "010" if !dabs => spares.extend([(5, 10), (45, 45), (87, 87)]),
+            "001" if !dabs => spares.extend([(5, 10), (45, 45), (53, 64), (83, 84), (86, 87)]),
+            _ => return Some((7, 0)),
+        }
+    }
+    if ones(&spares) {
+        return Some((8, 0));
+    }
+    let minus_zero = !radar && bits(6, 6) == "1" && bits(79, 90) == "100000000000";
+    if minus_zero { Some((9, 0)) } else { None }
+}
+
+// ---- a case
+
+struct Case {
+    what: u16, // 0 read, 1 read one byte fewer, 2 write the report of the words, 3 write a report with a value too large
+    n: usize,
+    place: u16,
+    words: Vec<u16>, // repeated along the line
+}
+
+fn place_of(place: u16) -> u64 {
+    if place == FAR { u64::MAX } else { place as u64 }
+}
+
+fn read(line: &[u16], place: u16, out: &mut String) {
+    let shown = line.len() <= 64;
+    let say = |text: String, out: &mut String| {
+        if shown {
+            out.push_str(&text)
+        }
+    };
+    let from = place_of(place);
+    let (mut calls, mut reports, mut reported, mut refusals, mut refused) = (1, 0, 0, 0, 0);
+    let untaken = if line.len() > MOST {
+        2
+    } else if from > line.len() as u64 {
+        1
+    } else {
+        0
+    };
+    if untaken != 0 {
+        say(format!("REFUSED {} {} {} {}\n", untaken, from, from, from), out);
+        refusals = 1;
+    } else {
+        let mut at = from as usize;
+        for run in line[at..].split(|w| *w == IDLE) {
+            if !run.is_empty() {
+                let after = at + run.len();
+                calls += 1;
+                match refusal(run) {
+                    None => {
+                        reports += 1;
+                        reported += run.len();
+                        say(format!("REPORT {} {} {}\n", at, after, at), out);
+                    }
+                    Some((number, offset)) => {
+                        refusals += 1;
+                        refused += run.len();
+                        say(format!("REFUSED {} {} {} {}\n", number, at, after, at + offset), out);
+                    }
+                }
+            }
+            at += run.len() + 1;
+        }
+        say(format!("END {} {} {}\n", line.len(), line.len(), line.len()), out);
+    }
+    out.push_str(&format!("CALLS {} REPORTS {} {} REFUSED {} {} DIFFER 0\n", calls, reports, reported, refusals, refused));
+}
+
+fn write(n: usize, place: u16, words: Option<&[u16]>, out: &mut String) {
+    let at = place_of(place);
+    let number = if n > MOST {
+        2
+    } else if at > n as u64 {
+        1
+    } else {
+        match words {
+            None => 11,
+            Some(ws) if n - at as usize <= ws.len() => 10,
+            _ => 0,
+        }
+    };
+    if number != 0 {
+        out.push_str(&format!("REFUSED {} {}\nCHANGED\n", number, at));
+        return;
+    }
+    let mut written = words.unwrap().to_vec();
+    written.push(IDLE);
+    out.push_str(&format!("NEXT {}\nCHANGED", at as usize + written.len()));
+    for (k, w) in written.iter().enumerate() {
+        let i = at as usize + k;
+        if i % 1000 != *w as usize {
+            out.push_str(&format!(" {} {}", i, w));
+        }
+    }
+    out.push('\n');
+}
+
+fn answer(case: &Case, out: &mut String) {
+    let words = &case.words;
+    match case.what {
+        0 => {
+            let line: Vec<u16> = (0..case.n).map(|i| words[i % words.len()]).collect();
+            read(&line, case.place, out);
+        }
+        1 => {
+            let number = if 2 * case.n - 1 > 2 * MOST { 2 } else { 14 };
+            let at = place_of(case.place);
+            out.push_str(&format!("REFUSED {} {} {} {}\n", number, at, at, at));
+        }
+        2 => write(case.n, case.place, Some(words), out),
+        _ => write(case.n, case.place, None, out),
+    }
+}
+
+// ---- the cases
+
+fn whole(words: &[u16]) -> Case {
+    Case { what: 0, n: words.len(), place: 0, words: words.to_vec() }
+}
+
+// Runs of each outcome.
+fn runs() -> Vec<Vec<u16>> {
+    vec![
+        C1.to_vec(),
+        C2.to_vec(),
+        ATCRBS.to_vec(),
+        vec![1, 1, 1, 1],
+        vec![3974, 1281, 256, 7, 5175, 1414, 8],
+        vec![8192],
+        vec![868, 1281, 2048, 647 + 8192],
+        vec![IDLE + 8192],
+        vec![0, 8192],
+        vec![0],
+        vec![868, 1281, 2048, 646],
+        vec![1024],
+        vec![577],
+        [C1, C1].concat(),
+        vec![868, 1281, 2048],
+        vec![3973, 1281, 256, 7],
+        vec![3974, 1281, 256, 7, 5175, 1414, 4],
+        vec![868, 1282, 2048, 647],
+        vec![3973, 1281, 256, 7, 5175, 1414, 4096],
+    ]
+}
+
+fn random(seed: &mut u64) -> usize {
+    *seed = seed.wrapping_mul(6364136223846793005).wrapping_add(1442695040888963407);
+    (*seed >> 33) as usize
+}
+
+// Runs and idle words one after the other, some words changed in one bit.
+fn random_line(seed: &mut u64) -> Vec<u16> {
+    let runs = runs();
+    let mut line = vec![];
+    while line.len() < 30 {
+        match random(seed) % 3 {
+            0 => line.extend(&runs[random(seed) % runs.len()]),
+            _ => line.extend(vec![IDLE; random(seed) % 3]),
+        }
+    }
+    for _ in 0..random(seed) % 3 {
+        let i = random(seed) % line.len();
+        line[i] ^= 1 << (random(seed) % 16);
+    }
+    line
+}
+
+fn cases() -> Vec<Case> {
+    let mut all = vec![];
+    for run in runs() {
+        all.push(whole(&run));
+        all.push(whole(&[&run[..], &[IDLE], &C1].concat()));
+        all.push(whole(&[&C2[..], &[IDLE], &run, &[IDLE, IDLE], &C1].concat()));
+        all.push(whole(&[&C1[..], &[IDLE], &run].concat()));
+        all.push(whole(&[&[IDLE, IDLE], &run[..], &[IDLE]].concat()));
+    }
+    let sample = [IDLE, 868, 1281, 2048, 647, IDLE, IDLE, 3973, 1281, 256, 7, 5175, 1414, 4096];
+    for place in [0, 1, 2, 5, 6, 9, 13, 14, 15, FAR] {
+        all.push(Case { place, ..whole(&sample) });
+    }
+    let mut flipped = ATCRBS;
+    flipped[2] = IDLE;
+    all.push(whole(&flipped));
+    for (n, place) in [(0, 0), (0, 1), (0, FAR), (5, 0), (5, 3), (5, 5), (5, 6)] {
+        all.push(Case { what: 0, n, place, words: vec![IDLE] });
+    }
+    let spaced = [&C1[..], &[IDLE]].concat();
+    let seven = [&C2[..], &[IDLE]].concat();
+    for (n, words) in [
+        (MOST, vec![0]),
+        (MOST, vec![868]),
+        (MOST, vec![8192]),
+        (MOST, vec![0, IDLE]),
+        (MOST - 1, vec![0, IDLE]),
+        (MOST, spaced.clone()),
+        (MOST, seven),
+        (MOST, vec![IDLE]),
+        (MOST + 1, spaced),
+        (MOST + 1, vec![IDLE]),
+    ] {
+        for place in [0, 3, 32767, 32768, 32769, FAR] {
+            all.push(Case { what: 0, n, place, words: words.clone() });
+        }
+    }
+    for (n, place) in [(1, 0), (5, 2), (5, FAR), (MOST, 0), (MOST + 1, 0), (MOST + 1, FAR)] {
+        all.push(Case { what: 1, n, place, words: vec![] });
+    }
+    for words in [C1.to_vec(), C2.to_vec(), ATCRBS.to_vec()] {
+        let k = words.len();
+        for n in [k - 1, k, k + 1, k + 2, 30, MOST, MOST + 1] {
+            for place in [0, 1, n.saturating_sub(k + 1), n.saturating_sub(k), n, n + 1] {
+                all.push(Case { what: 2, n, place: place as u16, words: words.clone() });
+            }
+            all.push(Case { what: 2, n, place: FAR, words: words.clone() });
+        }
+    }
+    for (n, place) in [(10, 0), (3, 0), (3, 3), (3, 4), (MOST, 0), (MOST + 1, 0), (MOST + 1, FAR)] {
+        all.push(Case { what: 3, n, place, words: vec![] });
+    }
+    let mut seed = 19801980;
+    for _ in 0..100 {
+        all.push(whole(&random_line(&mut seed)));
+    }
+    all
+}
+
+fn main() {
+    let told = std::env::args().nth(1).unwrap_or_default();
+    let mut out: Vec<u8> = vec![];
+    for case in cases() {
+        assert!(case.words.len() <= 64 && case.n <= MOST + 1, "a case does not fit");
+        if told == "stdin" {
+            let mut numbers = vec![case.what, case.n as u16, case.words.len() as u16, case.place];
+            numbers.extend(&case.words);
+            numbers.resize(68, 0);
+            out.extend(numbers.iter().flat_map(|n| n.to_be_bytes()));
+        } else {
+            let mut text = String::new();
+            answer(&case, &mut text);
+            out.extend(text.bytes());
+        }
+    }
+    std::io::stdout().write_all(&out).expect("standard output takes what is written");
+}
