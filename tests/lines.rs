@@ -1,6 +1,7 @@
-// Works out what crates/lines_test reads and must print, from document 01 alone: "The line" and "Line refusal numbers", a run's words taken
-// as a string of ones and zeros. Nothing of the proved library is used. `lines stdin` writes the cases, `lines stdout` what must be printed
-// of them. Besides chosen cases there are random ones, from a fixed seed.
+// Works out what crates/lines_test reads and must print, from document 01's "The line" and "Line refusal numbers"; what a run alone is, it
+// has from tests/document.rs. `lines stdin` writes the cases, `lines stdout` what must be printed of them. Besides chosen cases there are
+// random ones, from a fixed seed.
+mod document;
 use std::io::Write;
 
 const IDLE: u16 = 1023;
@@ -14,46 +15,10 @@ const ATCRBS: [u16; 7] = [3333, 1281, 1022, 868, 1281, 2048, 647];
 // ---- a run: the number of its refusal and the offset of the word that it names, or nothing
 
 fn refusal(run: &[u16]) -> Option<(u8, usize)> {
-    if let Some(i) = run.iter().position(|w| *w > 8191) {
-        return Some((3, i));
+    match document::read(document::all_forms(), run) {
+        document::Read::Report(_) => None,
+        document::Read::Refused(number, offset) => Some((number, offset)),
     }
-    if let Some(i) = run.iter().position(|w| format!("{:b}", w).matches('1').count() % 2 == 0) {
-        return Some((4, i));
-    }
-    let all: String = run.iter().map(|w| format!("{:013b}", w)).collect();
-    let bits = |a: usize, b: usize| &all[a - 1..b];
-    let ones = |spans: &[(usize, usize)]| spans.iter().any(|(a, b)| bits(*a, *b).contains('1'));
-    let form = bits(4, 10).to_string();
-    let words = match bits(2, 3) {
-        "11" => 7,
-        "00" if form == "1001000" && bits(1, 1) == "1" => 4,
-        "00" if ["1101100", "1100000", "0110000"].contains(&&form[..]) || form.starts_with("00000") => 4,
-        _ => return Some((5, 0)),
-    };
-    if run.len() != words {
-        return Some((6, 0));
-    }
-    if words == 4 {
-        let spare = (form != "0110000" && ones(&[(25, 25)])) || (form.starts_with("00000") && ones(&[(51, 51)]));
-        return if spare { Some((8, 0)) } else { None };
-    }
-    let (dabs, radar) = (bits(4, 4) == "1", bits(12, 12) == "1");
-    let mut spares: Vec<(usize, usize)> = if dabs { vec![(45, 46)] } else { vec![] };
-    if radar {
-        match bits(88, 90) {
-            "100" => spares.push((82, 87)),
-            "110" => spares.push((81, 87)),
-            "101" => spares.push((83, 87)),
-            "010" if !dabs => spares.extend([(5, 10), (45, 45), (87, 87)]),
-            "001" if !dabs => spares.extend([(5, 10), (45, 45), (53, 64), (83, 84), (86, 87)]),
-            _ => return Some((7, 0)),
-        }
-    }
-    if ones(&spares) {
-        return Some((8, 0));
-    }
-    let minus_zero = !radar && bits(6, 6) == "1" && bits(79, 90) == "100000000000";
-    if minus_zero { Some((9, 0)) } else { None }
 }
 
 // ---- a case

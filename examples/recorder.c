@@ -1,0 +1,103 @@
+/*
+ * A small recorder: reads a recording from standard input and prints each report with its values and units, each refusal with its reason,
+ * and at the end how many of each kind there were, and how many reports had a height, so that a recording without heights shows at once.
+ */
+#include <inttypes.h>
+#include <stdio.h>
+#include <stdlib.h>
+
+#include "siamrung.h"
+
+/* One byte more than a line may have, so that a longer one is seen as too long. */
+#define MOST 65537
+
+static const char *const kind_names[] = {
+    "SEARCH", "STROBE", "MAP", "STATUS", "RTQC", "DABS", "DABS-CD", "DABS-MTD", "DABS-RDAS",
+    "ATCRBS", "ATCRBS-CD", "ATCRBS-MTD", "ATCRBS-RDAS", "MTD", "RDAS",
+};
+#define KINDS (sizeof kind_names / sizeof kind_names[0])
+
+static const char *reason(uint32_t refusal)
+{
+    switch (refusal) {
+    case SIAMRUNG_REFUSAL_LINE_TOO_LONG: return "the recording has more than 65,536 bytes";
+    case SIAMRUNG_REFUSAL_ODD_BYTE_COUNT: return "the recording has an odd number of bytes";
+    case SIAMRUNG_REFUSAL_PLACE_BEYOND_LINE: return "the place is beyond the end";
+    case SIAMRUNG_REFUSAL_WORD_TOO_WIDE: return "a word has more than thirteen bits";
+    case SIAMRUNG_REFUSAL_EVEN_WORD: return "a word has an even number of ones";
+    case SIAMRUNG_REFUSAL_UNKNOWN_FORM: return "the first word is of no known form";
+    case SIAMRUNG_REFUSAL_WRONG_LENGTH: return "the run has not as many words as its first word says";
+    case SIAMRUNG_REFUSAL_UNASSIGNED_RADAR: return "bits 88 to 90 are not assigned";
+    case SIAMRUNG_REFUSAL_SPARE_BIT_SET: return "a zero or spare bit is one";
+    case SIAMRUNG_REFUSAL_MINUS_ZERO: return "the altitude is minus zero";
+    default: return "refused";
+    }
+}
+
+/* The items that are printed by name where the report has them. */
+static const struct {
+    uint32_t item;
+    const char *name;
+    const char *unit;
+} shown[] = {
+    {SIAMRUNG_ITEM_ALTITUDE, "altitude", "00 ft"},
+    {SIAMRUNG_ITEM_ADDRESS, "address", ""},
+    {SIAMRUNG_ITEM_CODE, "code", ""},
+    {SIAMRUNG_ITEM_FILE, "file", ""},
+    {SIAMRUNG_ITEM_RUN, "run length", " x 4 ACP"},
+    {SIAMRUNG_ITEM_QUALITY, "quality", ""},
+    {SIAMRUNG_ITEM_STOP, "stop", " x 1/8 nmi"},
+};
+
+static void print_report(const uint8_t *bytes, size_t length, size_t place, uint32_t kind)
+{
+    size_t i;
+    printf("%zu %s", siamrung_first(bytes, length, place), kind_names[kind - SIAMRUNG_KIND_SEARCH]);
+    if (siamrung_has_values(bytes, length, place))
+        printf(" %.4f nmi %.4f deg %.3f s", siamrung_nmi(bytes, length, place), siamrung_degrees(bytes, length, place),
+               siamrung_seconds(bytes, length, place));
+    for (i = 0; i < sizeof shown / sizeof shown[0]; i++)
+        if (siamrung_has(bytes, length, place, shown[i].item))
+            printf(" %s %" PRId64 "%s", shown[i].name, siamrung_item(bytes, length, place, shown[i].item), shown[i].unit);
+    printf("\n");
+}
+
+int main(void)
+{
+    uint8_t *bytes = malloc(MOST);
+    size_t counts[KINDS] = {0}, refused = 0, heights = 0, reports = 0, length, place = 0, i;
+    if (bytes == NULL)
+        return 1;
+    length = fread(bytes, 1, MOST, stdin);
+    if (ferror(stdin)) {
+        perror("recorder: standard input");
+        return 1;
+    }
+    for (;;) {
+        uint32_t kind = siamrung_kind(bytes, length, place);
+        if (kind == SIAMRUNG_KIND_END)
+            break;
+        if (kind == SIAMRUNG_KIND_REFUSED) {
+            uint32_t why = siamrung_refusal(bytes, length, place);
+            printf("%zu REFUSED %" PRIu32 " at %zu: %s\n", siamrung_first(bytes, length, place), why,
+                   siamrung_named(bytes, length, place), reason(why));
+            refused++;
+            /* a refused line or place gives its own place back: nothing more can be read */
+            if (siamrung_after(bytes, length, place) == place)
+                break;
+        } else {
+            print_report(bytes, length, place, kind);
+            counts[kind - SIAMRUNG_KIND_SEARCH]++;
+            reports++;
+            if (siamrung_has(bytes, length, place, SIAMRUNG_ITEM_ALTITUDE))
+                heights++;
+        }
+        place = siamrung_after(bytes, length, place);
+    }
+    for (i = 0; i < KINDS; i++)
+        if (counts[i] > 0)
+            printf("%zu %s\n", counts[i], kind_names[i]);
+    printf("%zu refused\n%zu reports, %zu with altitude, %zu without\n", refused, reports, heights, reports - heights);
+    free(bytes);
+    return 0;
+}

@@ -1,0 +1,59 @@
+// Holds the numbers of include/siamrung.h to those of the definitions: every kind, refusal of the line and item that specs/ numbers stands in
+// the header with the same number, the header has no other, and no number of a kind is a refusal's.
+use std::collections::BTreeMap;
+use std::fs::read_to_string;
+
+// LineTooLong and aimsCode as LINE_TOO_LONG and AIMS_CODE.
+fn upper(name: &str) -> String {
+    let mut out = String::new();
+    for (i, c) in name.chars().enumerate() {
+        if c.is_uppercase() && i > 0 {
+            out.push('_');
+        }
+        out.push(c.to_ascii_uppercase());
+    }
+    out
+}
+
+// The numbers of the lines "HEAD NAME = NUMBER" of a file of specs/.
+fn defined(path: &str, head: &str, prefix: &str) -> BTreeMap<String, u32> {
+    let mut found = BTreeMap::new();
+    for line in read_to_string(path).unwrap().lines() {
+        let Some((left, right)) = line.split_once(" = ") else { continue };
+        let Some(name) = left.strip_prefix(head) else { continue };
+        let Ok(number) = right.parse() else { continue };
+        if !name.contains(' ') {
+            assert!(found.insert(format!("{prefix}_{}", upper(name)), number).is_none());
+        }
+    }
+    found
+}
+
+fn main() {
+    let mut expected = BTreeMap::new();
+    expected.extend(defined("crates/reports/specs/Kinds.antt", "kindNumber K.", "KIND"));
+    expected.extend(defined("crates/refusals/specs/Numbers.antt", "lineNumber L.", "REFUSAL"));
+    expected.extend(defined("crates/host/specs/Items.antt", "", "ITEM"));
+    let line = defined("crates/host/specs/Line.antt", "", "LINE");
+    expected.insert("KIND_REFUSED".into(), line["LINE_REFUSED_KIND"]);
+    expected.insert("KIND_END".into(), line["LINE_END_KIND"]);
+    expected.insert("REFUSAL_NONE".into(), 0);
+    let mut header = BTreeMap::new();
+    for text in read_to_string("include/siamrung.h").unwrap().lines() {
+        let words: Vec<&str> = text.split_whitespace().collect();
+        if let ["#define", name, number] = words[..] {
+            let name = name.strip_prefix("SIAMRUNG_").expect("a name without the prefix");
+            assert!(header.insert(name.to_string(), number.parse::<u32>().unwrap()).is_none(), "{name} stands twice");
+        }
+    }
+    for (name, number) in &expected {
+        assert_eq!(header.get(name), Some(number), "{name}");
+    }
+    for name in header.keys() {
+        assert!(expected.contains_key(name), "{name} is in no definition");
+    }
+    for (kind, number) in header.iter().filter(|(name, _)| name.starts_with("KIND")) {
+        assert!(!header.iter().any(|(name, n)| name.starts_with("REFUSAL") && n == number), "{kind} has a refusal's number");
+    }
+    println!("tests: {} numbers of include/siamrung.h are those of the definitions", header.len());
+}
