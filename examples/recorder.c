@@ -34,19 +34,19 @@ static const char *reason(uint32_t refusal)
     }
 }
 
-/* The items that are printed by name where the report has them. */
+/* The items that are printed by name where the report has them: the value is the count times the scale. */
 static const struct {
     uint32_t item;
     const char *name;
+    int64_t scale;
     const char *unit;
 } shown[] = {
-    {SIAMRUNG_ITEM_ALTITUDE, "altitude", "00 ft"},
-    {SIAMRUNG_ITEM_ADDRESS, "address", ""},
-    {SIAMRUNG_ITEM_CODE, "code", ""},
-    {SIAMRUNG_ITEM_FILE, "file", ""},
-    {SIAMRUNG_ITEM_RUN, "run length", " x 4 ACP"},
-    {SIAMRUNG_ITEM_QUALITY, "quality", ""},
-    {SIAMRUNG_ITEM_STOP, "stop", " x 1/8 nmi"},
+    {SIAMRUNG_ITEM_ALTITUDE, "altitude", 100, " ft"},
+    {SIAMRUNG_ITEM_ADDRESS, "address", 1, ""},
+    {SIAMRUNG_ITEM_CODE, "code", 1, ""},
+    {SIAMRUNG_ITEM_FILE, "file", 1, ""},
+    {SIAMRUNG_ITEM_RUN, "run length", 4, " ACP"},
+    {SIAMRUNG_ITEM_QUALITY, "quality", 1, ""},
 };
 
 static void print_report(const uint8_t *bytes, size_t length, size_t place, uint32_t kind)
@@ -58,7 +58,7 @@ static void print_report(const uint8_t *bytes, size_t length, size_t place, uint
                siamrung_seconds(bytes, length, place));
     for (i = 0; i < sizeof shown / sizeof shown[0]; i++)
         if (siamrung_has(bytes, length, place, shown[i].item))
-            printf(" %s %" PRId64 "%s", shown[i].name, siamrung_item(bytes, length, place, shown[i].item), shown[i].unit);
+            printf(" %s %" PRId64 "%s", shown[i].name, siamrung_item(bytes, length, place, shown[i].item) * shown[i].scale, shown[i].unit);
     printf("\n");
 }
 
