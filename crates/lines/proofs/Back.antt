@@ -83,11 +83,11 @@ written-runs form p (s ∷ ss) tail f a =
 -- the words of a report that fits get that report
 alone-report : (answer : Answer) (form : AltitudeForm) → Returns answer form → (f : ℕ) (r : Report) → Fits form r
     → alone answer (record { place = f; words = wordsOf form r }) ≡ outcomeOf (W.Accepted r) f (f + length (wordsOf form r)) f
-alone-report answer form gives f r h = byWords (wordsOf form r) refl
+alone-report answer form gives f r h = by-words (wordsOf form r) refl
   where
-    byWords : (ws : List ℕ) → wordsOf form r ≡ ws → alone answer (record { place = f; words = wordsOf form r }) ≡ outcomeOf (W.Accepted r) f (f + length (wordsOf form r)) f
-    byWords [] e = let a = words-some form r in let b = ap length e in absurd (omega arith)
-    byWords (w ∷ ws) e =
+    by-words : (ws : List ℕ) → wordsOf form r ≡ ws → alone answer (record { place = f; words = wordsOf form r }) ≡ outcomeOf (W.Accepted r) f (f + length (wordsOf form r)) f
+    by-words [] e = let a = words-some form r in let b = ap length e in absurd (omega arith)
+    by-words (w ∷ ws) e =
         let few = words-few form r in
         let size = ap length e in
         ap (λ (l : List ℕ). alone answer (record { place = f; words = l })) e

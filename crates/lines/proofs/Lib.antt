@@ -10,3 +10,4 @@ pub mod Totals
 pub mod Refused
 pub mod Back
 pub mod Written
+pub mod Flipped

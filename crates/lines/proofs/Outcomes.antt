@@ -8,7 +8,7 @@ use mathlib.Core.Logic.{_⊎_, inl, inr}
 use mathlib.Core.List.{List, [], _∷_, _++_, map}
 use native.Mathlib.Omega.{arith}
 use lib.Dec.{eqb}
-use lib.ListN.{length, drop, length-append, length-drop}
+use lib.ListN.{length, drop, length-drop}
 use lib.Seq.{drop-drop}
 use borrow.Author.Tests.{le-ltb}
 use Rattle.words.specs.Tests.{pick}
@@ -20,7 +20,7 @@ use Rattle.lines.specs.declared.Outcome.{Outcome}
 use Rattle.lines.specs.Line.{most, outcomeOf, endOf, whatOf, isEnd, gap, stretch, runIn, placed, outcomeAt, readBy, calls}
 use Rattle.lines.specs.Stretches.{Run, closed, runsFrom}
 use Rattle.lines.specs.Claims.{Answer, moved, alone, OneEach, CallsEnough, Onward, FromThere}
-use Rattle.lines.proofs.Tests.{picked, passed, byTest}
+use Rattle.lines.proofs.Tests.{picked, passed, by-test}
 use Rattle.lines.proofs.Runs.{runs-next, gap-all, gap-stretch, stretch-stretch, Free, free-gap, free-stretch}
 
 -- ---- a run alone and in the line
@@ -57,7 +57,7 @@ stretch-short : (ws : List ℕ) → length (stretch ws) ≤ length ws
 unfolding stretch
 stretch-short [] = omega arith
 stretch-short (w ∷ ws) =
-    byTest (eqb w idle)
+    by-test (eqb w idle)
     (λ e. subst (λ (l : List ℕ). length l ≤ suc (length ws)) (sym (picked [] (w ∷ stretch ws) e)) (omega arith))
     (λ e. let h = stretch-short ws in subst (λ (l : List ℕ). length l ≤ suc (length ws)) (sym (passed [] (w ∷ stretch ws) e)) (omega arith))
 
@@ -65,7 +65,7 @@ gap-short : (ws : List ℕ) → gap ws ≤ length ws
 unfolding gap
 gap-short [] = omega arith
 gap-short (w ∷ ws) =
-    byTest (eqb w idle)
+    by-test (eqb w idle)
     (λ e. let h = gap-short ws in let k : gap (w ∷ ws) ≡ suc (gap ws) = picked _ _ e in omega arith)
     (λ e. let k : gap (w ∷ ws) ≡ 0 = passed _ _ e in omega arith)
 
@@ -104,15 +104,15 @@ all-calls : (answer : Answer) (k : ℕ) (line : List ℕ) (p : ℕ) → length l
 unfolding calls
 all-calls answer zero line p m h b = absurd (omega arith)
 all-calls answer (suc k) line p m h b =
-    byRun (runIn (drop p line)) refl (λ q u v. all-calls answer k line q m u v)
+    by-run (runIn (drop p line)) refl (λ q u v. all-calls answer k line q m u v)
   where
-    byRun : (run : List ℕ) → runIn (drop p line) ≡ run
+    by-run : (run : List ℕ) → runIn (drop p line) ≡ run
         → ((q : ℕ) → q ≤ length line → length (runsFrom q [] (drop q line)) < k → calls answer k line q ≡ map (alone answer) (runsFrom q [] (drop q line)) ++ (endOf (length line) ∷ []))
         → calls answer (suc k) line p ≡ map (alone answer) (runsFrom p [] (drop p line)) ++ (endOf (length line) ∷ [])
-    byRun [] e more =
+    by-run [] e more =
         ap (then answer k line) (read-there answer line p m h ∙ ap (outcomeAt answer (length line) (p + gap (drop p line))) e)
         ∙ ap (λ (rs : List Run). map (alone answer) rs ++ (endOf (length line) ∷ [])) (sym (runs-none p (drop p line) e))
-    byRun (w ∷ l) e more =
+    by-run (w ∷ l) e more =
         let ws = drop p line in
         let f = p + gap ws in
         let q = f + length (w ∷ l) in
@@ -157,7 +157,7 @@ few : (p : ℕ) (open′ ws : List ℕ) → length (runsFrom p open′ ws) + len
 unfolding runsFrom
 few p open′ [] = let c = closed-more p open′ [] in let o = opened-one open′ in omega arith
 few p open′ (w ∷ ws) =
-    byTest (eqb w idle)
+    by-test (eqb w idle)
     (λ e.
     let q = p + length open′ + 1 in
     let k = ap length (picked (closed p open′ (runsFrom q [] ws)) (runsFrom p (open′ ++ (w ∷ [])) ws) e) in
@@ -184,13 +184,13 @@ calls-enough answer line k m b =
 
 pub onward : Onward
 onward answer line place m h =
-    byRun (runIn (drop place line)) refl
+    by-run (runIn (drop place line)) refl
   where
-    byRun : (run : List ℕ) → runIn (drop place line) ≡ run
+    by-run : (run : List ℕ) → runIn (drop place line) ≡ run
         → (readBy answer line place ≡ endOf (length line))
         ⊎ ((isEnd (readBy answer line place .what) ≡ false) × (place < readBy answer line place .after) × (readBy answer line place .after ≤ length line))
-    byRun [] e = inl (read-there answer line place m h ∙ ap (outcomeAt answer (length line) (place + gap (drop place line))) e)
-    byRun (w ∷ l) e =
+    by-run [] e = inl (read-there answer line place m h ∙ ap (outcomeAt answer (length line) (place + gap (drop place line))) e)
+    by-run (w ∷ l) e =
         let ws = drop place line in
         let f = place + gap ws in
         let n = length (w ∷ l) in

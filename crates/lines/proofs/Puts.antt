@@ -24,7 +24,7 @@ use Rattle.lines.specs.declared.Wrote.{Wrote}
 use Rattle.lines.specs.declared.Wrote.the-variants as W
 use Rattle.lines.specs.Line.{most}
 use Rattle.lines.specs.Writing.{room, roomFor, writeAt, leftBy, Writes, Puts, put}
-use Rattle.lines.proofs.Tests.{picked, passed, byTest}
+use Rattle.lines.proofs.Tests.{picked, passed, by-test}
 
 -- ---- a leaf's loop
 
@@ -124,7 +124,7 @@ as-handed form r = ⊎-elim (four-handed (wordsOf form r)) (seven-handed (wordsO
 -- what was handed out are the report's words
 pub handed-words : (form : AltitudeForm) (r : Report) (m : Written) → written form r ≡ m → 0 < length (handed m) → wordsOf form r ≡ handed m
 handed-words form r m e h =
-    byTest (takes form r)
+    by-test (takes form r)
     (λ t. sym (as-handed form r) ∙ ap handed (sym (picked (asWritten (wordsOf form r)) (M.Refused ValueTooLarge) t) ∙ e))
     (λ t. let z = ap (λ (x : Written). length (handed x)) (sym e ∙ passed (asWritten (wordsOf form r)) (M.Refused ValueTooLarge) t) in absurd (omega arith))
 
@@ -162,7 +162,7 @@ words-writes form line place r m w exit k h e f g p =
 pub room-for : (form : AltitudeForm) (line : List ℕ) (place : ℕ) (r : Report)
     → roomFor line place (written form r) ≡ pick (not (takes form r)) (W.Refused ValueTooLarge place) (room line place (length (wordsOf form r)))
 room-for form line place r =
-    byTest (takes form r)
+    by-test (takes form r)
     (λ t.
     ap (roomFor line place) (picked (asWritten (wordsOf form r)) (M.Refused ValueTooLarge) t)
     ∙ ⊎-elim (λ n. ap (roomFor line place) (picked _ _ (eq-eqb (length (wordsOf form r)) 4 n)) ∙ ap (room line place) (sym n))
@@ -180,10 +180,10 @@ pub write-cases : (form : AltitudeForm) (line : List ℕ) (place : ℕ) (r : Rep
 unfolding writeAt
 write-cases form line place r =
     let n = length (wordsOf form r) in
-    byTest (ltb most (length line)) (λ a. inl (LineTooLong, picked _ _ a))
-    (λ a. byTest (ltb (length line) place) (λ b. inl (PlaceBeyondLine, passed _ _ a ∙ picked _ _ b))
-    (λ b. byTest (takes form r)
-    (λ c. byTest (ltb (length line - place) (n + 1))
+    by-test (ltb most (length line)) (λ a. inl (LineTooLong, picked _ _ a))
+    (λ a. by-test (ltb (length line) place) (λ b. inl (PlaceBeyondLine, passed _ _ a ∙ picked _ _ b))
+    (λ b. by-test (takes form r)
+    (λ c. by-test (ltb (length line - place) (n + 1))
     (λ d. inl (NoRoom, passed _ _ a ∙ passed _ _ b ∙ room-for form line place r ∙ passed _ _ (ap not c) ∙ picked _ _ d))
     (λ d. inr (
       c,

@@ -1,7 +1,7 @@
 -- Each refusal exactly under its condition, with the place that it names: the claims ReaderRefuses, ByteReaderRefuses and WriterRefuses.
 -- A chain of tests is gone through row by row, by one law. Assumes nothing.
 use Prim.Native.Nat.{ℕ, _+_, _-_, _%_}
-use mathlib.Core.Path.{_≡_, refl, ap, sym, _∙_, subst}
+use mathlib.Core.Path.{_≡_, refl, sym, _∙_, subst}
 use mathlib.Core.Bool.{Bool, true, false, not}
 use mathlib.Core.Logic.{_↔_, _⊎_, inl, inr, ⊎-elim}
 use mathlib.Core.List.{List, [], _∷_}

@@ -14,17 +14,18 @@ use borrow.Author.Tests.{ne-eqb}
 use Rattle.words.specs.Word.{idle, AllGood}
 use Rattle.words.proofs.Claims.{no-report-word-is-idle}
 use Rattle.words.proofs.Faults.{NoneHas}
+use Rattle.reports.proofs.Tests.{by-pick}
 use Rattle.lines.specs.Line.{gap, stretch, runIn}
 use Rattle.lines.specs.Stretches.{Run, closed, runsFrom}
 use Rattle.lines.specs.Claims.{EndsIdle, BeginsIdle}
-use Rattle.lines.proofs.Tests.{picked, passed, byTest, byPick}
+use Rattle.lines.proofs.Tests.{picked, passed, by-test}
 
 -- idle words in front belong to no run
 runs-gap : (p : ℕ) (ws : List ℕ) → runsFrom p [] ws ≡ runsFrom (p + gap ws) [] (drop (gap ws) ws)
 unfolding runsFrom gap
 runs-gap p [] = refl
 runs-gap p (w ∷ ws) =
-    byTest (eqb w idle)
+    by-test (eqb w idle)
     (λ e. let k : gap (w ∷ ws) ≡ suc (gap ws) = picked _ _ e in
     picked _ _ e ∙ runs-gap (p + 0 + 1) ws
     ∙ ap (λ (q : ℕ). runsFrom q [] (drop (gap ws) ws)) (let z : p + 0 + 1 + gap ws ≡ p + suc (gap ws) = omega arith in z)
@@ -37,7 +38,7 @@ pub runs-open : (p : ℕ) (open′ ws : List ℕ) → runsFrom p open′ ws ≡ 
 unfolding runsFrom stretch
 runs-open p open′ [] = ap (λ (l : List ℕ). closed p l []) (sym (append-nil open′))
 runs-open p open′ (w ∷ ws) =
-    byTest (eqb w idle)
+    by-test (eqb w idle)
     (λ e. let k : stretch (w ∷ ws) ≡ [] = picked _ _ e in
     picked _ _ e
     ∙ ap (λ (q : ℕ). closed p open′ (runsFrom q [] ws)) (let z : p + length open′ + 1 ≡ p + length open′ + 0 + 1 = omega arith in z)
@@ -61,7 +62,7 @@ pub gap-all : (ws : List ℕ) → runIn ws ≡ [] → drop (gap ws) ws ≡ []
 unfolding gap stretch
 gap-all [] h = refl
 gap-all (w ∷ ws) h =
-    byTest (eqb w idle)
+    by-test (eqb w idle)
     (λ e. let k : gap (w ∷ ws) ≡ suc (gap ws) = picked _ _ e in
     ap (λ (g : ℕ). drop g (w ∷ ws)) k ∙ gap-all ws (sym (ap (λ (g : ℕ). stretch (drop g (w ∷ ws))) k) ∙ h))
     (λ e. let k : gap (w ∷ ws) ≡ 0 = passed _ _ e in
@@ -72,7 +73,7 @@ pub gap-stretch : (ws : List ℕ) → gap (stretch ws) ≡ 0
 unfolding gap stretch
 gap-stretch [] = refl
 gap-stretch (w ∷ ws) =
-    byTest (eqb w idle)
+    by-test (eqb w idle)
     (λ e. ap gap (picked [] (w ∷ stretch ws) e))
     (λ e. ap gap (passed [] (w ∷ stretch ws) e) ∙ passed _ _ e)
 
@@ -80,7 +81,7 @@ pub stretch-stretch : (ws : List ℕ) → stretch (stretch ws) ≡ stretch ws
 unfolding stretch
 stretch-stretch [] = refl
 stretch-stretch (w ∷ ws) =
-    byTest (eqb w idle)
+    by-test (eqb w idle)
     (λ e. ap stretch (picked [] (w ∷ stretch ws) e) ∙ sym (picked [] (w ∷ stretch ws) e))
     (λ e. ap stretch (passed [] (w ∷ stretch ws) e) ∙ passed _ _ e ∙ ap (λ (l : List ℕ). w ∷ l) (stretch-stretch ws) ∙ sym (passed [] (w ∷ stretch ws) e))
 
@@ -124,7 +125,7 @@ module _ (P : Run → Type 0) (lo hi : ℕ) (each : (p w : ℕ) (ws : List ℕ) 
   unfolding runsFrom
   all-runs p open′ [] f a b = closed-all p open′ [] f a (omega arith) tt
   all-runs p open′ (w ∷ ws) f a b =
-      byPick (All P) (eqb w idle)
+      by-pick (All P) (eqb w idle)
       (λ e. closed-all p open′ (runsFrom (p + length open′ + 1) [] ws) f a (omega arith) (all-runs (p + length open′ + 1) [] ws tt (omega arith) (omega arith)))
       (λ e. let k = length-append open′ (w ∷ []) in all-runs p (open′ ++ (w ∷ [])) ws (free-snoc open′ w f e) a (omega arith))
 
@@ -161,7 +162,7 @@ runs-split p open′ [] b =
     ∙ sym (closed-append p open′ [] (runsFrom (p + length open′ + 0 + 1) [] b))
 runs-split p open′ (w ∷ a) b =
     let q = p + length open′ + 1 in
-    byTest (eqb w idle)
+    by-test (eqb w idle)
     (λ e.
     picked _ _ e
     ∙ ap (closed p open′) (runs-split q [] a b)
@@ -194,7 +195,7 @@ unfolding runsFrom
 runs-along q p open′ [] = sym (closed-along q p open′ [])
 runs-along q p open′ (w ∷ ws) =
     let n = p + length open′ + 1 in
-    byTest (eqb w idle)
+    by-test (eqb w idle)
     (λ e.
     picked _ _ e
     ∙ ap (λ (k : ℕ). closed (q + p) open′ (runsFrom k [] ws)) (let z : q + p + length open′ + 1 ≡ q + n = omega arith in z)

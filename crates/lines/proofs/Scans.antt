@@ -20,18 +20,19 @@ use Rattle.reports.specs.Altitude.{AltitudeForm}
 use Rattle.reports.specs.Records.{reportOf}
 use Rattle.reports.specs.Runs.{Row, firstHit, table, judged, readRun, answerOffset}
 use Rattle.reports.proofs.Refusals.{first-seven}
+use Rattle.reports.proofs.Tests.{by-pick}
 use Rattle.lines.specs.declared.run.Scan.{Scan}
 use Rattle.lines.specs.declared.Outcome.{Outcome}
 use Rattle.lines.specs.Line.{most, gap, stretch, runIn, outcomeAt, placed, notTaken, readBy, readAt}
 use Rattle.lines.specs.Scan.{start, firstMore, stepOf, scanned, Scanned, finished}
-use Rattle.lines.proofs.Tests.{picked, passed, byTest, byPick}
+use Rattle.lines.proofs.Tests.{picked, passed, by-test}
 
 -- ---- one word more of the line
 
 step-size : (s : Scan) (w : ℕ) → stepOf s w .gap + stepOf s w .count ≤ s .gap + s .count + 1
 step-size s w =
-    byTest (eqb w idle)
-    (λ e. byTest (eqb (s .count) 0)
+    by-test (eqb w idle)
+    (λ e. by-test (eqb (s .count) 0)
     (λ f. subst (λ (t : Scan). t .gap + t .count ≤ s .gap + s .count + 1) (sym (picked _ _ e ∙ picked _ _ f)) (omega arith))
     (λ f. subst (λ (t : Scan). t .gap + t .count ≤ s .gap + s .count + 1) (sym (picked _ _ e ∙ passed _ _ f)) (omega arith)))
     (λ e. subst (λ (t : Scan). t .gap + t .count ≤ s .gap + s .count + 1) (sym (passed _ _ e)) (omega arith))
@@ -89,7 +90,7 @@ seen g run d = record { gap = g; count = length run; wide = first wide run; even
 
 first-suc : (n at : ℕ) (fault : Bool) → suc (firstMore n at fault) ≡ firstMore (suc n) (suc at) fault
 first-suc n at fault =
-    byTest (ltb at n)
+    by-test (ltb at n)
     (λ e. ap suc (picked _ _ e) ∙ sym (picked _ _ (leb·suc-suc (suc at) n ∙ e)))
     (λ e. ap suc (passed _ _ e) ∙ last fault ∙ sym (passed _ _ (leb·suc-suc (suc at) n ∙ e)))
   where
@@ -101,7 +102,7 @@ first-snoc : (fault : ℕ → Bool) (ws : List ℕ) (w : ℕ) → first fault (w
 unfolding first
 first-snoc fault [] w = refl
 first-snoc fault (x ∷ ws) w =
-    byTest (fault x)
+    by-test (fault x)
     (λ e. picked _ _ e ∙ sym (ap (λ (k : ℕ). firstMore (suc (length ws)) k (fault w)) (picked 0 (suc (first fault ws)) e)
     ∙ picked _ _ (lt-ltb 0 (suc (length ws)) (omega arith))))
     (λ e. passed _ _ e ∙ ap suc (first-snoc fault ws w) ∙ first-suc (length ws) (first fault ws) (fault w)
@@ -126,7 +127,7 @@ run-seen : (g : ℕ) (run ws : List ℕ) → 0 < length run → (d : Bool) × (s
 unfolding scanned stretch
 run-seen g run [] h = (false, ap (λ (l : List ℕ). seen g l false) (sym (append-nil run)))
 run-seen g run (w ∷ ws) h =
-    byTest (eqb w idle)
+    by-test (eqb w idle)
     (λ e. (
       true,
       ap (λ (s : Scan). scanned s ws) (picked _ _ e ∙ passed _ _ (ne-eqb (length run) 0 (λ (z : length run ≡ 0). omega arith)))
@@ -145,7 +146,7 @@ gap-seen : (g : ℕ) (ws : List ℕ) → (d : Bool) × (scanned (seen g [] false
 unfolding scanned stretch gap first
 gap-seen g [] = (false, ap (λ (k : ℕ). seen k [] false) (sym (add-zero g)))
 gap-seen g (w ∷ ws) =
-    byTest (eqb w idle)
+    by-test (eqb w idle)
     (λ e.
     let r = gap-seen (g + 1) ws in
     let k : gap (w ∷ ws) ≡ suc (gap ws) = picked _ _ e in (
@@ -174,7 +175,7 @@ stretch-taken : (ws : List ℕ) → take (length (stretch ws)) ws ≡ stretch ws
 unfolding stretch
 stretch-taken [] = refl
 stretch-taken (w ∷ ws) =
-    byTest (eqb w idle)
+    by-test (eqb w idle)
     (λ e. ap (λ (l : List ℕ). take (length l) (w ∷ ws)) (picked [] (w ∷ stretch ws) e) ∙ sym (picked [] (w ∷ stretch ws) e))
     (λ e. ap (λ (l : List ℕ). take (length l) (w ∷ ws)) (passed [] (w ∷ stretch ws) e)
     ∙ ap (λ (l : List ℕ). w ∷ l) (stretch-taken ws)
@@ -199,7 +200,7 @@ Within n (x ∷ rows) = (x .holds ≡ true → x .offset ≤ n) × Within n rows
 -- the first row that holds names a word within the run, if each row does where it holds
 rows-within : (n : ℕ) (rows : List Row) (a : RunAnswer) → Within n rows → answerOffset a ≤ n → answerOffset (firstHit rows a) ≤ n
 rows-within n [] a h k = k
-rows-within n (x ∷ rows) a h k = byPick (λ (r : RunAnswer). answerOffset r ≤ n) (x .holds) (h .0) (λ e. rows-within n rows a (h .1) k)
+rows-within n (x ∷ rows) a h k = by-pick (λ (r : RunAnswer). answerOffset r ≤ n) (x .holds) (h .0) (λ e. rows-within n rows a (h .1) k)
 
 pub offset-within : (form : AltitudeForm) (ws : List ℕ) (n w e : ℕ) → answerOffset (judged form ws n w e) ≤ n
 offset-within form ws n w e =

@@ -10,7 +10,7 @@ use borrow.Author.Tests.{eqb-true, eqb-false}
 use Rattle.words.specs.Word.{idle}
 use Rattle.lines.specs.Stretches.{Run, closed, runsFrom}
 use Rattle.lines.specs.Claims.{Solid, Stretches, shown, RunsAre}
-use Rattle.lines.proofs.Tests.{picked, passed, byTest}
+use Rattle.lines.proofs.Tests.{picked, passed, by-test}
 
 -- ---- such runs they are
 
@@ -31,7 +31,7 @@ unfolding runsFrom
 stretches q p open′ [] h o = closed-stretches q p open′ [] h o tt
 stretches q p open′ (w ∷ ws) h o =
     let n = p + length open′ + 1 in
-    byTest (eqb w idle)
+    by-test (eqb w idle)
     (λ e. subst (Stretches q) (sym (picked (closed p open′ (runsFrom n [] ws)) (runsFrom p (open′ ++ (w ∷ [])) ws) e))
     (closed-stretches q p open′ (runsFrom n [] ws) h o (stretches n n [] ws (omega arith) tt)))
     (λ e. subst (Stretches q) (sym (passed (closed p open′ (runsFrom n [] ws)) (runsFrom p (open′ ++ (w ∷ [])) ws) e))
@@ -66,7 +66,7 @@ show q p open′ [] n h e =
     (λ k a. ap idles (let z : n - k ≡ p + length open′ - k = omega arith in z) ∙ sym (append-nil (idles (p + length open′ - k))))
 show q p open′ (w ∷ ws) n h e =
     let m = p + length open′ + 1 in
-    byTest (eqb w idle)
+    by-test (eqb w idle)
     (λ t.
     ap (λ (rs : List Run). shown q rs n) (picked (closed p open′ (runsFrom m [] ws)) (runsFrom p (open′ ++ (w ∷ [])) ws) t)
     ∙ shown-closed q p open′ (w ∷ ws) (runsFrom m [] ws) n h

@@ -10,11 +10,6 @@ pub passed : {X : Type 0} (a b : X) {t : Bool} → t ≡ false → pick t a b �
 passed a b e = rw e
 
 -- a test holds or it does not
-pub byTest : {X : Type 0} (t : Bool) → (t ≡ true → X) → (t ≡ false → X) → X
-byTest true f g = f refl
-byTest false f g = g refl
-
--- what holds of both that a test picks from, under the test's outcome, holds of what it picks
-pub byPick : {X : Type 0} (P : X → Type 0) (t : Bool) {a b : X} → (t ≡ true → P a) → (t ≡ false → P b) → P (pick t a b)
-byPick P true f g = f refl
-byPick P false f g = g refl
+pub by-test : {X : Type 0} (t : Bool) → (t ≡ true → X) → (t ≡ false → X) → X
+by-test true f g = f refl
+by-test false f g = g refl

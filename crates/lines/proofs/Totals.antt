@@ -2,7 +2,7 @@
 -- Assumes nothing.
 use Prim.Native.Nat.{ℕ, suc, _+_, _-_, _≤_}
 use native.Mathlib.Nat.{add-zero}
-use mathlib.Core.Path.{_≡_, refl, ap, sym, _∙_}
+use mathlib.Core.Path.{_≡_, refl, ap, _∙_}
 use mathlib.Core.Bool.{Bool, true, false, not}
 use mathlib.Core.List.{List, [], _∷_, _++_, map}
 use native.Mathlib.Omega.{arith}
@@ -18,7 +18,7 @@ use Rattle.lines.specs.declared.Outcome.{Outcome}
 use Rattle.lines.specs.Line.{most, endOf, whatOf, isReport, isRefusal, placed, outcomes}
 use Rattle.lines.specs.Stretches.{Run, closed, runsFrom, runs, idleWords, isAccepted, wordsWhere}
 use Rattle.lines.specs.Claims.{Answer, alone, spanned, TotalsAdd, TotalsCounted}
-use Rattle.lines.proofs.Tests.{picked, passed, byTest}
+use Rattle.lines.proofs.Tests.{picked, passed, by-test}
 use Rattle.lines.proofs.Runs.{All, all-runs}
 use Rattle.lines.proofs.Outcomes.{alone-free, one-each}
 
@@ -47,7 +47,7 @@ module _ (answer : Answer) where
   unfolding runsFrom idleWords
   every-word p open′ [] = let c = both-closed p open′ [] in let z = both-none in omega arith
   every-word p open′ (w ∷ ws) =
-      byTest (eqb w idle)
+      by-test (eqb w idle)
       (λ e.
       let q = p + length open′ + 1 in
       let i : idleWords (w ∷ ws) ≡ suc (idleWords ws) = picked _ _ e in

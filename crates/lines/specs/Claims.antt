@@ -8,14 +8,16 @@ use mathlib.Core.List.{List, [], _∷_, _++_, map}
 use lib.Dec.{ltb}
 use lib.ListN.{length, take, drop, replicate}
 use Rattle.refusals.specs.declared.LineRefusal.{LineRefusal}
+use Rattle.refusals.specs.declared.LineRefusal.the-variants.{WrongLength}
 use Rattle.words.specs.Tests.{pick}
 use Rattle.words.specs.Word.{idle}
 use Rattle.reports.specs.declared.Report.{Report}
 use Rattle.reports.specs.declared.RunAnswer.{RunAnswer}
 use Rattle.reports.specs.declared.RunAnswer.the-variants as A
-use Rattle.reports.specs.Altitude.{AltitudeForm, Sound}
+use Rattle.reports.specs.Altitude.{AltitudeForm, Sound, signMagnitude}
 use Rattle.reports.specs.Claims.{Hit}
 use Rattle.reports.specs.Layouts.{wordsOf, Fits}
+use Rattle.reports.specs.Records.{reportOf}
 use Rattle.reports.specs.Runs.{readRun}
 use Rattle.lines.specs.declared.What.{What}
 use Rattle.lines.specs.declared.What.the-variants as W
@@ -140,6 +142,16 @@ Replaced =
     (answer : Answer) (a x y b : List ℕ) → length x ≡ length y → length (a ++ (idle ∷ (x ++ (idle ∷ b)))) ≤ most →
     outside (length a + 1) (length a + 1 + length x) (outcomes answer (a ++ (idle ∷ (x ++ (idle ∷ b)))))
     ≡ outside (length a + 1) (length a + 1 + length x) (outcomes answer (a ++ (idle ∷ (y ++ (idle ∷ b)))))
+
+-- document 01, "Three easy errors": a flipped bit is not always seen. In the ATCRBS report 3333 1281 1022 868 1281 2048 647, idle for 1022
+-- leaves a refused run and the Search report of the last four words (proofs/Flipped.antt)
+abbrev pub FlippedBit : Type 0
+FlippedBit =
+    outcomes (readRun signMagnitude) (3333 ∷ 1281 ∷ 1023 ∷ 868 ∷ 1281 ∷ 2048 ∷ 647 ∷ [])
+    ≡ outcomeOf (W.Refused WrongLength) 0 2 0
+    ∷ outcomeOf (W.Accepted (reportOf signMagnitude (868 ∷ 1281 ∷ 2048 ∷ 647 ∷ []))) 3 7 3
+    ∷ endOf 7
+    ∷ []
 
 -- ---- totals (proofs/Totals.antt)
 

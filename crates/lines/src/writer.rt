@@ -48,9 +48,10 @@ fn put_spaced(line: &mut [u16], place: usize, ws: [u16; 7], n: usize) -> Wrote
         return Wrote::Refused(LineRefusal::NoRoom, place);
     }
     let behind = place + n;
+    let next = behind + 1;
     put_words(&mut line[place..], ws, n);
     put_idles(&mut line[behind..], 1);
-    Wrote::Next(behind + 1)
+    Wrote::Next(next)
 }
 
 // A report's words and one idle word, from a place on.

@@ -25,6 +25,9 @@ returns c =
 add-behind : tie.Need-add-behind
 add-behind c = search needs
 
+add-next : tie.Need-add-next
+add-next c = search needs
+
 mul-put-words : tie.Need-mul-put-words
 mul-put-words c = search needs
 
@@ -55,9 +58,6 @@ part-put-idles-end c = search needs
 put-idles-requires : tie.Need-put-idles-requires
 put-idles-requires c κs = search needs
 
-add-t7 : tie.Need-add-t7
-add-t7 c = search needs
-
 same-length : tie.Need-same-length
 same-length c = search needs
 
@@ -79,6 +79,7 @@ put-spaced-spec =
     sub-if1
     returns
     add-behind
+    add-next
     mul-put-words
     sub-put-words
     part-put-words-start
@@ -89,6 +90,5 @@ put-spaced-spec =
     part-put-idles-start
     part-put-idles-end
     put-idles-requires
-    add-t7
     same-length
     returns-2)
