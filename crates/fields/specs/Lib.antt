@@ -1,2 +1,4 @@
 pub mod Table
 pub mod Records
+pub mod Lists
+pub mod Reading

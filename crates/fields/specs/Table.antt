@@ -1,6 +1,6 @@
 -- The known types of link data fields (document 01, "Link data fields"; document 004, Table 5-1 and Figures 5-1 and 5-2): which way each
 -- travels, how many bits it has, its parts in order, and what their values may be. Definitions only.
-use Prim.Native.Nat.{ℕ, zero, suc, _+_, _*_, _%_, _^_, _<_}
+use Prim.Native.Nat.{ℕ, zero, suc, _+_, _*_, _%_, _^_, _≤_, _<_}
 use mathlib.Core.List.{List, [], _∷_, _++_}
 use mathlib.Core.Bool.{Bool, true, false, not, cond, _||_}
 use lib.Dec.{eqb, leb}
@@ -124,9 +124,12 @@ rowsOf (k ∷ ks) = k .row ∷ rowsOf ks
 unfoldable pub rows : List Row
 rows = rowsOf table
 
--- the row at a place
+-- the row at a place, and what stands for one past the end
+abbrev pub noRow : Row
+noRow = record { code = 0; way = ToSensor; base = 0; step = 0; more = 0; first = none; second = none; third = none }
+
 unfoldable pub rowAt : ℕ → Row
-rowAt i = getD rows i (record { code = 0; way = ToSensor; base = 0; step = 0; more = 0; first = none; second = none; third = none })
+rowAt i = getD rows i noRow
 
 -- the place of the first row with that code, counted from i
 unfoldable pub placeFrom : ℕ → List Row → ℕ → Place
@@ -192,6 +195,15 @@ hasFault k (r ∷ rs) (v ∷ vs) = eqb (faultOf r v) k || hasFault k rs vs
 -- how many steps a field of a row with these values has: L + 1, N + 1, IP + IS + IU, ICA + IUA, or none
 unfoldable pub countIn : Row → List ℕ → ℕ
 countIn r vs = r .more + getD vs (r .first) 0 + getD vs (r .second) 0 + getD vs (r .third) 0
+
+-- the numbers are small: a row's own, and the values of its counted parts
+pub record RowSmall (r : Row) (vs : List ℕ) : Type 0 where
+  pub base : r .base ≤ 96
+  pub step : r .step ≤ 80
+  pub more : r .more ≤ 1
+  pub first : getD vs (r .first) 0 < 16
+  pub second : getD vs (r .second) 0 < 16
+  pub third : getD vs (r .third) 0 < 16
 
 -- how many bits it has
 unfoldable pub sizeIn : Row → List ℕ → ℕ

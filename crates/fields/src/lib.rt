@@ -1,7 +1,9 @@
 // Link data fields (document 01, "Link data fields"; document 004, 5.3): the records, the answers, and the calls that read and write them.
 // Relies on `bits` for the bits of lent bytes and on `refusals` for the names and numbers of what is refused.
-pub mod table; // the known types, their lengths, their parts, and the rules of the parts
-pub mod records; // a record from the values of its parts, and back
+mod table; // the known types, their lengths, their parts, and the rules of the parts
+mod records; // a record from the values of its parts, and back
+mod lists; // the entries of a list: altimeter blocks, addresses, identifiers
+pub mod reading; // a field's bytes to its record, list and text, or a refusal
 
 use refusals::FieldRefusal;
 
@@ -139,6 +141,12 @@ pub enum Field {
     },
 }
 
+// Nothing is said against the bytes, or why they are refused.
+pub enum Passed {
+    Sound,
+    Refused(FieldRefusal),
+}
+
 // A field that is no relay, or why there is none.
 pub enum Plain {
     Read(Field),
@@ -158,7 +166,7 @@ pub enum Answer {
 }
 
 // What reading answers, and the list of the record: zero from its count on, and where there is none.
-pub struct Reading {
+pub struct Found {
     pub answer: Answer,
     pub list: [i32; 30],
 }

@@ -379,7 +379,7 @@ pub fn find(code: u64) -> Place
     Place::Nowhere
 }
 
-fn row_at(i: usize) -> Row
+pub fn row_at(i: usize) -> Row
     requires { ⌜ i < 22 ⌝ }
     ensures { λ r. ⌜ r ≡ rowAt i ⌝ }
 {
@@ -387,7 +387,7 @@ fn row_at(i: usize) -> Row
 }
 
 // The widths of the parts of the type at place i.
-fn widths_at(i: usize) -> [u8; 11]
+pub fn widths_at(i: usize) -> [u8; 11]
     requires { ⌜ i < 22 ⌝ }
     ensures { λ r. ⌜ r ≡ widthsAt i ⌝ }
 {
@@ -395,7 +395,7 @@ fn widths_at(i: usize) -> [u8; 11]
 }
 
 // Their rules.
-fn rules_at(i: usize) -> [u8; 11]
+pub fn rules_at(i: usize) -> [u8; 11]
     requires { ⌜ i < 22 ⌝ }
     ensures { λ r. ⌜ r ≡ rulesAt i ⌝ }
 {
@@ -403,7 +403,7 @@ fn rules_at(i: usize) -> [u8; 11]
 }
 
 // What is wrong with a part's value: 0 nothing, 1 a spare bit is one, 2 the value is not in use.
-fn fault(rule: u8, x: u64) -> u64
+pub fn fault(rule: u8, x: u64) -> u64
     ensures { λ r. ⌜ r ≡ faultOf rule x ⌝ }
 {
     if rule == SPARE {
