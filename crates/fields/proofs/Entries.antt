@@ -20,7 +20,7 @@ pub product : (a b m k : ℕ) → a ≤ m → b ≤ k → a * b ≤ m * k
 product a b m k h l = le-trans (mul-le-mul-right b h) (mul-le-mul-left m l)
 
 -- one step further
-next : (a step k : ℕ) → a + step * k + step ≡ a + step * (k + 1)
+pub next : (a step k : ℕ) → a + step * k + step ≡ a + step * (k + 1)
 next a step k = rw (add-one, mul-suc) (omega arith)
 
 -- of n entries from k on: the one at k, and the rest

@@ -86,14 +86,14 @@ below-at p (suc n) t i h = go (ℕ-discrete i n) (below-at p n (both-right (p n)
 -- widths that one number of 64 bits holds
 abbrev narrow : List ℕ → Bool
 narrow [] = true
-narrow (w ∷ ws) = leb w 64 && narrow ws
+narrow (w ∷ ws) = leb w 63 && narrow ws
 
-narrow-at : (ws : List ℕ) → T (narrow ws) → (k : ℕ) → getD ws k 0 ≤ 64
+narrow-at : (ws : List ℕ) → T (narrow ws) → (k : ℕ) → getD ws k 0 ≤ 63
 narrow-at [] t k = zero-le
-narrow-at (w ∷ ws) t zero = leb→le w 64 (both-left (leb w 64) (narrow ws) t)
-narrow-at (w ∷ ws) t (suc k) = narrow-at ws (both-right (leb w 64) (narrow ws) t) k
+narrow-at (w ∷ ws) t zero = leb→le w 63 (both-left (leb w 63) (narrow ws) t)
+narrow-at (w ∷ ws) t (suc k) = narrow-at ws (both-right (leb w 63) (narrow ws) t) k
 
-pub widths-narrow : (i : ℕ) → i < 22 → (k : ℕ) → getD (widthsAt i) k 0 ≤ 64
+pub widths-narrow : (i : ℕ) → i < 22 → (k : ℕ) → getD (widthsAt i) k 0 ≤ 63
 unfolding table widths widthsAt
 widths-narrow i h = narrow-at (widthsAt i) (below-at (λ (j : ℕ). narrow (widthsAt j)) 22 tt i h)
 

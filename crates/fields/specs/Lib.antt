@@ -2,3 +2,4 @@ pub mod Table
 pub mod Records
 pub mod Lists
 pub mod Reading
+pub mod Writing

@@ -44,6 +44,10 @@ entryAt s a step n k = cond (ltb k n) (entryOf step (bitsOf s (a + step * k) ste
 unfoldable pub entryFits : ℕ → ℤ → Bool
 entryFits step z = cond (eqb step 8) (ltb (natAbs z) 80) (not (negative z) && ltb (natAbs z) 16777216)
 
+-- number k of a list of n: an entry, or zero from the count on
+unfoldable pub entryOk : ℕ → ℕ → ℕ → ℤ → Bool
+entryOk step n k z = cond (ltb k n) (entryFits step z) (eqb (natAbs z) 0)
+
 -- ---- lists of entries
 
 -- a block that is not in use is among these

@@ -163,8 +163,11 @@ answerOf s n w = firstOf Refused (Accepted (recordOf s n w)) (readTests s n w)
 -- ---- the list beside the record
 
 -- how many entries a list has: an ELM's steps are text and no entries
+unfoldable pub listedBy : Row → List ℕ → ℕ
+listedBy r vs = cond (eqb (r .step) 80) 0 (countIn r vs)
+
 abbrev pub listed : ℕ → List ℕ → ℕ
-listed i vs = cond (eqb (rowAt i .step) 80) 0 (countIn (rowAt i) vs)
+listed i vs = listedBy (rowAt i) vs
 
 unfoldable pub listIn : List ℕ → List ℤ
 listIn s =

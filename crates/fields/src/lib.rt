@@ -4,6 +4,7 @@ mod table; // the known types, their lengths, their parts, and the rules of the 
 mod records; // a record from the values of its parts, and back
 mod lists; // the entries of a list: altimeter blocks, addresses, identifiers
 pub mod reading; // a field's bytes to its record, list and text, or a refusal
+pub mod writing; // a record, its list and its text to a field's bytes, or a refusal
 
 use refusals::FieldRefusal;
 

@@ -6,7 +6,7 @@ ghost use Prim.Native.Nat.{ℕ, _+_, _/_, _≤_, _<_};
 ghost use lib.ListN.{length, getD};
 ghost use Rattle.bits.specs.Bits.{bitsOf};
 ghost use Rattle.fields.specs.Table.{valuesOf, hasFault, countIn, placeOf, RowSmall};
-ghost use Rattle.fields.specs.Reading.{fromSensor, sameWay, typeOf, typeNotCarried, unknownOf, notRelayed, sizedBy, blockCount, judgedBy, rowRead, plainOf, answered, relayed, opens, openedOf, outerOf, answerOf, listIn, listOf, readField, textIn, textPlace, textOf, answerNumber};
+ghost use Rattle.fields.specs.Reading.{fromSensor, sameWay, typeOf, typeNotCarried, unknownOf, notRelayed, sizedBy, blockCount, judgedBy, rowRead, plainOf, answered, relayed, opens, openedOf, outerOf, answerOf, listedBy, listIn, listOf, readField, textIn, textPlace, textOf, answerNumber};
 use crate::Answer;
 use crate::Direction;
 use crate::Field;
@@ -21,7 +21,7 @@ use crate::records;
 use crate::table;
 use refusals::FieldRefusal;
 
-fn from_sensor(way: Direction) -> bool
+pub fn from_sensor(way: Direction) -> bool
     ensures { λ r. ⌜ r ≡ fromSensor way ⌝ }
 {
     match way {
@@ -42,7 +42,7 @@ fn same_way(a: Direction, b: Direction) -> bool
 
 // The parts of a field that begins behind the first `before` bits.
 fn values(b: &[u8], before: usize, widths: [u8; 11]) -> [u64; 11]
-    requires { ⌜ (before ≤ 4096) × ((k : ℕ) → getD widths k 0 ≤ 64) ⌝ }
+    requires { ⌜ (before ≤ 4096) × ((k : ℕ) → getD widths k 0 ≤ 63) ⌝ }
     ensures { λ r. ⌜ r ≡ valuesOf (now (b .entry)) before widths ⌝ }
 {
     let mut v = [0u64; 11];
@@ -58,7 +58,7 @@ fn values(b: &[u8], before: usize, widths: [u8; 11]) -> [u64; 11]
 }
 
 // A part has that fault: 1 a spare bit is one, 2 its value is not in use.
-fn has_fault(kind: u64, rules: [u8; 11], v: [u64; 11]) -> bool
+pub fn has_fault(kind: u64, rules: [u8; 11], v: [u64; 11]) -> bool
     ensures { λ r. ⌜ r ≡ hasFault kind rules v ⌝ }
 {
     let mut i: usize = 0;
@@ -78,11 +78,22 @@ fn part(v: [u64; 11], k: usize) -> u64
 }
 
 // How many steps a field has: what its counted parts say.
-fn count_in(row: Row, v: [u64; 11]) -> usize
+pub fn count_in(row: Row, v: [u64; 11]) -> usize
     requires { ⌜ RowSmall row v ⌝ }
     ensures { λ r. ⌜ r ≡ countIn row v ⌝ }
 {
     (row.more + part(v, row.first) + part(v, row.second) + part(v, row.third)) as usize
+}
+
+// How many entries a list has: an ELM's steps are text and no entries.
+pub fn listed_in(row: Row, v: [u64; 11]) -> usize
+    requires { ⌜ RowSmall row v ⌝ }
+    ensures { λ r. ⌜ r ≡ listedBy row v ⌝ }
+{
+    if row.step == 80 {
+        return 0;
+    }
+    count_in(row, v)
 }
 
 // A type of Table 5-1 that is not carried.

@@ -7,7 +7,7 @@ use native.Mathlib.Omega.{arith}
 use Rattle.fields.specs.declared.Row.{Row}
 use Rattle.fields.specs.Table.{rowAt, widthsAt, valuesOf, countIn, RowSmall}
 use Rattle.fields.specs.Lists.{entriesIn}
-use Rattle.fields.specs.Reading.{listIn}
+use Rattle.fields.specs.Reading.{listIn, listedBy}
 use Rattle.fields.proofs.Rows.{found-within, row-base, row-step, row-small, values-fit, widths-narrow}
 use Rattle.fields.proofs.reading.list_in.Statement.{statement}
 use Rattle.fields.proofs.reading.list_in.Tie as tie
@@ -41,7 +41,7 @@ entries-requires-2 : tie.Need-entries-requires-2
 entries-requires-2 c κs = let h = base (c .before) in (omega arith, omega arith)
 
 returns-2 : tie.Need-returns-2
-unfolding listIn valuesOf entriesIn
+unfolding listIn listedBy valuesOf entriesIn
 returns-2 c =
     let r = c .before .before in
     let k = r .before in
@@ -74,7 +74,7 @@ entries-requires-3 c κs =
     (omega arith, rw (e .before .row-at .ensures) (row-step _ (within (e .before .before)) (λ z. e .if1 .left (ap (λ (r : Row). r .step) (e .before .row-at .ensures) ∙ z))))
 
 returns-3 : tie.Need-returns-3
-unfolding listIn
+unfolding listIn listedBy
 returns-3 c =
     let e = c .before .before .before .before in
     let r = e .before in

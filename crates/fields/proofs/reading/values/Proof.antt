@@ -61,7 +61,7 @@ loop-again c =
       simp length-set (l .inv .1),
       omega (arith, s .pre .1 (l .i)),
       rw (t, sumOf-snoc) (omega (arith, l .inv .3)),
-      rw (t, valuesOf-snoc, ← l .inv .3, ← l .inv .4, ← whole (a .b .now) (l .at) w (s .pre .1 (l .i)), ← c .read .ensures, add-one) (take-suc-set (l .v) (l .i) _ (omega arith)),
+      rw (t, valuesOf-snoc, ← l .inv .3, ← l .inv .4, ← whole (a .b .now) (l .at) w (omega (arith, s .pre .1 (l .i))), ← c .read .ensures, add-one) (take-suc-set (l .v) (l .i) _ (omega arith)),
     )
 
 returns : tie.Need-returns Inv-loop μ-loop
