@@ -1,117 +1,130 @@
+-- `fields::writing::put_field` meets its contract: the groups of parts one after the other are all the parts. Assumes nothing.
 use borrow.Author.Needs.{needs}
+use mathlib.Core.Path.{_≡_, refl, sym, ap, _∙_}
+use Prim.Native.Nat.{ℕ, _+_, _*_, _≤_}
+use native.Mathlib.Omega.{arith}
+use lib.ListN.{length}
+use Rattle.fields.specs.Table.{rowAt, widthsAt, RowSmall}
+use Rattle.fields.specs.Records.{numbersOf}
+use Rattle.fields.specs.Reading.{listed}
+use Rattle.fields.specs.Writing.{numbersIn, headBits, putField}
+use Rattle.fields.proofs.Rows.{widths-narrow, row-base}
+use Rattle.fields.proofs.Entries.{product}
+use Rattle.fields.proofs.Puts.{listFits-room, head-small}
+use Rattle.fields.proofs.Taking.{Taken, taken, taken-small, text-small, listed-small, groups}
 use Rattle.fields.proofs.writing.put_field.Statement.{statement}
 use Rattle.fields.proofs.writing.put_field.Tie as tie
-use Rattle.fields.proofs.writing.put_field.Reads as reads
-use Rattle.fields.proofs.writing.put_field.Lts as lts
-use Rattle.bits.proofs.write.Reads as write-reads
-use Rattle.fields.proofs.lists.put_entries.Reads as put-entries-reads
-use Rattle.fields.proofs.reading.listed_in.Reads as listed-in-reads
-use Rattle.fields.proofs.records.numbers.Reads as numbers-reads
-use Rattle.fields.proofs.table.row_at.Reads as row-at-reads
-use Rattle.fields.proofs.table.widths_at.Reads as widths-at-reads
-use Rattle.fields.proofs.writing.bits_at.Reads as bits-at-reads
-use Rattle.fields.proofs.writing.field_in.Reads as field-in-reads
-use Rattle.fields.proofs.writing.head_bits.Reads as head-bits-reads
-use Rattle.fields.proofs.writing.put_head.Reads as put-head-reads
-use Rattle.fields.proofs.writing.put_parts.Reads as put-parts-reads
-use Rattle.fields.proofs.writing.put_text.Reads as put-text-reads
 
--- src/writing.rt:182:9
 row-at-requires : tie.Need-row-at-requires
 row-at-requires c κs = search needs
 
--- src/writing.rt:185:30
 field-in-requires : tie.Need-field-in-requires
 field-in-requires c κs = search needs
 
--- src/writing.rt:185:9
 numbers-requires : tie.Need-numbers-requires
 numbers-requires c κs = search needs
 
--- src/writing.rt:186:9
 head-bits-requires : tie.Need-head-bits-requires
 head-bits-requires c κs = search needs
 
--- src/writing.rt:187:9
+numbers-are : (c : tie.After-numbers) → c .numbers .result ≡ numbersIn (c .before .before .before .before .before .args .given)
+numbers-are c = c .numbers .ensures ∙ ap numbersOf (c .before .field-in .ensures)
+
+told : (c : tie.Start) → Taken (c .args .i) (c .args .given) (c .args .list) (length (c .args .text .now))
+told c = taken _ _ _ _ (c .pre .1)
+
+small : (c : tie.Start) → RowSmall (rowAt (c .args .i)) (numbersIn (c .args .given))
+small c = taken-small (c .args .i) (c .args .given) (c .pre .0) (told c .fits)
+
 listed-in-requires : tie.Need-listed-in-requires
-listed-in-requires c κs = ?
+listed-in-requires c κs =
+    let n = c .before in
+    rw (numbers-are n, n .before .before .row-at .ensures) (small (c .before .before .before .before .before .before))
 
--- src/writing.rt:188:9
 bits-at-requires : tie.Need-bits-at-requires
-bits-at-requires c κs = ?
+bits-at-requires c κs = let s = c .before .before .before .before .before .before .before in (s .pre .0, small s)
 
--- src/writing.rt:189:5
 put-head-requires : tie.Need-put-head-requires
 put-head-requires c κs = search needs
 
--- src/writing.rt:190:22
 widths-at-requires : tie.Need-widths-at-requires
 widths-at-requires c κs = search needs
 
--- src/writing.rt:190:5
+listed-is : (c : tie.After-listed-in) → let a = c .before .before .before .before .before .before .before .args in c .listed-in .result ≡ listed (a .i) (numbersIn (a .given))
+listed-is c =
+    let n = c .before .before in
+    rw (← numbers-are n, ← n .before .before .row-at .ensures) (c .listed-in .ensures)
+
+-- what is small enough for a sum
+bounds : (c : tie.After-bits-at) →
+    (c .before .before .head-bits .result ≤ 16)
+    × (c .before .before .before .before .before .row-at .result .base ≤ 96)
+    × (c .before .before .before .before .before .row-at .result .step ≤ 80)
+    × (c .before .listed-in .result ≤ 30)
+    × (c .before .before .before .before .before .row-at .result .step * c .before .listed-in .result ≤ 80 * 30)
+bounds c =
+    let s = c .before .before .before .before .before .before .before .before in
+    let r = c .before .before .before .before .before in
+    let m : length (s .args .list) ≡ 30 = search needs in
+    let room = listFits-room (rowAt (s .args .i) .step) (listed (s .args .i) (numbersIn (s .args .given))) (s .args .list) (told s .list) in
+    let n : c .before .listed-in .result ≤ 30 = rw (listed-is (c .before)) (omega arith) in
+    let q : r .row-at .result .step ≤ 80 = rw (r .row-at .ensures) (small s .step) in (
+      rw (c .before .before .head-bits .ensures) (head-small (s .args .given)),
+      rw (r .row-at .ensures) (small s .base),
+      q,
+      n,
+      product (r .row-at .result .step) (c .before .listed-in .result) 80 30 q n,
+    )
+
 put-parts-requires : tie.Need-put-parts-requires
-put-parts-requires c κs = ?
+put-parts-requires c κs =
+    let b = bounds (c .before .before .before .before .before .before) in
+    let s = c .before .before .before .before .before .before .before .before .before .before .before .before .before .before in
+    (omega arith, rw (c .widths-at .ensures) (widths-narrow (s .args .i) (s .pre .0)))
 
--- src/writing.rt:191:27
 add-put-entries : tie.Need-add-put-entries
-add-put-entries c = ?
+add-put-entries c = omega (arith, bounds (c .before .before .before .before .before .before .before .before .before .before))
 
--- src/writing.rt:191:5
 put-entries-requires : tie.Need-put-entries-requires
-put-entries-requires c κs = ?
+put-entries-requires c κs = let b = bounds (c .before .before .before .before .before .before .before .before .before .before) in (omega arith, b .2, b .3)
 
--- src/writing.rt:192:17
 add-put-text : tie.Need-add-put-text
-add-put-text c = ?
+add-put-text c = omega (arith, bounds (c .before .before .before .before .before .before .before .before .before .before .before .before .before .before))
 
--- src/writing.rt:192:29
 mul-put-text : tie.Need-mul-put-text
-mul-put-text c = ?
+mul-put-text c = omega (arith, bounds (c .before .before .before .before .before .before .before .before .before .before .before .before .before .before) .4)
 
--- src/writing.rt:192:17
 add-put-text-2 : tie.Need-add-put-text-2
-add-put-text-2 c = ?
+add-put-text-2 c = omega (arith, bounds (c .before .before .before .before .before .before .before .before .before .before .before .before .before .before))
 
--- src/writing.rt:192:5
 put-text-requires : tie.Need-put-text-requires
-put-text-requires c κs = ?
+put-text-requires c κs =
+    let s = c .before .before .before .before .before .before .before .before .before .before .before .before .before .before .before .before .before .before .before .before .before .before in
+    let t = text-small (rowAt (s .args .i)) (numbersIn (s .args .given)) (small s) in
+    (omega (arith, bounds (c .before .before .before .before .before .before .before .before .before .before .before .before .before .before)), omega (arith, told s .text))
 
--- src/writing.rt:193:27
 sub-write : tie.Need-sub-write
 sub-write c = search needs
 
--- src/writing.rt:193:5
 write-requires : tie.Need-write-requires
 write-requires c κs = search needs
 
--- src/writing.rt:178:1
 same-length : tie.Need-same-length
 same-length c = search needs
 
--- src/writing.rt:178:1
 returns : tie.Need-returns
-returns c = ?
+unfolding putField
+returns c =
+    let s = c .before .before .before .before .before .before .before .before .before .before .before .before .before .before .before .before .before .before .before .before .before .before .before .before .before .before .before .before .before in
+    let a = s .args in
+    let m : length (a .list) ≡ 30 = search needs in
+    let b = bounds (c .before .before .before .before .before .before .before .before .before .before .before .before .before .before .before .before .before .before .before .before .before) in
+    let n = c .before .before .before .before .before .before .before .before .before .before .before .before .before .before .before .before .before .before .before .before .before .before .before .before in
+    let l = c .before .before .before .before .before .before .before .before .before .before .before .before .before .before .before .before .before .before .before .before .before .before in
+    rw (c .before .before .write .ensures, c .before .before .before .before .before .before .put-text .ensures, c .before .before .before .before .before .before .before .before .before .before .put-entries .ensures, c .before .before .before .before .before .before .before .before .before .before .before .before .before .before .put-parts .ensures, c .before .before .before .before .before .before .before .before .before .before .before .before .before .before .before .before .before .before .before .put-head .ensures, c .before .before .before .before .before .before .before .before .before .before .before .before .before .before .before .widths-at .ensures, listed-is l, c .before .before .before .before .before .before .before .before .before .before .before .before .before .before .before .before .before .before .before .before .before .before .before .head-bits .ensures, numbers-are n, n .before .before .row-at .ensures, c .before .before .before .before .before .before .before .before .before .before .before .before .before .before .before .before .before .before .before .before .before .bits-at .ensures .0, groups (a .i) (a .given) (a .list) (a .text .now) (a .s .now) (s .pre .0) (omega (arith, listed-is l)))
+    refl
 
 pub put-field-spec : {M : Type 1} → statement M
 put-field-spec =
     tie.close
-    (tie.spec
-    row-at-requires
-    field-in-requires
-    numbers-requires
-    head-bits-requires
-    listed-in-requires
-    bits-at-requires
-    put-head-requires
-    widths-at-requires
-    put-parts-requires
-    add-put-entries
-    put-entries-requires
-    add-put-text
-    mul-put-text
-    add-put-text-2
-    put-text-requires
-    sub-write
-    write-requires
-    same-length
-    returns)
+    (tie.spec row-at-requires field-in-requires numbers-requires head-bits-requires listed-in-requires bits-at-requires put-head-requires widths-at-requires put-parts-requires add-put-entries put-entries-requires add-put-text mul-put-text add-put-text-2 put-text-requires sub-write write-requires same-length returns)

@@ -1,101 +1,114 @@
+-- `fields::writing::takes` meets its contract. Assumes nothing.
 use borrow.Author.Needs.{needs}
+use borrow.Author.Tests.{not-true, not-false}
+use mathlib.Core.Path.{_≡_, refl, sym, ap, _∙_}
+use Prim.Native.Nat.{ℕ}
+use Rattle.fields.specs.Table.{rowAt, widthsAt, rulesAt, hasFault, RowSmall}
+use Rattle.fields.specs.Records.{numbersOf}
+use Rattle.fields.specs.Lists.{listFits}
+use Rattle.fields.specs.Reading.{listed}
+use Rattle.fields.specs.Writing.{numbersIn, headFits, fitAll, takesAt}
+use Rattle.fields.proofs.Rows.{widths-narrow}
+use Rattle.fields.proofs.Taking.{taken-small}
 use Rattle.fields.proofs.writing.takes.Statement.{statement}
 use Rattle.fields.proofs.writing.takes.Tie as tie
-use Rattle.fields.proofs.writing.takes.Reads as reads
-use Rattle.fields.proofs.writing.takes.Lts as lts
-use Rattle.fields.proofs.lists.list_fits.Reads as list-fits-reads
-use Rattle.fields.proofs.reading.has_fault.Reads as has-fault-reads
-use Rattle.fields.proofs.reading.listed_in.Reads as listed-in-reads
-use Rattle.fields.proofs.records.numbers.Reads as numbers-reads
-use Rattle.fields.proofs.table.row_at.Reads as row-at-reads
-use Rattle.fields.proofs.table.rules_at.Reads as rules-at-reads
-use Rattle.fields.proofs.table.widths_at.Reads as widths-at-reads
-use Rattle.fields.proofs.writing.field_in.Reads as field-in-reads
-use Rattle.fields.proofs.writing.fit_all.Reads as fit-all-reads
-use Rattle.fields.proofs.writing.head_fits.Reads as head-fits-reads
-use Rattle.fields.proofs.writing.text_length.Reads as text-length-reads
 
--- src/writing.rt:102:9
 row-at-requires : tie.Need-row-at-requires
 row-at-requires c κs = search needs
 
--- src/writing.rt:104:30
 field-in-requires : tie.Need-field-in-requires
 field-in-requires c κs = search needs
 
--- src/writing.rt:104:9
 numbers-requires : tie.Need-numbers-requires
 numbers-requires c κs = search needs
 
--- src/writing.rt:105:9
 head-fits-requires : tie.Need-head-fits-requires
 head-fits-requires c κs = search needs
 
--- src/writing.rt:106:9
-returns : tie.Need-returns
-returns c = ?
+numbers-are : (c : tie.After-numbers) → c .numbers .result ≡ numbersIn (c .before .before .before .args .given)
+numbers-are c = c .numbers .ensures ∙ ap numbersOf (c .before .field-in .ensures)
 
--- src/writing.rt:108:17
+returns : tie.Need-returns
+unfolding takesAt
+returns c = rw (sym (c .before .head-fits .ensures) ∙ not-true _ (c .if1 .taken))
+
 widths-at-requires : tie.Need-widths-at-requires
 widths-at-requires c κs = search needs
 
--- src/writing.rt:108:9
 fit-all-requires : tie.Need-fit-all-requires
-fit-all-requires c κs = ?
+fit-all-requires c κs = let s = c .before .before .before .before .before .before in rw (c .widths-at .ensures) (widths-narrow (s .args .i) (s .pre))
 
--- src/writing.rt:109:9
+fit : (c : tie.After-fit-all) →
+    let a = c .before .before .before .before .before .before .before .args in
+    fitAll (widthsAt (a .i)) (numbersIn (a .given)) ≡ c .fit-all .result
+fit c = rw (← c .before .widths-at .ensures, ← numbers-are (c .before .before .before .before)) (sym (c .fit-all .ensures))
+
 returns-2 : tie.Need-returns-2
-returns-2 c = ?
+unfolding takesAt
+returns-2 c =
+    let e = c .before .before .before in
+    rw (sym (e .before .head-fits .ensures) ∙ not-false _ (e .if1 .left), fit (c .before) ∙ not-true _ (c .if2 .taken))
 
--- src/writing.rt:111:30
 rules-at-requires : tie.Need-rules-at-requires
 rules-at-requires c κs = search needs
 
--- src/writing.rt:111:8
 has-fault-requires : tie.Need-has-fault-requires
 has-fault-requires c κs = search needs
 
--- src/writing.rt:112:9
+unused : (c : tie.After-has-fault) →
+    let a = c .before .before .before .before .before .before .before .before .before .before .args in
+    hasFault 2 (rulesAt (a .i)) (numbersIn (a .given)) ≡ c .has-fault .result
+unused c = rw (← c .before .rules-at .ensures, ← numbers-are (c .before .before .before .before .before .before .before)) (sym (c .has-fault .ensures))
+
 returns-3 : tie.Need-returns-3
-returns-3 c = ?
+unfolding takesAt
+returns-3 c =
+    let f = c .before .before .before in
+    let e = f .before .before .before in
+    rw (sym (e .before .head-fits .ensures) ∙ not-false _ (e .if1 .left), fit (f .before) ∙ not-false _ (f .if2 .left), unused (c .before) ∙ c .if3 .taken)
 
--- src/writing.rt:114:32
+small : (c : tie.Else2) → RowSmall (c .before .before .before .before .before .before .before .row-at .result) (c .before .before .before .before .before .numbers .result)
+small c =
+    let n = c .before .before .before .before .before in
+    let s = n .before .before .before in
+    rw (numbers-are n, n .before .before .row-at .ensures) (taken-small (s .args .i) (s .args .given) (s .pre) (fit (c .before) ∙ not-false _ (c .if2 .left)))
+
 listed-in-requires : tie.Need-listed-in-requires
-listed-in-requires c κs = ?
+listed-in-requires c κs = small (c .before .before .before)
 
--- src/writing.rt:114:9
 list-fits-requires : tie.Need-list-fits-requires
 list-fits-requires c κs = search needs
 
--- src/writing.rt:115:9
+list-ok : (c : tie.After-list-fits) →
+    let a = c .before .before .before .before .before .before .before .before .before .before .before .before .before .args in
+    listFits (rowAt (a .i) .step) (listed (a .i) (numbersIn (a .given))) (a .list) ≡ c .list-fits .result
+list-ok c =
+    let n = c .before .before .before .before .before .before .before .before .before .before in
+    rw (← numbers-are n, ← n .before .before .row-at .ensures, ← c .before .listed-in .ensures) (sym (c .list-fits .ensures))
+
 returns-4 : tie.Need-returns-4
-returns-4 c = ?
+unfolding takesAt
+returns-4 c =
+    let u = c .before .before .before in
+    let f = u .before .before .before in
+    let e = f .before .before .before in
+    rw (sym (e .before .head-fits .ensures) ∙ not-false _ (e .if1 .left), fit (f .before) ∙ not-false _ (f .if2 .left), unused (u .before) ∙ u .if3 .left, list-ok (c .before) ∙ not-true _ (c .if4 .taken))
 
--- src/writing.rt:117:12
 text-length-requires : tie.Need-text-length-requires
-text-length-requires c κs = ?
+text-length-requires c κs = small (c .before .before .before .before .before .before)
 
--- src/writing.rt:98:1
 returns-5 : tie.Need-returns-5
-returns-5 c = ?
+unfolding takesAt
+returns-5 c =
+    let k = c .before in
+    let u = k .before .before .before in
+    let f = u .before .before .before in
+    let e = f .before .before .before in
+    let n = e .before .before in
+    rw (sym (e .before .head-fits .ensures) ∙ not-false _ (e .if1 .left), fit (f .before) ∙ not-false _ (f .if2 .left), unused (u .before) ∙ u .if3 .left, list-ok (k .before) ∙ not-false _ (k .if4 .left), c .text-length .ensures, numbers-are n, n .before .before .row-at .ensures)
+    refl
 
 pub takes-spec : {M : Type 1} → statement M
 takes-spec =
     tie.close
-    (tie.spec
-    row-at-requires
-    field-in-requires
-    numbers-requires
-    head-fits-requires
-    returns
-    widths-at-requires
-    fit-all-requires
-    returns-2
-    rules-at-requires
-    has-fault-requires
-    returns-3
-    listed-in-requires
-    list-fits-requires
-    returns-4
-    text-length-requires
-    returns-5)
+    (tie.spec row-at-requires field-in-requires numbers-requires head-fits-requires returns widths-at-requires fit-all-requires returns-2 rules-at-requires has-fault-requires returns-3 listed-in-requires list-fits-requires returns-4 text-length-requires returns-5)
