@@ -3,3 +3,4 @@ pub mod Records
 pub mod Lists
 pub mod Reading
 pub mod Writing
+pub mod Claims

@@ -85,6 +85,10 @@ takes r l t = byPlace false (λ i. takesAt i r l (length t)) (placeOf (getD (num
 abbrev pub bitsAt : ℕ → Record → ℕ
 bitsAt i r = headBits r + sizeIn (rowAt i) (numbersIn r)
 
+-- the bits of a record
+unfoldable pub bitsIn : Record → ℕ
+bitsIn r = byPlace 0 (λ i. bitsAt i r) (placeOf (getD (numbersIn r) 0 0))
+
 -- all its parts: a relay's head, the type's parts, the list's entries, the text's bytes
 abbrev pub widthsIn : ℕ → Record → List ℕ → List ℕ
 widthsIn i r t = headWidths r ++ (widthsAt i ++ (replicate (listed i (numbersIn r)) (rowAt i .step) ++ replicate (length t) 8))

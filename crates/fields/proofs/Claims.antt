@@ -1,0 +1,140 @@
+-- The claims of specs/Claims.antt, from the laws.
+-- Assumes nothing.
+use Prim.Native.Nat.{ℕ, _+_, _/_, _≤_, _<_}
+use mathlib.Core.Path.{_≡_, refl, sym, ap, _∙_}
+use mathlib.Core.Bool.{Bool, true, false, cond}
+use mathlib.Core.List.{List, [], _∷_}
+use mathlib.Core.Logic.{_↔_, _⊎_, inl, inr}
+use native.Mathlib.Omega.{arith}
+use lib.IntN.{ℤ}
+use lib.Dec.{ltb}
+use lib.ListN.{length, getD}
+use borrow.Author.Tests.{lt-ltb, le-ltb, ltb-true}
+use Rattle.bits.specs.Bits.{bitAt, bitsOf}
+use Rattle.refusals.specs.declared.FieldRefusal.{FieldRefusal}
+use Rattle.refusals.specs.declared.FieldRefusal.the-variants.{NotWritable, NoRoom}
+use Rattle.fields.specs.declared.Place.{Place}
+use Rattle.fields.specs.declared.Place.the-variants.{At, Nowhere}
+use Rattle.fields.specs.declared.Record.{Record}
+use Rattle.fields.specs.declared.Answer.{Answer}
+use Rattle.fields.specs.declared.Answer.the-variants.{Accepted, Refused}
+use Rattle.fields.specs.declared.Written.{Written}
+use Rattle.fields.specs.declared.Written.the-variants as W
+use Rattle.fields.specs.Table.{table, rows, rowAt, placeFrom, placeOf, widths, widthsAt, rules, rulesAt, valuesOf, hasFault, countIn, sizeIn}
+use Rattle.fields.specs.Records.{fieldAt}
+use Rattle.fields.specs.Lists.{entryOf, anyUnused, entriesIn}
+use Rattle.fields.specs.Reading.{Test, fromSensor, sameWay, countOutOfRange, wrongByteCount, bitAfterCount, typeNotCarried, unknownType, wrongDirection, notRelayed, sizedBy, wrongBitCount, spareBitSet, blockCount, valueNotInUse, opens, firstOf, readTests, recordOf, answerOf, listedBy, listIn, readField}
+use Rattle.fields.specs.Writing.{numbersIn, takesAt, takes, bitsAt, bitsIn, writtenAt, writtenOf, leftAt, leftOf, putField}
+use Rattle.fields.specs.Claims.{Given, NoneGiven, RefusedExactly, AcceptedExactly, NotWritableExactly, NoRoomExactly, WrittenExactly, RefusedUntouched, C10, C11, C12}
+
+-- ---- the first test that holds
+
+module _ (x : Record) where
+  given-of : (r : FieldRefusal) (ts : List Test) → firstOf Refused (Accepted x) ts ≡ Refused r → Given r ts
+  given-of r [] e = absurd (let z : _≡_ {A = ℕ} 0 1 = cc in omega arith)
+  given-of r (t ∷ ts) e = go (t .holds) refl e (given-of r ts)
+    where
+      go : (b : Bool) → t .holds ≡ b → cond b (Refused (t .refusal)) (firstOf Refused (Accepted x) ts) ≡ Refused r → (firstOf Refused (Accepted x) ts ≡ Refused r → Given r ts) → Given r (t ∷ ts)
+      go true h q more = inl (h, (let z : t .refusal ≡ r = cc in z))
+      go false h q more = inr (h, more q)
+
+  of-given : (r : FieldRefusal) (ts : List Test) → Given r ts → firstOf Refused (Accepted x) ts ≡ Refused r
+  of-given r [] g = absurd g
+  of-given r (t ∷ ts) (inl g) = ap (λ (b : Bool). cond b (Refused (t .refusal)) (firstOf Refused (Accepted x) ts)) (g .0) ∙ ap Refused (g .1)
+  of-given r (t ∷ ts) (inr g) = ap (λ (b : Bool). cond b (Refused (t .refusal)) (firstOf Refused (Accepted x) ts)) (g .0) ∙ of-given r ts (g .1)
+
+  none-of : (y : Record) (ts : List Test) → firstOf Refused (Accepted x) ts ≡ Accepted y → NoneGiven ts × (x ≡ y)
+  none-of y [] e = (tt, (let z : x ≡ y = cc in z))
+  none-of y (t ∷ ts) e = go (t .holds) refl e (none-of y ts)
+    where
+      go : (b : Bool) → t .holds ≡ b → cond b (Refused (t .refusal)) (firstOf Refused (Accepted x) ts) ≡ Accepted y → (firstOf Refused (Accepted x) ts ≡ Accepted y → NoneGiven ts × (x ≡ y)) → NoneGiven (t ∷ ts) × (x ≡ y)
+      go true h q more = absurd (let z : _≡_ {A = ℕ} 0 1 = cc in omega arith)
+      go false h q more = let m = more q in ((h, m .0), m .1)
+
+  of-none : (y : Record) (ts : List Test) → NoneGiven ts → x ≡ y → firstOf Refused (Accepted x) ts ≡ Accepted y
+  of-none y [] g e = ap Accepted e
+  of-none y (t ∷ ts) g e = ap (λ (b : Bool). cond b (Refused (t .refusal)) (firstOf Refused (Accepted x) ts)) (g .0) ∙ of-none y ts (g .1) e
+
+pub refused-exactly : RefusedExactly
+unfolding answerOf
+refused-exactly s n w r = (given-of (recordOf s n w) r (readTests s n w), of-given (recordOf s n w) r (readTests s n w))
+
+pub accepted-exactly : AcceptedExactly
+unfolding answerOf
+accepted-exactly s n w x = (none-of (recordOf s n w) x (readTests s n w), λ h. of-none (recordOf s n w) x (readTests s n w) (h .0) (h .1))
+
+-- ---- the writer
+
+-- its answer, by whether it takes the record and whether there is room
+module _ (r : Record) (l : List ℤ) (t s : List ℕ) where
+  abbrev room : Bool
+  room = ltb (length s) ((bitsIn r + 7) / 8)
+
+  abbrev answer : Bool → Bool → Written
+  answer a b = cond a (cond b (W.Refused NoRoom) (W.Bits (bitsIn r))) (W.Refused NotWritable)
+
+  answer-is : writtenOf r l t s ≡ answer (takes r l t) room
+  unfolding writtenOf writtenAt takes bitsIn
+  answer-is = go (placeOf (getD (numbersIn r) 0 0)) refl
+    where
+      go : (p : Place) → placeOf (getD (numbersIn r) 0 0) ≡ p → writtenOf r l t s ≡ answer (takes r l t) room
+      go Nowhere e = rw e refl
+      go (At i) e = rw e refl
+
+  -- and the bytes it leaves
+  left-is : (x : FieldRefusal) → writtenOf r l t s ≡ W.Refused x → leftOf r l t s ≡ s
+  unfolding writtenOf writtenAt leftOf leftAt
+  left-is x h = go (placeOf (getD (numbersIn r) 0 0)) refl
+    where
+      inner : (i : ℕ) (a b : Bool) → cond a (cond b (W.Refused NoRoom) (W.Bits (bitsAt i r))) (W.Refused NotWritable) ≡ W.Refused x → cond a (cond b s (putField i r l t s)) s ≡ s
+      inner i true true q = refl
+      inner i true false q = absurd (let z : _≡_ {A = ℕ} 0 1 = cc in omega arith)
+      inner i false b q = refl
+
+      go : (p : Place) → placeOf (getD (numbersIn r) 0 0) ≡ p → leftOf r l t s ≡ s
+      go Nowhere e = rw e refl
+      go (At i) e = rw e (inner i (takesAt i r l (length t)) (ltb (length s) ((bitsAt i r + 7) / 8)) (rw e at h))
+
+  writable : (a b : Bool) → (answer a b ≡ W.Refused NotWritable) ↔ (a ≡ false)
+  writable true true = (λ q. absurd (let z : _≡_ {A = ℕ} 0 1 = cc in omega arith), λ q. absurd (let z : _≡_ {A = ℕ} 0 1 = cc in omega arith))
+  writable true false = (λ q. absurd (let z : _≡_ {A = ℕ} 0 1 = cc in omega arith), λ q. absurd (let z : _≡_ {A = ℕ} 0 1 = cc in omega arith))
+  writable false b = (λ q. refl, λ q. refl)
+
+  roomless : (a b : Bool) → (answer a b ≡ W.Refused NoRoom) ↔ ((a ≡ true) × (b ≡ true))
+  roomless true true = (λ q. (refl, refl), λ q. refl)
+  roomless true false = (λ q. absurd (let z : _≡_ {A = ℕ} 0 1 = cc in omega arith), λ q. absurd (let k = q .1 in let z : _≡_ {A = ℕ} 0 1 = cc in omega arith))
+  roomless false b = (λ q. absurd (let z : _≡_ {A = ℕ} 0 1 = cc in omega arith), λ q. absurd (let k = q .0 in let z : _≡_ {A = ℕ} 0 1 = cc in omega arith))
+
+pub not-writable-exactly : NotWritableExactly
+not-writable-exactly r l t s =
+    let w = writable r l t s (takes r l t) (room r l t s) in
+    (λ e. w .0 (sym (answer-is r l t s) ∙ e), λ e. answer-is r l t s ∙ w .1 e)
+
+pub no-room-exactly : NoRoomExactly
+no-room-exactly r l t s =
+    let w = roomless r l t s (takes r l t) (room r l t s) in (
+      λ e. let q = w .0 (sym (answer-is r l t s) ∙ e) in (q .0, ltb-true _ _ (q .1)),
+      λ e. answer-is r l t s ∙ w .1 (e .0, lt-ltb _ _ (e .1)),
+    )
+
+pub written-exactly : WrittenExactly
+written-exactly r l t s h k =
+    answer-is r l t s ∙ ap (λ (a : Bool). answer r l t s a (room r l t s)) h
+    ∙ ap (λ (b : Bool). answer r l t s true b) (le-ltb (length s) ((bitsIn r + 7) / 8) (omega arith))
+
+pub refused-untouched : RefusedUntouched
+refused-untouched r l t s x h = left-is r l t s x h
+
+-- ---- worked cases
+
+pub c10 : C10
+unfolding bitAt bitsOf table rows rowAt placeFrom widths widthsAt rules rulesAt valuesOf hasFault countIn sizeIn fieldAt entryOf anyUnused entriesIn fromSensor sameWay countOutOfRange wrongByteCount bitAfterCount typeNotCarried unknownType wrongDirection notRelayed sizedBy wrongBitCount spareBitSet blockCount valueNotInUse opens answerOf listedBy listIn readField
+c10 = refl
+
+pub c11 : C11
+unfolding bitAt bitsOf table rows rowAt placeFrom widths widthsAt rules rulesAt valuesOf hasFault countIn sizeIn fieldAt entryOf anyUnused entriesIn fromSensor sameWay countOutOfRange wrongByteCount bitAfterCount typeNotCarried unknownType wrongDirection notRelayed sizedBy wrongBitCount spareBitSet blockCount valueNotInUse opens answerOf
+c11 = refl
+
+pub c12 : C12
+unfolding bitAt bitsOf table rows rowAt placeFrom widths widthsAt rules rulesAt valuesOf hasFault countIn sizeIn fieldAt entryOf anyUnused entriesIn fromSensor sameWay countOutOfRange wrongByteCount bitAfterCount typeNotCarried unknownType wrongDirection notRelayed sizedBy wrongBitCount spareBitSet blockCount valueNotInUse opens answerOf listedBy listIn readField
+c12 = refl
