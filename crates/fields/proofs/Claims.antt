@@ -25,7 +25,9 @@ use Rattle.fields.specs.Records.{fieldAt}
 use Rattle.fields.specs.Lists.{entryOf, anyUnused, entriesIn}
 use Rattle.fields.specs.Reading.{Test, fromSensor, sameWay, countOutOfRange, wrongByteCount, bitAfterCount, typeNotCarried, unknownType, wrongDirection, notRelayed, sizedBy, wrongBitCount, spareBitSet, blockCount, valueNotInUse, opens, firstOf, readTests, recordOf, answerOf, listedBy, listIn, readField}
 use Rattle.fields.specs.Writing.{numbersIn, takesAt, takes, bitsAt, bitsIn, writtenAt, writtenOf, leftAt, leftOf, putField}
-use Rattle.fields.specs.Claims.{Given, NoneGiven, RefusedExactly, AcceptedExactly, NotWritableExactly, NoRoomExactly, WrittenExactly, RefusedUntouched, C10, C11, C12}
+use Rattle.fields.specs.Claims.{Given, NoneGiven, RefusedExactly, AcceptedExactly, NotWritableExactly, NoRoomExactly, WrittenExactly, RefusedUntouched, C10, C11, C12, PartsRead, PartsWrite, RecordBack, NumbersBack}
+use Rattle.fields.proofs.Puts.{fit-of}
+use Rattle.fields.proofs.Back.{parts-read, parts-write, placeIn, record-back, place-back, values-back}
 
 -- ---- the first test that holds
 
@@ -138,3 +140,20 @@ c11 = refl
 pub c12 : C12
 unfolding bitAt bitsOf table rows rowAt placeFrom widths widthsAt rules rulesAt valuesOf hasFault countIn sizeIn fieldAt entryOf anyUnused entriesIn fromSensor sameWay countOutOfRange wrongByteCount bitAfterCount typeNotCarried unknownType wrongDirection notRelayed sizedBy wrongBitCount spareBitSet blockCount valueNotInUse opens answerOf listedBy listIn readField
 c12 = refl
+
+-- ---- demand 2, its three parts
+
+pub parts-read-back : PartsRead
+parts-read-back s ws vs r f n = parts-read s 0 ws vs (omega arith) (fit-of ws vs n f)
+
+pub parts-write-back : PartsWrite
+parts-write-back = parts-write
+
+pub records-back : RecordBack
+records-back f = (
+  λ n. absurd (let e = place-back f in let z : _≡_ {A = ℕ} 0 1 = cc in omega arith),
+  λ i h. let e = place-back f in let q : placeIn f ≡ i = cc in rw (← q) (record-back f),
+)
+
+pub numbers-back : NumbersBack
+numbers-back = values-back

@@ -12,15 +12,11 @@ use lib.ListN.{length, take, drop, getD, replicate, length-drop}
 use lib.Seq.{drop-cons, take-all}
 use Rattle.bits.specs.Bits.{bitsOf}
 use Rattle.fields.specs.Table.{valuesOf, hasFault, faultOf}
+use Rattle.fields.specs.Writing.{sumOf}
 
 -- a part up to the end is all that is left
 pub rest-whole : (s : List ℕ) (k : ℕ) → take (length s - k) (drop k s) ≡ drop k s
 rest-whole s k = take-all (length s - k) (drop k s) (rw length-drop (omega arith))
-
--- how many bits parts have together
-abbrev pub sumOf : List ℕ → ℕ
-sumOf [] = 0
-sumOf (w ∷ ws) = w + sumOf ws
 
 pub sumOf-snoc : (ws : List ℕ) (w : ℕ) → sumOf (ws ++ (w ∷ [])) ≡ sumOf ws + w
 sumOf-snoc [] w = omega arith

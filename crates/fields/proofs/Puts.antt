@@ -22,7 +22,7 @@ use Rattle.fields.specs.Lists.{entryBits, entriesBits, entryFits, entryO
 use Rattle.fields.specs.Writing.{putAll, fitAll, headBits}
 use Rattle.fields.proofs.Rows.{Fit}
 use Rattle.fields.proofs.Entries.{next}
-use Rattle.fields.proofs.Parts.{sumOf}
+use Rattle.fields.specs.Writing.{sumOf}
 
 -- ---- parts one by one
 

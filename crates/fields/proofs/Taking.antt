@@ -21,7 +21,7 @@ use Rattle.fields.specs.Lists.{listFits, entriesBits}
 use Rattle.fields.specs.Reading.{listed, listedBy}
 use Rattle.fields.specs.Writing.{numbersIn, fieldIn, headBits, headWidths, headValues, headFits, fitAll, textLength, textLengthBy, takesAt, widthsIn, valuesIn, putAll}
 use Rattle.fields.proofs.Rows.{below-at, Fit, row-small, count-small}
-use Rattle.fields.proofs.Parts.{sumOf}
+use Rattle.fields.specs.Writing.{sumOf}
 use Rattle.fields.proofs.Puts.{both-true, fit-of, listFits-room, putAll-join, entriesBits-length}
 
 -- ---- lengths

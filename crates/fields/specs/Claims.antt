@@ -1,24 +1,27 @@
 -- What is claimed of link data fields. Statements only; proofs/Claims.antt proves them.
-use Prim.Native.Nat.{ℕ, _+_, _/_, _<_}
+use Prim.Native.Nat.{ℕ, _+_, _*_, _/_, _≤_, _<_}
 use mathlib.Core.Path.{_≡_}
 use mathlib.Core.Bool.{true, false}
 use mathlib.Core.List.{List, [], _∷_}
 use mathlib.Core.Logic.{_↔_, _⊎_}
 use lib.IntN.{ℤ, pos, negsuc}
-use lib.ListN.{length, replicate}
+use lib.ListN.{length, getD, replicate}
+use Rattle.bits.specs.Bits.{bitsOf, Bytes}
 use Rattle.refusals.specs.declared.FieldRefusal.{FieldRefusal}
 use Rattle.refusals.specs.declared.FieldRefusal.the-variants.{ValueNotInUse, NotWritable, NoRoom}
 use Rattle.fields.specs.declared.Direction.{Direction}
 use Rattle.fields.specs.declared.Direction.the-variants.{ToSensor, FromSensor}
+use Rattle.fields.specs.declared.Place.the-variants.{At, Nowhere}
 use Rattle.fields.specs.declared.Field.{Field}
 use Rattle.fields.specs.declared.Field.the-variants.{TacticalUplink, AltimeterCorrection}
 use Rattle.fields.specs.declared.Record.{Record}
 use Rattle.fields.specs.declared.Record.the-variants.{Single, Relay}
 use Rattle.fields.specs.declared.Answer.the-variants.{Accepted, Refused}
 use Rattle.fields.specs.declared.Written.the-variants as W
-use Rattle.fields.specs.Lists.{entriesIn}
-use Rattle.fields.specs.Reading.{Test, readTests, recordOf, answerOf, readField}
-use Rattle.fields.specs.Writing.{takes, bitsIn, writtenOf, leftOf}
+use Rattle.fields.specs.Table.{placeOf, rowAt, rulesAt, valuesOf, hasFault}
+use Rattle.fields.specs.Records.{fieldOf, numbersOf}
+use Rattle.fields.specs.Reading.{valuesAt, Test, readTests, recordOf, answerOf, readField}
+use Rattle.fields.specs.Writing.{fitAll, sumOf, putAll, takes, bitsIn, writtenOf, leftOf}
 
 -- ---- each refusal exactly under its condition
 
@@ -76,3 +79,24 @@ abbrev pub C12 : Type 0
 C12 =
     readField (0x21 ∷ 0xA1 ∷ 0xB2 ∷ 0xC3 ∷ 0x5B ∷ replicate 7 0) 96 ToSensor
     ≡ record { answer = Accepted (Single (TacticalUplink 0xA1B2C3 5 1 3 0)); list = replicate 30 (pos 0) }
+
+-- ---- demand 2, its three parts
+
+-- values that fit their widths, written as parts, read back
+abbrev pub PartsRead : Type 0
+PartsRead = (s ws vs : List ℕ) → sumOf ws ≤ length s * 8 → fitAll ws vs ≡ true → length ws ≡ length vs → valuesOf (putAll s 0 ws vs) 0 ws ≡ vs
+
+-- the parts of whole bytes, read and written over zeros, give the bytes
+abbrev pub PartsWrite : Type 0
+PartsWrite = (s ws : List ℕ) → Bytes s → sumOf ws ≡ length s * 8 → putAll (replicate (length s) 0) 0 ws (valuesOf s 0 ws) ≡ s
+
+-- a record's parts make the record again, by the row of its type
+abbrev pub RecordBack : Type 0
+RecordBack =
+    (f : Field) → (placeOf (getD (numbersOf f) 0 0) ≡ Nowhere → ⊥) × ((i : ℕ) → placeOf (getD (numbersOf f) 0 0) ≡ At i → fieldOf i (numbersOf f) ≡ f)
+
+-- values that were read at a type's place, with no spare bit one and the type's code first, are those of the record that they make
+abbrev pub NumbersBack : Type 0
+NumbersBack =
+    (s : List ℕ) (a i : ℕ) → i < 21 → bitsOf s a 8 ≡ rowAt i .code → hasFault 1 (rulesAt i) (valuesAt s a i) ≡ false
+    → numbersOf (fieldOf i (valuesAt s a i)) ≡ valuesAt s a i

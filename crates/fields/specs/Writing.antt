@@ -102,6 +102,11 @@ putAll s a [] vs = s
 putAll s a (w ∷ ws) [] = s
 putAll s a (w ∷ ws) (v ∷ vs) = putAll (putBits s a w v) (a + w) ws vs
 
+-- how many bits parts have together
+abbrev pub sumOf : List ℕ → ℕ
+sumOf [] = 0
+sumOf (w ∷ ws) = w + sumOf ws
+
 -- how many bits of its last byte a field of n bits leaves
 abbrev pub fillOf : ℕ → ℕ
 fillOf n = (8 - n % 8) % 8

@@ -10,7 +10,8 @@ use lib.ListN.{length, take, getD, length-set}
 use lib.Seq.{take-suc, take-suc-set, take-all}
 use Rattle.bits.proofs.Laws.{whole}
 use Rattle.fields.specs.Table.{valuesOf}
-use Rattle.fields.proofs.Parts.{sumOf, sumOf-snoc, valuesOf-snoc}
+use Rattle.fields.proofs.Parts.{sumOf-snoc, valuesOf-snoc}
+use Rattle.fields.specs.Writing.{sumOf}
 use Rattle.fields.proofs.reading.values.Statement.{statement}
 use Rattle.fields.proofs.reading.values.Tie as tie
 
