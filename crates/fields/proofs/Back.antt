@@ -88,11 +88,11 @@ parts-bits z s a (w ∷ ws) p r h k =
     go (yes l) more = putAll-before (putBits z a w (bitsOf s a w)) (a + w) ws (valuesOf s (a + w) ws) p l ∙ put-read z s a w p (omega arith) h l
     go (no l) more = more (omega arith)
 
-zeros-bytes : (n : ℕ) → Bytes (replicate n 0)
+pub zeros-bytes : (n : ℕ) → Bytes (replicate n 0)
 zeros-bytes zero = tt
 zeros-bytes (suc n) = (omega arith, zeros-bytes n)
 
-putAll-bytes : (s : List ℕ) (a : ℕ) (ws vs : List ℕ) → Bytes s → Bytes (putAll s a ws vs)
+pub putAll-bytes : (s : List ℕ) (a : ℕ) (ws vs : List ℕ) → Bytes s → Bytes (putAll s a ws vs)
 unfolding putAll
 putAll-bytes s a [] vs b = b
 putAll-bytes s a (w ∷ ws) [] b = b
@@ -245,10 +245,10 @@ masked-same (r ∷ rs) (v ∷ vs) n h =
     rw (e, m) refl
 
 -- the first of the values is the type
-abbrev first-is : List ℕ → ℕ → ℕ → Type 0
+abbrev pub first-is : List ℕ → ℕ → ℕ → Type 0
 first-is s a i = (getD (valuesAt s a i) 0 0 ≡ bitsOf s a 8) × (length (rulesAt i) ≡ length (valuesAt s a i)) × (named (getD (valuesAt s a i) 0 0) (valuesAt s a i) ≡ valuesAt s a i)
 
-first-eight : (s : List ℕ) (a i : ℕ) → i < 21 → first-is s a i
+pub first-eight : (s : List ℕ) (a i : ℕ) → i < 21 → first-is s a i
 unfolding table widths widthsAt rules rulesAt valuesOf
 first-eight s a zero h = (refl, refl, refl)
 first-eight s a (suc zero) h = (refl, refl, refl)

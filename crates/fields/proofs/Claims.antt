@@ -8,9 +8,9 @@ use mathlib.Core.Logic.{_↔_, _⊎_, inl, inr}
 use native.Mathlib.Omega.{arith}
 use lib.IntN.{ℤ}
 use lib.Dec.{ltb}
-use lib.ListN.{length, getD}
+use lib.ListN.{length, getD, replicate, length-replicate}
 use borrow.Author.Tests.{lt-ltb, le-ltb, ltb-true}
-use Rattle.bits.specs.Bits.{bitAt, bitsOf}
+use Rattle.bits.specs.Bits.{bitAt, bitsOf, Bytes}
 use Rattle.refusals.specs.declared.FieldRefusal.{FieldRefusal}
 use Rattle.refusals.specs.declared.FieldRefusal.the-variants.{NotWritable, NoRoom}
 use Rattle.fields.specs.declared.Place.{Place}
@@ -23,47 +23,22 @@ use Rattle.fields.specs.declared.Written.the-variants as W
 use Rattle.fields.specs.Table.{table, rows, rowAt, placeFrom, placeOf, widths, widthsAt, rules, rulesAt, valuesOf, hasFault, countIn, sizeIn}
 use Rattle.fields.specs.Records.{fieldAt}
 use Rattle.fields.specs.Lists.{entryOf, anyUnused, entriesIn}
-use Rattle.fields.specs.Reading.{Test, fromSensor, sameWay, countOutOfRange, wrongByteCount, bitAfterCount, typeNotCarried, unknownType, wrongDirection, notRelayed, sizedBy, wrongBitCount, spareBitSet, blockCount, valueNotInUse, opens, firstOf, readTests, recordOf, answerOf, listedBy, listIn, readField}
-use Rattle.fields.specs.Writing.{numbersIn, takesAt, takes, bitsAt, bitsIn, writtenAt, writtenOf, leftAt, leftOf, putField}
-use Rattle.fields.specs.Claims.{Given, NoneGiven, RefusedExactly, AcceptedExactly, NotWritableExactly, NoRoomExactly, WrittenExactly, RefusedUntouched, C10, C11, C12, PartsRead, PartsWrite, RecordBack, NumbersBack}
+use Rattle.fields.specs.Reading.{Test, fromSensor, sameWay, countOutOfRange, wrongByteCount, bitAfterCount, typeNotCarried, unknownType, wrongDirection, notRelayed, sizedBy, wrongBitCount, spareBitSet, blockCount, valueNotInUse, opens, firstOf, readTests, recordOf, answerOf, listedBy, listIn, readField, textOf}
+use Rattle.fields.specs.Writing.{fieldIn, numbersIn, wayIn, bytesIn, takesAt, takes, bitsAt, bitsIn, writtenAt, writtenOf, leftAt, leftOf, putField}
+use Rattle.fields.specs.Claims.{Given, NoneGiven, RefusedExactly, AcceptedExactly, NotWritableExactly, NoRoomExactly, WrittenExactly, RefusedUntouched, C10, C11, C12, PartsRead, PartsWrite, RecordBack, NumbersBack, WrittenReads, WrittenBytes}
+use Rattle.fields.proofs.Taking.{taken}
+use Rattle.fields.proofs.Return.{place-low, read-is, text-read}
 use Rattle.fields.proofs.Puts.{fit-of}
+use Rattle.fields.proofs.Exactly as exactly
 use Rattle.fields.proofs.Back.{parts-read, parts-write, placeIn, record-back, place-back, values-back}
 
--- ---- the first test that holds
-
-module _ (x : Record) where
-  given-of : (r : FieldRefusal) (ts : List Test) → firstOf Refused (Accepted x) ts ≡ Refused r → Given r ts
-  given-of r [] e = absurd (let z : _≡_ {A = ℕ} 0 1 = cc in omega arith)
-  given-of r (t ∷ ts) e = go (t .holds) refl e (given-of r ts)
-    where
-      go : (b : Bool) → t .holds ≡ b → cond b (Refused (t .refusal)) (firstOf Refused (Accepted x) ts) ≡ Refused r → (firstOf Refused (Accepted x) ts ≡ Refused r → Given r ts) → Given r (t ∷ ts)
-      go true h q more = inl (h, (let z : t .refusal ≡ r = cc in z))
-      go false h q more = inr (h, more q)
-
-  of-given : (r : FieldRefusal) (ts : List Test) → Given r ts → firstOf Refused (Accepted x) ts ≡ Refused r
-  of-given r [] g = absurd g
-  of-given r (t ∷ ts) (inl g) = ap (λ (b : Bool). cond b (Refused (t .refusal)) (firstOf Refused (Accepted x) ts)) (g .0) ∙ ap Refused (g .1)
-  of-given r (t ∷ ts) (inr g) = ap (λ (b : Bool). cond b (Refused (t .refusal)) (firstOf Refused (Accepted x) ts)) (g .0) ∙ of-given r ts (g .1)
-
-  none-of : (y : Record) (ts : List Test) → firstOf Refused (Accepted x) ts ≡ Accepted y → NoneGiven ts × (x ≡ y)
-  none-of y [] e = (tt, (let z : x ≡ y = cc in z))
-  none-of y (t ∷ ts) e = go (t .holds) refl e (none-of y ts)
-    where
-      go : (b : Bool) → t .holds ≡ b → cond b (Refused (t .refusal)) (firstOf Refused (Accepted x) ts) ≡ Accepted y → (firstOf Refused (Accepted x) ts ≡ Accepted y → NoneGiven ts × (x ≡ y)) → NoneGiven (t ∷ ts) × (x ≡ y)
-      go true h q more = absurd (let z : _≡_ {A = ℕ} 0 1 = cc in omega arith)
-      go false h q more = let m = more q in ((h, m .0), m .1)
-
-  of-none : (y : Record) (ts : List Test) → NoneGiven ts → x ≡ y → firstOf Refused (Accepted x) ts ≡ Accepted y
-  of-none y [] g e = ap Accepted e
-  of-none y (t ∷ ts) g e = ap (λ (b : Bool). cond b (Refused (t .refusal)) (firstOf Refused (Accepted x) ts)) (g .0) ∙ of-none y ts (g .1) e
+-- ---- the reader
 
 pub refused-exactly : RefusedExactly
-unfolding answerOf
-refused-exactly s n w r = (given-of (recordOf s n w) r (readTests s n w), of-given (recordOf s n w) r (readTests s n w))
+refused-exactly = exactly.refused-exactly
 
 pub accepted-exactly : AcceptedExactly
-unfolding answerOf
-accepted-exactly s n w x = (none-of (recordOf s n w) x (readTests s n w), λ h. of-none (recordOf s n w) x (readTests s n w) (h .0) (h .1))
+accepted-exactly = exactly.accepted-exactly
 
 -- ---- the writer
 
@@ -157,3 +132,33 @@ records-back f = (
 
 pub numbers-back : NumbersBack
 numbers-back = values-back
+
+module _ (r : Record) (l : List ℤ) (t : List ℕ) (h : takes r l t ≡ true) where
+  abbrev i : ℕ
+  i = placeIn (fieldIn r)
+
+  at : placeOf (getD (numbersIn r) 0 0) ≡ At i
+  at = place-back (fieldIn r)
+
+  taken-at : takesAt i r l (length t) ≡ true
+  unfolding takes
+  taken-at = rw at at h
+
+  pub written-reads-at : length l ≡ 30 → Bytes t
+      → (readField (bytesIn r l t) (bitsIn r) (wayIn r) ≡ record { answer = Accepted r; list = l }) × (textOf (bytesIn r l t) (bitsIn r) (wayIn r) ≡ t)
+  unfolding bytesIn bitsIn wayIn
+  written-reads-at n b =
+      let k = taken i r l (length t) taken-at in
+      let low = place-low (fieldIn r) in
+      rw at (read-is i r l t low at k n b, text-read i r l t low at k n b)
+
+  pub written-bytes-at : leftOf r l t (replicate ((bitsIn r + 7) / 8) 0) ≡ bytesIn r l t
+  unfolding leftOf leftAt bytesIn bitsIn
+  written-bytes-at =
+      rw (at, length-replicate {A = ℕ} ((bitsAt i r + 7) / 8) 0, taken-at, le-ltb ((bitsAt i r + 7) / 8) ((bitsAt i r + 7) / 8) (omega arith)) refl
+
+pub written-reads : WrittenReads
+written-reads r l t h = written-reads-at r l t h
+
+pub written-bytes : WrittenBytes
+written-bytes r l t h = written-bytes-at r l t h

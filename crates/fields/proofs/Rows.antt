@@ -121,7 +121,7 @@ unfolding valuesOf
 values-fit s a [] = tt
 values-fit s a (w ∷ ws) = (bitsOf-lt s a w, values-fit s (a + w) ws)
 
-fit-at : (ws vs : List ℕ) → Fit ws vs → (k : ℕ) → getD vs k 0 < 2 ^ getD ws k 0
+pub fit-at : (ws vs : List ℕ) → Fit ws vs → (k : ℕ) → getD vs k 0 < 2 ^ getD ws k 0
 fit-at [] [] f k = omega arith
 fit-at [] (v ∷ vs) f k = absurd f
 fit-at (w ∷ ws) [] f k = absurd f

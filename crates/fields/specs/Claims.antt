@@ -20,8 +20,8 @@ use Rattle.fields.specs.declared.Answer.the-variants.{Accepted, Refused}
 use Rattle.fields.specs.declared.Written.the-variants as W
 use Rattle.fields.specs.Table.{placeOf, rowAt, rulesAt, valuesOf, hasFault}
 use Rattle.fields.specs.Records.{fieldOf, numbersOf}
-use Rattle.fields.specs.Reading.{valuesAt, Test, readTests, recordOf, answerOf, readField}
-use Rattle.fields.specs.Writing.{fitAll, sumOf, putAll, takes, bitsIn, writtenOf, leftOf}
+use Rattle.fields.specs.Reading.{valuesAt, Test, readTests, recordOf, answerOf, readField, textOf}
+use Rattle.fields.specs.Writing.{fitAll, sumOf, putAll, takes, bitsIn, wayIn, bytesIn, writtenOf, leftOf}
 
 -- ---- each refusal exactly under its condition
 
@@ -100,3 +100,14 @@ abbrev pub NumbersBack : Type 0
 NumbersBack =
     (s : List ℕ) (a i : ℕ) → i < 21 → bitsOf s a 8 ≡ rowAt i .code → hasFault 1 (rulesAt i) (valuesAt s a i) ≡ false
     → numbersOf (fieldOf i (valuesAt s a i)) ≡ valuesAt s a i
+
+-- of the records that the writer takes, one that is written and read gives the same record, list and text: the relay included
+abbrev pub WrittenReads : Type 0
+WrittenReads =
+    (r : Record) (l : List ℤ) (t : List ℕ) → takes r l t ≡ true → length l ≡ 30 → Bytes t
+    → (readField (bytesIn r l t) (bitsIn r) (wayIn r) ≡ record { answer = Accepted r; list = l }) × (textOf (bytesIn r l t) (bitsIn r) (wayIn r) ≡ t)
+
+-- and what the writer leaves in a lent buffer of just that length is those bytes
+abbrev pub WrittenBytes : Type 0
+WrittenBytes =
+    (r : Record) (l : List ℤ) (t : List ℕ) → takes r l t ≡ true → leftOf r l t (replicate ((bitsIn r + 7) / 8) 0) ≡ bytesIn r l t

@@ -9,6 +9,8 @@ use lib.ListN.{length, getD, replicate}
 use Rattle.bits.specs.Bits.{putBits}
 use Rattle.refusals.specs.declared.FieldRefusal.the-variants.{NotWritable, NoRoom}
 use Rattle.refusals.specs.Numbers.{fieldNumber}
+use Rattle.fields.specs.declared.Direction.{Direction}
+use Rattle.fields.specs.declared.Direction.the-variants.{ToSensor}
 use Rattle.fields.specs.declared.Row.{Row}
 use Rattle.fields.specs.declared.Field.{Field}
 use Rattle.fields.specs.declared.Record.{Record}
@@ -132,6 +134,14 @@ leftAt i r l t s = cond (takesAt i r l (length t)) (cond (noRoom i r (length s))
 
 unfoldable pub leftOf : Record → List ℤ → List ℕ → List ℕ → List ℕ
 leftOf r l t s = byPlace s (λ i. leftAt i r l t s) (placeOf (getD (numbersIn r) 0 0))
+
+-- ---- a record's field: its direction, and its bytes, as they are written over zeros that are just long enough
+
+unfoldable pub wayIn : Record → Direction
+wayIn r = byPlace ToSensor (λ i. rowAt i .way) (placeOf (getD (numbersIn r) 0 0))
+
+unfoldable pub bytesIn : Record → List ℤ → List ℕ → List ℕ
+bytesIn r l t = byPlace [] (λ i. putField i r l t (replicate ((bitsAt i r + 7) / 8) 0)) (placeOf (getD (numbersIn r) 0 0))
 
 -- ---- the number of an answer: 0, or the refusal's
 
