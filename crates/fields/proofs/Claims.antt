@@ -8,7 +8,7 @@ use mathlib.Core.Logic.{_↔_, _⊎_, inl, inr}
 use native.Mathlib.Omega.{arith}
 use lib.IntN.{ℤ}
 use lib.Dec.{ltb}
-use lib.ListN.{length, getD, replicate, length-replicate}
+use lib.ListN.{length, getD, drop, replicate, length-replicate}
 use borrow.Author.Tests.{lt-ltb, le-ltb, ltb-true}
 use Rattle.bits.specs.Bits.{bitAt, bitsOf, Bytes}
 use Rattle.refusals.specs.declared.FieldRefusal.{FieldRefusal}
@@ -23,11 +23,14 @@ use Rattle.fields.specs.declared.Written.the-variants as W
 use Rattle.fields.specs.Table.{table, rows, rowAt, placeFrom, placeOf, widths, widthsAt, rules, rulesAt, valuesOf, hasFault, countIn, sizeIn}
 use Rattle.fields.specs.Records.{fieldAt}
 use Rattle.fields.specs.Lists.{entryOf, anyUnused, entriesIn}
-use Rattle.fields.specs.Reading.{Test, fromSensor, sameWay, countOutOfRange, wrongByteCount, bitAfterCount, typeNotCarried, unknownType, wrongDirection, notRelayed, sizedBy, wrongBitCount, spareBitSet, blockCount, valueNotInUse, opens, firstOf, readTests, recordOf, answerOf, listedBy, listIn, readField, textOf}
+use Rattle.fields.specs.Reading.{Test, fromSensor, sameWay, countOutOfRange, wrongByteCount, bitAfterCount, typeNotCarried, unknownType, wrongDirection, notRelayed, sizedBy, wrongBitCount, spareBitSet, blockCount, valueNotInUse, opens, firstOf, readTests, recordOf, answerOf, listedBy, listIn, startOf, listOf, textIn, textPlace, readField, textOf}
 use Rattle.fields.specs.Writing.{fieldIn, numbersIn, wayIn, bytesIn, takesAt, takes, bitsAt, bitsIn, writtenAt, writtenOf, leftAt, leftOf, putField}
-use Rattle.fields.specs.Claims.{Given, NoneGiven, RefusedExactly, AcceptedExactly, NotWritableExactly, NoRoomExactly, WrittenExactly, RefusedUntouched, C10, C11, C12, PartsRead, PartsWrite, RecordBack, NumbersBack, WrittenReads, WrittenBytes}
+use Rattle.fields.specs.Claims.{Given, NoneGiven, RefusedExactly, AcceptedExactly, NotWritableExactly, NoRoomExactly, WrittenExactly, RefusedUntouched, C10, C11, C12, PartsRead, PartsWrite, RecordBack, NumbersBack, WrittenReads, WrittenBytes, FieldsMean}
+use Rattle.fields.specs.declared.Direction.{Direction}
+use Rattle.fields.specs.declared.Found.{Found}
+use Rattle.fields.proofs.Forth.{place, place-is, way-is, head-is, takes-is, bits-is, bytes-is, way-same, entries-length, drop-bytes}
 use Rattle.fields.proofs.Taking.{taken}
-use Rattle.fields.proofs.Return.{place-low, read-is, text-read}
+use Rattle.fields.proofs.Return.{place-low, read-is, text-read, text-place}
 use Rattle.fields.proofs.Puts.{fit-of}
 use Rattle.fields.proofs.Exactly as exactly
 use Rattle.fields.proofs.Back.{parts-read, parts-write, placeIn, record-back, place-back, values-back}
@@ -162,3 +165,44 @@ written-reads r l t h = written-reads-at r l t h
 
 pub written-bytes : WrittenBytes
 written-bytes r l t h = written-bytes-at r l t h
+
+-- ---- demand 2
+
+-- what is written for a record, a list and a text, and that the writer takes them
+abbrev Means : List ℕ → ℕ → Direction → Record → List ℤ → List ℕ → Type 0
+Means s n w r l t = (s ≡ bytesIn r l t) × (n ≡ bitsIn r) × (w ≡ wayIn r) × (takes r l t ≡ true) × (length l ≡ 30) × Bytes t
+
+forth : (s : List ℕ) (n : ℕ) (w : Direction) → Bytes s → NoneGiven (readTests s n w)
+    → Means s n w (recordOf s n w) (listOf s (Accepted (recordOf s n w))) (drop (textIn s (startOf s n w)) s)
+unfolding bytesIn bitsIn wayIn takes
+forth s n w b none =
+    let p = place s n w b none in
+    let i = p .0 in
+    let h = p .1 in
+    let q = place-is s n w b none i h in (
+      rw q (sym (bytes-is s n w b none i h)),
+      rw q (sym (bits-is s n w b none i h)),
+      rw q (way-same (rowAt i .way) w (way-is s n w b none i h)),
+      rw q (takes-is s n w b none i h),
+      ap length (head-is s n w b none i h .4) ∙ entries-length (rowAt i .step) 30 _,
+      drop-bytes s (textIn s (startOf s n w)) b,
+    )
+
+pub fields-mean : FieldsMean
+unfolding readField textOf
+fields-mean s n w r l t b = (there, back)
+  where
+    there : (readField s n w ≡ record { answer = Accepted r; list = l }) × (textOf s n w ≡ t) → Means s n w r l t
+    there e =
+        let a : answerOf s n w ≡ Accepted r = ap (λ (f : Found). f .answer) (e .0) in
+        let x = exactly.accepted-exactly s n w r .0 a in
+        let p = place s n w b (x .0) in
+        let er = x .1 in
+        let c : answerOf s n w ≡ Accepted (recordOf s n w) = a ∙ ap Accepted (sym er) in
+        let el : listOf s (Accepted (recordOf s n w)) ≡ l = ap (listOf s) (sym c) ∙ ap (λ (f : Found). f .list) (e .0) in
+        let et : drop (textIn s (startOf s n w)) s ≡ t =
+        sym (ap (λ (y : Answer). drop (textPlace s y) s) c ∙ ap (λ (k : ℕ). drop k s) (text-place s (recordOf s n w) ∙ ap (textIn s) (head-is s n w b (x .0) (p .0) (p .1) .1))) ∙ e .1 in
+        rw (← er, ← el, ← et) (forth s n w b (x .0))
+
+    back : Means s n w r l t → (readField s n w ≡ record { answer = Accepted r; list = l }) × (textOf s n w ≡ t)
+    back e = rw (e .0, e .1, e .2) (written-reads r l t (e .3) (e .4) (e .5))

@@ -6,6 +6,7 @@ use mathlib.Core.Logic.{_⊎_, inl, inr}
 use mathlib.Core.Bool.{Bool, true, false, cond, not, _&&_, _||_}
 use Prim.Native.Nat.{ℕ, zero, suc, _+_, _-_, _*_, _/_, _%_, _≤_, _<_, _^_, zero-le}
 use native.Mathlib.Nat.{mul-le-mul-left}
+use native.Mathlib.Decide.{ℕ-discrete}
 use native.Mathlib.Omega.{arith}
 use lib.Dec.{T, eqb, ltb, leb, leb→le, eqb→eq}
 use lib.ListN.{length, getD, List·getD-eq-default}
@@ -118,3 +119,27 @@ steps-told r vs = go (eqb (r .step) 80) refl
     go : (b : Bool) → eqb (r .step) 80 ≡ b → r .step * cond (eqb (r .step) 80) 0 (countIn r vs) + 8 * cond (eqb (r .step) 80) (10 * countIn r vs) 0 ≡ r .step * countIn r vs
     go true e = rw (e, eqb-true (r .step) 80 e) (omega arith)
     go false e = rw e (omega arith)
+
+-- of all rows only the relay's has its code
+pub below-relay : (i : ℕ) → i < 22 → eqb (rowAt i .code) 0x03 ≡ false → i < 21
+unfolding table rows rowAt
+below-relay i h e = go (ℕ-discrete i 21)
+  where
+    go : Dec (i ≡ 21) → i < 21
+    go (yes q) = absurd (let y : true ≡ false = (rw q at e) in let z : _≡_ {A = ℕ} 0 1 = cc in omega arith)
+    go (no f) = omega arith
+
+-- no list has more than thirty entries
+pub listed-most : (i : ℕ) (vs : List ℕ) → i < 22 → Fit (widthsAt i) vs → listedBy (rowAt i) vs ≤ 30
+unfolding table rows rowAt widths widthsAt listedBy countIn
+listed-most i vs h f = go (eqb (rowAt i .step) 80) (below-at (λ (j : ℕ). eqb (rowAt j .step) 80 || leb (most (rowAt j) (widthsAt j)) 30) 22 tt i h)
+  where
+    go : (b : Bool) → T (b || leb (most (rowAt i) (widthsAt i)) 30) → cond b 0 (countIn (rowAt i) vs) ≤ 30
+    go true t = zero-le
+    go false t =
+        let r = rowAt i in
+        let ws = widthsAt i in
+        let x = fit-at ws vs f (r .first) in
+        let y = fit-at ws vs f (r .second) in
+        let z = fit-at ws vs f (r .third) in
+        omega (arith, leb→le (most r ws) 30 t)

@@ -164,7 +164,7 @@ listed-by s i (Single f) l p v x h n z =
     rw (p, v, y) (list-back (rowAt i .step) (listed i (numbersOf f)) l 30 n h)
 listed-by s i (Relay x f) l p v y h n z = rw (z refl) at (list-back (rowAt i .step) (listed i (numbersOf f)) l 30 n h)
 
-text-place : (s : List ℕ) (r : Record) → textPlace s (Accepted r) ≡ textIn s (headBits r)
+pub text-place : (s : List ℕ) (r : Record) → textPlace s (Accepted r) ≡ textIn s (headBits r)
 text-place s (Single f) = refl
 text-place s (Relay x f) = refl
 

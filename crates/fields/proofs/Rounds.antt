@@ -98,7 +98,7 @@ digits x k q d n e m h s =
     let v : x % 16 ≡ d = omega arith in
     rw (u, v, m) s
 
-tens : (n : ℕ) → n / 10 * 10 + n % 10 ≡ n
+pub tens : (n : ℕ) → n / 10 * 10 + n % 10 ≡ n
 tens n = omega arith
 
 block-back : (z : ℤ) → natAbs z < 80 → blockOf (blockBits z) ≡ z

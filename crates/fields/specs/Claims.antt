@@ -111,3 +111,11 @@ WrittenReads =
 abbrev pub WrittenBytes : Type 0
 WrittenBytes =
     (r : Record) (l : List ℤ) (t : List ℕ) → takes r l t ≡ true → leftOf r l t (replicate ((bitsIn r + 7) / 8) 0) ≡ bytesIn r l t
+
+-- demand 2 for link data fields: a field is read as a record, a list and a text exactly when its bytes, its count and its direction are those
+-- that are written for them, and the writer takes them. The list is thirty numbers, and the text is bytes
+abbrev pub FieldsMean : Type 0
+FieldsMean =
+    (s : List ℕ) (n : ℕ) (w : Direction) (r : Record) (l : List ℤ) (t : List ℕ) → Bytes s
+    → ((readField s n w ≡ record { answer = Accepted r; list = l }) × (textOf s n w ≡ t))
+    ↔ ((s ≡ bytesIn r l t) × (n ≡ bitsIn r) × (w ≡ wayIn r) × (takes r l t ≡ true) × (length l ≡ 30) × Bytes t)
