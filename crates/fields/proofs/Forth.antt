@@ -26,7 +26,7 @@ use Rattle.fields.specs.declared.Record.the-variants.{Single, Relay}
 use Rattle.fields.specs.declared.Answer.the-variants.{Accepted}
 use Rattle.fields.specs.Records.{fieldOf, numbersOf}
 use Rattle.fields.proofs.Puts.{both-true, putAll-join}
-use Rattle.fields.proofs.Parts.{valuesOf-snoc}
+use Rattle.fields.proofs.Values.{valuesOf-snoc}
 use Rattle.fields.proofs.Back.{values-back, first-eight, parts-write}
 use Rattle.fields.proofs.Facts.{below-relay, listed-most, from-no-list, no-steps, step-told, text-whole, steps-told}
 use Rattle.fields.proofs.Taking.{widths-length, widths-sum, sum-same}

@@ -1,6 +1,7 @@
 // Link data fields (document 01, "Link data fields"; document 004, 5.3): the records, the answers, and the calls that read and write them.
 // Relies on `bits` for the bits of lent bytes and on `refusals` for the names and numbers of what is refused.
 mod table; // the known types, their lengths, their parts, and the rules of the parts
+mod parts; // the parts of a field: their values, their faults, and what the counted ones say
 mod records; // a record from the values of its parts, and back
 mod lists; // the entries of a list: altimeter blocks, addresses, identifiers
 pub mod reading; // a field's bytes to its record, list and text, or a refusal

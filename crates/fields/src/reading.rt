@@ -2,14 +2,12 @@
 // Each function takes every input that its `requires`, if it has one, lets through; the public ones have none.
 // Relies on `bits`, the table and the records; specs/Reading.antt says what is answered.
 ghost use mathlib.Core.Path.{_≡_};
-ghost use Prim.Native.Nat.{ℕ, _+_, _/_, _≤_, _<_};
-ghost use lib.ListN.{length, getD};
+ghost use Prim.Native.Nat.{_≤_, _<_};
 ghost use Rattle.bits.specs.Bits.{bitsOf};
-ghost use Rattle.fields.specs.Table.{valuesOf, hasFault, countIn, placeOf, RowSmall};
-ghost use Rattle.fields.specs.Reading.{fromSensor, sameWay, typeOf, typeNotCarried, unknownOf, notRelayed, sizedBy, blockCount, judgedBy, rowRead, plainOf, answered, relayed, opens, openedOf, outerOf, answerOf, listedBy, listIn, listOf, readField, textIn, textPlace, textOf, answerNumber};
+ghost use Rattle.fields.specs.Table.{placeOf, RowSmall};
+ghost use Rattle.fields.specs.Reading.{fromSensor, sameWay, typeOf, typeNotCarried, unknownOf, notRelayed, sizedBy, blockCount, judgedBy, rowRead, plainOf, answered, relayed, opens, openedOf, outerOf, answerOf, listIn, listOf, readField, textIn, textPlace, textOf, answerNumber};
 use crate::Answer;
 use crate::Direction;
-use crate::Field;
 use crate::Found;
 use crate::Passed;
 use crate::Place;
@@ -17,6 +15,7 @@ use crate::Plain;
 use crate::Record;
 use crate::Row;
 use crate::lists;
+use crate::parts;
 use crate::records;
 use crate::table;
 use refusals::FieldRefusal;
@@ -38,62 +37,6 @@ fn same_way(a: Direction, b: Direction) -> bool
         Direction::ToSensor => !b_from,
         Direction::FromSensor => b_from,
     }
-}
-
-// The parts of a field that begins behind the first `before` bits.
-fn values(b: &[u8], before: usize, widths: [u8; 11]) -> [u64; 11]
-    requires { ⌜ (before ≤ 4096) × ((k : ℕ) → getD widths k 0 ≤ 63) ⌝ }
-    ensures { λ r. ⌜ r ≡ valuesOf (now (b .entry)) before widths ⌝ }
-{
-    let mut v = [0u64; 11];
-    let mut at: usize = before;
-    let mut i: usize = 0;
-    while i < 11 {
-        let w = widths[i] as usize;
-        v[i] = bits::read(b, at, w);
-        at += w;
-        i += 1;
-    }
-    v
-}
-
-// A part has that fault: 1 a spare bit is one, 2 its value is not in use.
-pub fn has_fault(kind: u64, rules: [u8; 11], v: [u64; 11]) -> bool
-    ensures { λ r. ⌜ r ≡ hasFault kind rules v ⌝ }
-{
-    let mut i: usize = 0;
-    while i < 11 {
-        if table::fault(rules[i], v[i]) == kind {
-            return true;
-        }
-        i += 1;
-    }
-    false
-}
-
-fn part(v: [u64; 11], k: usize) -> u64
-    ensures { λ r. ⌜ r ≡ getD v k 0 ⌝ }
-{
-    if k < 11 { v[k] } else { 0 }
-}
-
-// How many steps a field has: what its counted parts say.
-pub fn count_in(row: Row, v: [u64; 11]) -> usize
-    requires { ⌜ RowSmall row v ⌝ }
-    ensures { λ r. ⌜ r ≡ countIn row v ⌝ }
-{
-    (row.more + part(v, row.first) + part(v, row.second) + part(v, row.third)) as usize
-}
-
-// How many entries a list has: an ELM's steps are text and no entries.
-pub fn listed_in(row: Row, v: [u64; 11]) -> usize
-    requires { ⌜ RowSmall row v ⌝ }
-    ensures { λ r. ⌜ r ≡ listedBy row v ⌝ }
-{
-    if row.step == 80 {
-        return 0;
-    }
-    count_in(row, v)
 }
 
 // A type of Table 5-1 that is not carried.
@@ -149,7 +92,7 @@ fn is_sized(count: usize, before: usize, row: Row, v: [u64; 11]) -> bool
     if row.code == 0x03 {
         return false;
     }
-    count == before + (row.base + row.step * count_in(row, v))
+    count == before + (row.base + row.step * parts::count_in(row, v))
 }
 
 // How many altimeter blocks a field has.
@@ -158,7 +101,7 @@ fn block_count(row: Row, v: [u64; 11]) -> usize
     ensures { λ r. ⌜ r ≡ blockCount row v ⌝ }
 {
     if row.step == 8 {
-        return count_in(row, v);
+        return parts::count_in(row, v);
     }
     0
 }
@@ -169,10 +112,10 @@ fn judged(b: &[u8], before: usize, i: usize, row: Row, v: [u64; 11]) -> Plain
     ensures { λ r. ⌜ r ≡ judgedBy (now (b .entry)) before i row v ⌝ }
 {
     let rules = table::rules_at(i);
-    if has_fault(1, rules, v) {
+    if parts::has_fault(1, rules, v) {
         return Plain::Refused(FieldRefusal::SpareBitSet);
     }
-    if has_fault(2, rules, v) {
+    if parts::has_fault(2, rules, v) {
         return Plain::Refused(FieldRefusal::ValueNotInUse);
     }
     if lists::any_unused(b, before + row.base, block_count(row, v)) {
@@ -206,7 +149,7 @@ fn row_read(b: &[u8], count: usize, before: usize, way: Direction, i: usize) -> 
     if not_relayed(row.code, before) {
         return Plain::Refused(FieldRefusal::NotRelayed);
     }
-    let v = values(b, before, table::widths_at(i));
+    let v = parts::values(b, before, table::widths_at(i));
     if !is_sized(count, before, row, v) {
         return Plain::Refused(FieldRefusal::WrongBitCount);
     }
@@ -320,8 +263,8 @@ fn list_in(b: &[u8]) -> [i32; 30]
     if step == 80 {
         return lists::entries(b, base, 0, 0);
     }
-    let v = values(b, 0, table::widths_at(i));
-    lists::entries(b, base, step, count_in(row, v))
+    let v = parts::values(b, 0, table::widths_at(i));
+    lists::entries(b, base, step, parts::count_in(row, v))
 }
 
 fn list_of(b: &[u8], a: Answer) -> [i32; 30]

@@ -12,6 +12,7 @@ use crate::Record;
 use crate::Row;
 use crate::Written;
 use crate::lists;
+use crate::parts;
 use crate::reading;
 use crate::records;
 use crate::table;
@@ -89,7 +90,7 @@ fn text_length(row: Row, v: [u64; 11]) -> usize
     ensures { λ r. ⌜ r ≡ textLengthBy row v ⌝ }
 {
     if row.step == 80 {
-        return 10 * reading::count_in(row, v);
+        return 10 * parts::count_in(row, v);
     }
     0
 }
@@ -108,10 +109,10 @@ fn takes(i: usize, given: Record, list: [i32; 30], len: usize) -> bool
     if !fit_all(table::widths_at(i), v) {
         return false;
     }
-    if reading::has_fault(2, table::rules_at(i), v) {
+    if parts::has_fault(2, table::rules_at(i), v) {
         return false;
     }
-    if !lists::list_fits(step, reading::listed_in(row, v), list) {
+    if !lists::list_fits(step, parts::listed_in(row, v), list) {
         return false;
     }
     len == text_length(row, v)
@@ -125,7 +126,7 @@ fn bits_at(i: usize, given: Record) -> usize
     let row = table::row_at(i);
     let v = records::numbers(field_in(given));
     let at = head_bits(given);
-    at + (row.base + row.step * reading::count_in(row, v))
+    at + (row.base + row.step * parts::count_in(row, v))
 }
 
 // A relay's type and its sensor.
@@ -184,7 +185,7 @@ fn put_field(s: &mut [u8], i: usize, given: Record, list: [i32; 30], text: &[u8]
     let step = row.step;
     let v = records::numbers(field_in(given));
     let at = head_bits(given);
-    let n = reading::listed_in(row, v);
+    let n = parts::listed_in(row, v);
     let size = bits_at(i, given);
     put_head(s, given);
     put_parts(s, at, table::widths_at(i), v);

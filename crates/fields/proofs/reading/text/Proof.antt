@@ -7,7 +7,7 @@ use native.Mathlib.Omega.{arith}
 use lib.ListN.{length, drop, drop-of-length-le}
 use lib.Seq.{drop-length}
 use Rattle.fields.specs.Reading.{textOf, textPlace, answerOf}
-use Rattle.fields.proofs.Parts.{rest-whole}
+use Rattle.fields.proofs.Values.{rest-whole}
 use Rattle.fields.proofs.reading.text.Statement.{statement}
 use Rattle.fields.proofs.reading.text.Tie as tie
 

@@ -1,4 +1,4 @@
--- `fields::reading::has_fault` meets its contract: what the parts from i on say is what all of them say. Assumes nothing.
+-- `fields::parts::has_fault` meets its contract: what the parts from i on say is what all of them say. Assumes nothing.
 use borrow.Author.Needs.{needs}
 use borrow.Author.Tests.{eq-eqb, ne-eqb}
 use mathlib.Core.Path.{_≡_, refl, sym, ap, _∙_}
@@ -7,9 +7,9 @@ use Prim.Native.Nat.{_-_, _≤_}
 use native.Mathlib.Omega.{arith}
 use lib.ListN.{length, drop, drop-of-length-le}
 use Rattle.fields.specs.Table.{hasFault}
-use Rattle.fields.proofs.Parts.{hasFault-step}
-use Rattle.fields.proofs.reading.has_fault.Statement.{statement}
-use Rattle.fields.proofs.reading.has_fault.Tie as tie
+use Rattle.fields.proofs.Values.{hasFault-step}
+use Rattle.fields.proofs.parts.has_fault.Statement.{statement}
+use Rattle.fields.proofs.parts.has_fault.Tie as tie
 
 abbrev Inv-loop : tie.InvT-loop
 Inv-loop kind rules v i₀ i = (i ≤ 11) × (hasFault kind (drop i rules) (drop i v) ≡ hasFault kind rules v)

@@ -1,4 +1,4 @@
--- `fields::reading::values` meets its contract: after i turns the first i values are those of the first i parts. Assumes nothing.
+-- `fields::parts::values` meets its contract: after i turns the first i values are those of the first i parts. Assumes nothing.
 use borrow.Author.Needs.{needs}
 use mathlib.Core.Path.{_≡_, refl, ap}
 use mathlib.Core.List.{[], _∷_, _++_}
@@ -10,10 +10,10 @@ use lib.ListN.{length, take, getD, length-set}
 use lib.Seq.{take-suc, take-suc-set, take-all}
 use Rattle.bits.proofs.Laws.{whole}
 use Rattle.fields.specs.Table.{valuesOf}
-use Rattle.fields.proofs.Parts.{sumOf-snoc, valuesOf-snoc}
+use Rattle.fields.proofs.Values.{sumOf-snoc, valuesOf-snoc}
 use Rattle.fields.specs.Writing.{sumOf}
-use Rattle.fields.proofs.reading.values.Statement.{statement}
-use Rattle.fields.proofs.reading.values.Tie as tie
+use Rattle.fields.proofs.parts.values.Statement.{statement}
+use Rattle.fields.proofs.parts.values.Tie as tie
 
 abbrev Inv-loop : tie.InvT-loop
 Inv-loop b before widths v₀ at₀ i₀ v at i =

@@ -1,8 +1,8 @@
--- `fields::reading::count_in` meets its contract. Assumes nothing.
+-- `fields::parts::count_in` meets its contract. Assumes nothing.
 use borrow.Author.Needs.{needs}
 use Rattle.fields.specs.Table.{countIn}
-use Rattle.fields.proofs.reading.count_in.Statement.{statement}
-use Rattle.fields.proofs.reading.count_in.Tie as tie
+use Rattle.fields.proofs.parts.count_in.Statement.{statement}
+use Rattle.fields.proofs.parts.count_in.Tie as tie
 
 part-requires : tie.Need-part-requires
 part-requires c κs = search needs

@@ -1,10 +1,10 @@
--- `fields::reading::part` meets its contract: past the end the definition gives 0 as the code does. Assumes nothing.
+-- `fields::parts::part` meets its contract: past the end the definition gives 0 as the code does. Assumes nothing.
 use mathlib.Core.Path.{_≡_, sym}
 use native.Mathlib.Omega.{arith}
 use lib.ListN.{length, List·getD-eq-default}
 use borrow.Author.Needs.{needs}
-use Rattle.fields.proofs.reading.part.Statement.{statement}
-use Rattle.fields.proofs.reading.part.Tie as tie
+use Rattle.fields.proofs.parts.part.Statement.{statement}
+use Rattle.fields.proofs.parts.part.Tie as tie
 
 mul-result : tie.Need-mul-result
 mul-result c = search needs

@@ -1,9 +1,9 @@
--- `fields::reading::listed_in` meets its contract. Assumes nothing.
+-- `fields::parts::listed_in` meets its contract. Assumes nothing.
 use borrow.Author.Needs.{needs}
 use borrow.Author.Tests.{eq-eqb, ne-eqb}
 use Rattle.fields.specs.Reading.{listedBy}
-use Rattle.fields.proofs.reading.listed_in.Statement.{statement}
-use Rattle.fields.proofs.reading.listed_in.Tie as tie
+use Rattle.fields.proofs.parts.listed_in.Statement.{statement}
+use Rattle.fields.proofs.parts.listed_in.Tie as tie
 
 returns : tie.Need-returns
 unfolding listedBy
