@@ -1,0 +1,102 @@
+// Bit fields of lent bytes. Bit 1 is the top bit of the first byte (document 01, "Link data fields"); a field is named by how many bits
+// stand before it and by its width. Both calls take every place and every width: what lies past the end reads as 0, and a write there does nothing.
+// Relies on nothing; specs/Bits.antt says what each answer means.
+ghost use mathlib.Core.Path.{_≡_};
+ghost use Prim.Native.Nat.{_+_, _-_, _*_, _/_, _%_, _≤_, _<_, _^_};
+ghost use Rattle.bits.specs.Bits.{bitAt, bitsOf, withDigit, putBit, putBits};
+
+fn wide(x: u8) -> u64
+    ensures { λ r. ⌜ r ≡ x ⌝ }
+{
+    x as u64
+}
+
+// The byte of the i-th bit after the first `before`: summed so that no place is too large.
+fn byte_of(before: usize, i: usize) -> usize
+    ensures { λ r. ⌜ r ≡ (before + i) / 8 ⌝ }
+{
+    before / 8 + i / 8 + (before % 8 + i % 8) / 8
+}
+
+// How many bits of that byte stand behind it.
+fn behind(before: usize, i: usize) -> usize
+    ensures { λ r. ⌜ r ≡ 7 - (before + i) % 8 ⌝ }
+{
+    7 - (before % 8 + i % 8) % 8
+}
+
+// The i-th bit after the first `before`.
+fn digit(b: &[u8], before: usize, i: usize) -> u64
+    ensures { λ r. ⌜ r ≡ bitAt (now (b .entry)) (before + i) ⌝ }
+{
+    let j = byte_of(before, i);
+    let k = behind(before, i);
+    if j < b.len() {
+        (wide(b[j]) >> k) % 2
+    } else {
+        0
+    }
+}
+
+// Of n bits those that no number of 64 bits holds.
+fn beyond(n: usize) -> usize
+    ensures { λ r. ⌜ r ≡ n - 64 ⌝ }
+{
+    if 64 <= n { n - 64 } else { 0 }
+}
+
+// The number that the n bits after the first `before` make, the first the heaviest; of more than 64 bits, the number that the last 64 make.
+pub fn read(b: &[u8], before: usize, n: usize) -> u64
+    ensures { λ r. ⌜ r ≡ bitsOf (now (b .entry)) before n % 2 ^ 64 ⌝ }
+{
+    let mut v: u64 = 0;
+    let mut i = beyond(n);
+    while i < n {
+        v = v * 2 + digit(b, before, i);
+        i += 1;
+    }
+    v
+}
+
+fn weight(k: usize) -> u64
+    requires { ⌜ k ≤ 7 ⌝ }
+    ensures { λ r. ⌜ r ≡ 2 ^ k ⌝ }
+{
+    1u64 << k
+}
+
+// The byte x with its digit of weight 2 ^ k replaced by v.
+fn with_digit(x: u8, k: usize, v: u64) -> u8
+    requires { ⌜ (k ≤ 7) × (v < 2) ⌝ }
+    ensures { λ r. ⌜ r ≡ withDigit x k v ⌝ }
+{
+    let w = x as u64;
+    let p = weight(k);
+    let h = w / p / 2 * 2 + v;
+    ((h * p + w % p) % 256) as u8
+}
+
+// Replaces the i-th bit after the first `before`.
+fn put_digit(s: &mut [u8], before: usize, i: usize, v: u64)
+    requires { ⌜ v < 2 ⌝ }
+    ensures { λ _. ⌜ now (s .exit) ≡ putBit (now (s .entry)) (before + i) v ⌝ }
+{
+    let j = byte_of(before, i);
+    let k = behind(before, i);
+    if j < s.len() {
+        s[j] = with_digit(s[j], k, v);
+    }
+}
+
+// Replaces the n bits after the first `before` by the n low bits of v, by zeros before them where n is over 64. All other bits stay.
+pub fn write(s: &mut [u8], before: usize, n: usize, v: u64)
+    ensures { λ _. ⌜ now (s .exit) ≡ putBits (now (s .entry)) before n v ⌝ }
+{
+    let mut rest = v;
+    let mut k = n;
+    while 0 < k {
+        put_digit(s, before, k - 1, rest % 2);
+        rest = rest / 2;
+        k -= 1;
+    }
+}

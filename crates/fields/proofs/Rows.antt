@@ -1,0 +1,211 @@
+-- Laws of the table: what is looked up, row by row.
+-- Assumes nothing.
+use mathlib.Core.Path.{_≡_, refl, sym, ap, _∙_}
+use mathlib.Core.List.{List, [], _∷_}
+use mathlib.Core.Bool.{Bool, true, false, cond, not, _&&_, _||_}
+use Prim.Native.Nat.{ℕ, zero, suc, _+_, _-_, _*_, _≤_, _<_, _^_, zero-le}
+use native.Mathlib.Numerals.{add-one}
+use native.Mathlib.Nat.{not-suc-le-zero, le-of-suc-le-suc, lt-of-lt-of-le}
+use native.Mathlib.Decide.{ℕ-discrete}
+use native.Mathlib.Omega.{arith}
+use lib.ListN.{length, drop, getD, List·getD-eq-default}
+use lib.Dec.{T, eqb, leb, leb→le}
+use lib.Pow.{pow-mono}
+use lib.Seq.{drop-cons}
+use Rattle.bits.specs.Bits.{bitsOf}
+use Rattle.bits.proofs.Laws.{bitsOf-lt}
+use borrow.Author.Tests.{eq-eqb, ne-eqb, eqb-true}
+use Rattle.fields.specs.declared.Row.{Row}
+use Rattle.fields.specs.declared.Place.{Place}
+use Rattle.fields.specs.declared.Place.the-variants.{At, Nowhere}
+use Rattle.fields.specs.declared.Field.the-variants.{ControllerAlert}
+use Rattle.fields.specs.Table.{table, rows, noRow, rowAt, widths, widthsAt, rules, rulesAt, placeFrom, valuesOf, countIn, RowSmall}
+use Rattle.fields.specs.Records.{fieldsBy, fieldAt}
+use Rattle.fields.specs.Reading.{blockCount, typeNotCarried}
+
+-- the row at i is the one tested next
+pub placeFrom-step : (c : ℕ) (rs : List Row) (i : ℕ) (d : Row) → i < length rs →
+    placeFrom c (drop i rs) i ≡ cond (eqb (getD rs i d .code) c) (At i) (placeFrom c (drop (i + 1) rs) (i + 1))
+unfolding placeFrom
+placeFrom-step c rs i d h = rw (drop-cons rs i d h, add-one) refl
+
+pub placeFrom-hit : (c : ℕ) (rs : List Row) (i : ℕ) (d : Row) → i < length rs → getD rs i d .code ≡ c → placeFrom c (drop i rs) i ≡ At i
+placeFrom-hit c rs i d h e = rw (placeFrom-step c rs i d h, eq-eqb _ _ e) refl
+
+pub placeFrom-miss : (c : ℕ) (rs : List Row) (i : ℕ) (d : Row) → i < length rs → (getD rs i d .code ≡ c → ⊥) →
+    placeFrom c (drop i rs) i ≡ placeFrom c (drop (i + 1) rs) (i + 1)
+placeFrom-miss c rs i d h e = rw (placeFrom-step c rs i d h, ne-eqb _ _ e) refl
+
+-- within a list the value past its end does not matter
+pub getD-any : {A : Type 0} (l : List A) (i : ℕ) (d e : A) → i < length l → getD l i d ≡ getD l i e
+getD-any [] i d e h = absurd (not-suc-le-zero h)
+getD-any (x ∷ xs) zero d e h = refl
+getD-any (x ∷ xs) (suc i) d e h = getD-any xs i d e (le-of-suc-le-suc h)
+
+-- the last type stands at every place from 20 on
+pub fieldAt-last : (at a b c d e f g h i j : ℕ) → 20 ≤ at → fieldAt at a b c d e f g h i j ≡ ControllerAlert a b c d e f g h i j
+unfolding fieldAt
+fieldAt-last at a b c d e f g h i j l = List·getD-eq-default (fieldsBy a b c d e f g h i j) (ControllerAlert a b c d e f g h i j) l
+
+-- a place that is found stands in the table, and holds the code
+pub found-in : (c : ℕ) (rs : List Row) (a i : ℕ) → placeFrom c rs a ≡ At i → i < a + length rs
+unfolding placeFrom
+found-in c [] a i e = let z : _≡_ {A = ℕ} 0 1 = cc in omega arith
+found-in c (r ∷ rs) a i e = go (eqb (r .code) c) (found-in c rs (a + 1) i) e
+  where
+    go : (t : Bool) → (placeFrom c rs (a + 1) ≡ At i → i < a + 1 + length rs) → cond t (At a) (placeFrom c rs (a + 1)) ≡ At i → i < a + suc (length rs)
+    go true h q = let z : a ≡ i = cc in omega arith
+    go false h q = omega (arith, h q)
+
+pub found-within : (c i : ℕ) → placeFrom c rows 0 ≡ At i → i < 22
+unfolding rows table
+found-within c i e = found-in c rows 0 i e
+
+-- ---- a test over all places, which antt computes
+
+pub both-left : (a b : Bool) → T (a && b) → T a
+both-left true b t = tt
+both-left false b t = t
+
+pub both-right : (a b : Bool) → T (a && b) → T b
+both-right true b t = t
+both-right false b t = absurd t
+
+abbrev allBelow : (ℕ → Bool) → ℕ → Bool
+allBelow p zero = true
+allBelow p (suc n) = p n && allBelow p n
+
+pub below-at : (p : ℕ → Bool) (n : ℕ) → T (allBelow p n) → (i : ℕ) → i < n → T (p i)
+below-at p zero t i h = absurd (not-suc-le-zero h)
+below-at p (suc n) t i h = go (ℕ-discrete i n) (below-at p n (both-right (p n) (allBelow p n) t) i)
+  where
+    go : Dec (i ≡ n) → (i < n → T (p i)) → T (p i)
+    go (yes e) r = rw e (both-left (p n) (allBelow p n) t)
+    go (no f) r = r (omega arith)
+
+-- widths that one number of 64 bits holds
+abbrev narrow : List ℕ → Bool
+narrow [] = true
+narrow (w ∷ ws) = leb w 63 && narrow ws
+
+narrow-at : (ws : List ℕ) → T (narrow ws) → (k : ℕ) → getD ws k 0 ≤ 63
+narrow-at [] t k = zero-le
+narrow-at (w ∷ ws) t zero = leb→le w 63 (both-left (leb w 63) (narrow ws) t)
+narrow-at (w ∷ ws) t (suc k) = narrow-at ws (both-right (leb w 63) (narrow ws) t) k
+
+pub widths-narrow : (i : ℕ) → i < 22 → (k : ℕ) → getD (widthsAt i) k 0 ≤ 63
+unfolding table widths widthsAt
+widths-narrow i h = narrow-at (widthsAt i) (below-at (λ (j : ℕ). narrow (widthsAt j)) 22 tt i h)
+
+-- ---- the numbers of a row are small
+
+abbrev countedOk : Row → List ℕ → Bool
+countedOk r ws = leb (getD ws (r .first) 0) 4 && (leb (getD ws (r .second) 0) 4 && leb (getD ws (r .third) 0) 4)
+
+abbrev rowOk : Row → List ℕ → Bool
+rowOk r ws = (leb (r .base) 96 && (leb (r .step) 80 && leb (r .more) 1)) && countedOk r ws
+
+row-ok : (i : ℕ) → i < 22 → T (rowOk (rowAt i) (widthsAt i))
+unfolding table rows rowAt widths widthsAt
+row-ok i h = below-at (λ (j : ℕ). rowOk (rowAt j) (widthsAt j)) 22 tt i h
+
+-- as many values as widths, each within its width
+abbrev pub Fit : List ℕ → List ℕ → Type 0
+Fit [] [] = Unit {0}
+Fit [] (v ∷ vs) = ⊥
+Fit (w ∷ ws) [] = ⊥
+Fit (w ∷ ws) (v ∷ vs) = (v < 2 ^ w) × Fit ws vs
+
+pub values-fit : (s : List ℕ) (a : ℕ) (ws : List ℕ) → Fit ws (valuesOf s a ws)
+unfolding valuesOf
+values-fit s a [] = tt
+values-fit s a (w ∷ ws) = (bitsOf-lt s a w, values-fit s (a + w) ws)
+
+pub fit-at : (ws vs : List ℕ) → Fit ws vs → (k : ℕ) → getD vs k 0 < 2 ^ getD ws k 0
+fit-at [] [] f k = omega arith
+fit-at [] (v ∷ vs) f k = absurd f
+fit-at (w ∷ ws) [] f k = absurd f
+fit-at (w ∷ ws) (v ∷ vs) f zero = f .0
+fit-at (w ∷ ws) (v ∷ vs) f (suc k) = fit-at ws vs (f .1) k
+
+pub row-small : (i : ℕ) (vs : List ℕ) → i < 22 → Fit (widthsAt i) vs → RowSmall (rowAt i) vs
+row-small i vs h f =
+    let r = rowAt i in
+    let ws = widthsAt i in
+    let t = row-ok i h in
+    let p = both-left (leb (r .base) 96 && (leb (r .step) 80 && leb (r .more) 1)) (countedOk r ws) t in
+    let q = both-right (leb (r .base) 96 && (leb (r .step) 80 && leb (r .more) 1)) (countedOk r ws) t in
+    let p2 = both-right (leb (r .base) 96) (leb (r .step) 80 && leb (r .more) 1) p in
+    let q2 = both-right (leb (getD ws (r .first) 0) 4) (leb (getD ws (r .second) 0) 4 && leb (getD ws (r .third) 0) 4) q in
+    record {
+      base = leb→le _ _ (both-left (leb (r .base) 96) (leb (r .step) 80 && leb (r .more) 1) p);
+      step = leb→le _ _ (both-left (leb (r .step) 80) (leb (r .more) 1) p2);
+      more = leb→le _ _ (both-right (leb (r .step) 80) (leb (r .more) 1) p2);
+      first = small (r .first) (leb→le _ _ (both-left (leb (getD ws (r .first) 0) 4) (leb (getD ws (r .second) 0) 4 && leb (getD ws (r .third) 0) 4) q));
+      second = small (r .second) (leb→le _ _ (both-left (leb (getD ws (r .second) 0) 4) (leb (getD ws (r .third) 0) 4) q2));
+      third = small (r .third) (leb→le _ _ (both-right (leb (getD ws (r .second) 0) 4) (leb (getD ws (r .third) 0) 4) q2));
+    }
+  where
+    small : (k : ℕ) → getD (widthsAt i) k 0 ≤ 4 → getD vs k 0 < 16
+    small k l = lt-of-lt-of-le (fit-at (widthsAt i) vs f k) (pow-mono l)
+
+-- 46 steps at most
+pub count-small : (r : Row) (vs : List ℕ) → RowSmall r vs → countIn r vs ≤ 46
+unfolding countIn
+count-small r vs s = omega arith
+
+pub block-count-small : (r : Row) (vs : List ℕ) → RowSmall r vs → blockCount r vs ≤ 64
+unfolding blockCount
+block-count-small r vs s = go (eqb (r .step) 8)
+  where
+    go : (b : Bool) → cond b (countIn r vs) 0 ≤ 64
+    go true = omega (arith, count-small r vs s)
+    go false = zero-le
+
+pub row-base : (i : ℕ) → i < 22 → rowAt i .base ≤ 96
+row-base i h =
+    let r = rowAt i in
+    leb→le _ _
+    (both-left (leb (r .base) 96) (leb (r .step) 80 && leb (r .more) 1)
+    (both-left (leb (r .base) 96 && (leb (r .step) 80 && leb (r .more) 1)) (countedOk r (widthsAt i)) (row-ok i h)))
+
+-- entries have at most 24 bits; an ELM's steps have 80
+pub row-step : (i : ℕ) → i < 22 → (rowAt i .step ≡ 80 → ⊥) → rowAt i .step ≤ 24
+unfolding table rows rowAt
+row-step i h ne = go (eqb (rowAt i .step) 80) (ne-eqb _ _ ne) (below-at (λ (j : ℕ). eqb (rowAt j .step) 80 || leb (rowAt j .step) 24) 22 tt i h)
+  where
+    go : (b : Bool) → b ≡ false → T (b || leb (rowAt i .step) 24) → rowAt i .step ≤ 24
+    go true e t = absurd (let z : _≡_ {A = ℕ} 0 1 = cc in omega arith)
+    go false e t = leb→le _ _ t
+
+-- the row that is found holds the code
+found-code-from : (c : ℕ) (rs : List Row) (a i : ℕ) (d : Row) → placeFrom c rs a ≡ At i → (a ≤ i) × (getD rs (i - a) d .code ≡ c)
+unfolding placeFrom
+found-code-from c [] a i d e = absurd (let z : _≡_ {A = ℕ} 0 1 = cc in omega arith)
+found-code-from c (r ∷ rs) a i d e = go (eqb (r .code) c) refl (found-code-from c rs (a + 1) i d) e
+  where
+    go : (t : Bool) → eqb (r .code) c ≡ t → (placeFrom c rs (a + 1) ≡ At i → (a + 1 ≤ i) × (getD rs (i - (a + 1)) d .code ≡ c))
+        → cond t (At a) (placeFrom c rs (a + 1)) ≡ At i → (a ≤ i) × (getD (r ∷ rs) (i - a) d .code ≡ c)
+    go true q h z =
+        let e : a ≡ i = cc in
+        let n : i - a ≡ 0 = omega arith in
+        (omega arith, rw n (eqb-true _ _ q))
+    go false q h z =
+        let k = h z in
+        let n : i - a ≡ suc (i - (a + 1)) = omega arith in
+        (omega arith, rw n (k .1))
+
+pub found-code : (c i : ℕ) → placeFrom c rows 0 ≡ At i → rowAt i .code ≡ c
+unfolding rowAt
+found-code c i e =
+    let z : i - 0 ≡ i = omega arith in
+    rw z at (found-code-from c rows 0 i noRow e .1)
+
+-- no type of the table is one that is not carried
+pub carried : (i : ℕ) → i < 22 → typeNotCarried (rowAt i .code) ≡ false
+unfolding table rows rowAt typeNotCarried
+carried i h = go (typeNotCarried (rowAt i .code)) (below-at (λ (j : ℕ). not (typeNotCarried (rowAt j .code))) 22 tt i h)
+  where
+    go : (b : Bool) → T (not b) → b ≡ false
+    go true t = absurd t
+    go false t = refl

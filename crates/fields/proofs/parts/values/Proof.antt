@@ -1,0 +1,92 @@
+-- `fields::parts::values` meets its contract: after i turns the first i values are those of the first i parts. Assumes nothing.
+use borrow.Author.Needs.{needs}
+use mathlib.Core.Path.{_≡_, refl, ap}
+use mathlib.Core.List.{[], _∷_, _++_}
+use Prim.Native.Nat.{ℕ, _+_, _-_, _*_, _≤_}
+use native.Mathlib.Numerals.{add-one}
+use native.Mathlib.Nat.{add-zero, add-assoc}
+use native.Mathlib.Omega.{arith}
+use lib.ListN.{length, take, getD, length-set}
+use lib.Seq.{take-suc, take-suc-set, take-all}
+use Rattle.bits.proofs.Laws.{whole}
+use Rattle.fields.specs.Table.{valuesOf}
+use Rattle.fields.proofs.Values.{sumOf-snoc, valuesOf-snoc}
+use Rattle.fields.specs.Writing.{sumOf}
+use Rattle.fields.proofs.parts.values.Statement.{statement}
+use Rattle.fields.proofs.parts.values.Tie as tie
+
+abbrev Inv-loop : tie.InvT-loop
+Inv-loop b before widths v₀ at₀ i₀ v at i =
+    (i ≤ 11) × (length v ≡ 11) × (at ≤ before + i * 64) × (at ≡ before + sumOf (take i widths)) × (take i v ≡ valuesOf b before (take i widths))
+
+abbrev μ-loop : tie.MeasureT-loop
+μ-loop b before widths v₀ at₀ i₀ v at i = 11 - i
+
+loop-holds : tie.Need-loop-holds Inv-loop μ-loop
+unfolding valuesOf
+loop-holds c = (omega arith, refl, omega arith, omega arith, refl)
+
+array-read-w : tie.Need-array-read-w Inv-loop μ-loop
+array-read-w c = omega arith
+
+cast-w : tie.Need-cast-w Inv-loop μ-loop
+cast-w c = omega (arith, c .before .before .before .pre .1 (c .before .loop .i))
+
+read-requires : tie.Need-read-requires Inv-loop μ-loop
+read-requires c κs = search needs
+
+mul-v : tie.Need-mul-v Inv-loop μ-loop
+mul-v c = omega arith
+
+array-write-v : tie.Need-array-write-v Inv-loop μ-loop
+array-write-v c = omega arith
+
+add-at : tie.Need-add-at Inv-loop μ-loop
+add-at c = omega (arith, c .before .before .before .before .pre .1 (c .before .before .loop .i))
+
+add-i : tie.Need-add-i Inv-loop μ-loop
+add-i c = omega arith
+
+loop-less : tie.Need-loop-less Inv-loop μ-loop
+loop-less c = omega arith
+
+loop-again : tie.Need-loop-again Inv-loop μ-loop
+loop-again c =
+    let l = c .before .before .loop in
+    let s = c .before .before .before .before in
+    let a = s .args in
+    let w = getD (a .t3) (l .i) 0 in
+    let n : length (a .t3) ≡ 11 = search needs in
+    let t : take (l .i + 1) (a .t3) ≡ take (l .i) (a .t3) ++ (w ∷ []) = rw add-one (take-suc (a .t3) (l .i) 0 (omega arith)) in (
+      omega arith,
+      simp length-set (l .inv .1),
+      omega (arith, s .pre .1 (l .i)),
+      rw (t, sumOf-snoc) (omega (arith, l .inv .3)),
+      rw (t, valuesOf-snoc, ← l .inv .3, ← l .inv .4, ← whole (a .b .now) (l .at) w (omega (arith, s .pre .1 (l .i))), ← c .read .ensures, add-one) (take-suc-set (l .v) (l .i) _ (omega arith)),
+    )
+
+returns : tie.Need-returns Inv-loop μ-loop
+returns c =
+    let l = c .before .loop in
+    let a = c .before .before .before .args in
+    let n : length (a .t3) ≡ 11 = search needs in
+    let e : l .i ≡ 11 = omega arith in
+    rw (e, take-all 11 (l .v) (omega arith), take-all 11 (a .t3) (omega arith)) at (l .inv .4)
+
+pub values-spec : {M : Type 1} → statement M
+values-spec =
+    tie.close
+    (tie.spec
+    Inv-loop
+    μ-loop
+    loop-holds
+    array-read-w
+    cast-w
+    read-requires
+    mul-v
+    array-write-v
+    add-at
+    add-i
+    loop-less
+    loop-again
+    returns)

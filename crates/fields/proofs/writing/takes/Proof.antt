@@ -1,0 +1,114 @@
+-- `fields::writing::takes` meets its contract. Assumes nothing.
+use borrow.Author.Needs.{needs}
+use borrow.Author.Tests.{not-true, not-false}
+use mathlib.Core.Path.{_≡_, refl, sym, ap, _∙_}
+use Prim.Native.Nat.{ℕ}
+use Rattle.fields.specs.Table.{rowAt, widthsAt, rulesAt, hasFault, RowSmall}
+use Rattle.fields.specs.Records.{numbersOf}
+use Rattle.fields.specs.Lists.{listFits}
+use Rattle.fields.specs.Reading.{listed}
+use Rattle.fields.specs.Writing.{numbersIn, headFits, fitAll, takesAt}
+use Rattle.fields.proofs.Rows.{widths-narrow}
+use Rattle.fields.proofs.Taking.{taken-small}
+use Rattle.fields.proofs.writing.takes.Statement.{statement}
+use Rattle.fields.proofs.writing.takes.Tie as tie
+
+row-at-requires : tie.Need-row-at-requires
+row-at-requires c κs = search needs
+
+field-in-requires : tie.Need-field-in-requires
+field-in-requires c κs = search needs
+
+numbers-requires : tie.Need-numbers-requires
+numbers-requires c κs = search needs
+
+head-fits-requires : tie.Need-head-fits-requires
+head-fits-requires c κs = search needs
+
+numbers-are : (c : tie.After-numbers) → c .numbers .result ≡ numbersIn (c .before .before .before .args .given)
+numbers-are c = c .numbers .ensures ∙ ap numbersOf (c .before .field-in .ensures)
+
+returns : tie.Need-returns
+unfolding takesAt
+returns c = rw (sym (c .before .head-fits .ensures) ∙ not-true _ (c .if1 .taken))
+
+widths-at-requires : tie.Need-widths-at-requires
+widths-at-requires c κs = search needs
+
+fit-all-requires : tie.Need-fit-all-requires
+fit-all-requires c κs = let s = c .before .before .before .before .before .before in rw (c .widths-at .ensures) (widths-narrow (s .args .i) (s .pre))
+
+fit : (c : tie.After-fit-all) →
+    let a = c .before .before .before .before .before .before .before .args in
+    fitAll (widthsAt (a .i)) (numbersIn (a .given)) ≡ c .fit-all .result
+fit c = rw (← c .before .widths-at .ensures, ← numbers-are (c .before .before .before .before)) (sym (c .fit-all .ensures))
+
+returns-2 : tie.Need-returns-2
+unfolding takesAt
+returns-2 c =
+    let e = c .before .before .before in
+    rw (sym (e .before .head-fits .ensures) ∙ not-false _ (e .if1 .left), fit (c .before) ∙ not-true _ (c .if2 .taken))
+
+rules-at-requires : tie.Need-rules-at-requires
+rules-at-requires c κs = search needs
+
+has-fault-requires : tie.Need-has-fault-requires
+has-fault-requires c κs = search needs
+
+unused : (c : tie.After-has-fault) →
+    let a = c .before .before .before .before .before .before .before .before .before .before .args in
+    hasFault 2 (rulesAt (a .i)) (numbersIn (a .given)) ≡ c .has-fault .result
+unused c = rw (← c .before .rules-at .ensures, ← numbers-are (c .before .before .before .before .before .before .before)) (sym (c .has-fault .ensures))
+
+returns-3 : tie.Need-returns-3
+unfolding takesAt
+returns-3 c =
+    let f = c .before .before .before in
+    let e = f .before .before .before in
+    rw (sym (e .before .head-fits .ensures) ∙ not-false _ (e .if1 .left), fit (f .before) ∙ not-false _ (f .if2 .left), unused (c .before) ∙ c .if3 .taken)
+
+small : (c : tie.Else2) → RowSmall (c .before .before .before .before .before .before .before .row-at .result) (c .before .before .before .before .before .numbers .result)
+small c =
+    let n = c .before .before .before .before .before in
+    let s = n .before .before .before in
+    rw (numbers-are n, n .before .before .row-at .ensures) (taken-small (s .args .i) (s .args .given) (s .pre) (fit (c .before) ∙ not-false _ (c .if2 .left)))
+
+listed-in-requires : tie.Need-listed-in-requires
+listed-in-requires c κs = small (c .before .before .before)
+
+list-fits-requires : tie.Need-list-fits-requires
+list-fits-requires c κs = search needs
+
+list-ok : (c : tie.After-list-fits) →
+    let a = c .before .before .before .before .before .before .before .before .before .before .before .before .before .args in
+    listFits (rowAt (a .i) .step) (listed (a .i) (numbersIn (a .given))) (a .list) ≡ c .list-fits .result
+list-ok c =
+    let n = c .before .before .before .before .before .before .before .before .before .before in
+    rw (← numbers-are n, ← n .before .before .row-at .ensures, ← c .before .listed-in .ensures) (sym (c .list-fits .ensures))
+
+returns-4 : tie.Need-returns-4
+unfolding takesAt
+returns-4 c =
+    let u = c .before .before .before in
+    let f = u .before .before .before in
+    let e = f .before .before .before in
+    rw (sym (e .before .head-fits .ensures) ∙ not-false _ (e .if1 .left), fit (f .before) ∙ not-false _ (f .if2 .left), unused (u .before) ∙ u .if3 .left, list-ok (c .before) ∙ not-true _ (c .if4 .taken))
+
+text-length-requires : tie.Need-text-length-requires
+text-length-requires c κs = small (c .before .before .before .before .before .before)
+
+returns-5 : tie.Need-returns-5
+unfolding takesAt
+returns-5 c =
+    let k = c .before in
+    let u = k .before .before .before in
+    let f = u .before .before .before in
+    let e = f .before .before .before in
+    let n = e .before .before in
+    rw (sym (e .before .head-fits .ensures) ∙ not-false _ (e .if1 .left), fit (f .before) ∙ not-false _ (f .if2 .left), unused (u .before) ∙ u .if3 .left, list-ok (k .before) ∙ not-false _ (k .if4 .left), c .text-length .ensures, numbers-are n, n .before .before .row-at .ensures)
+    refl
+
+pub takes-spec : {M : Type 1} → statement M
+takes-spec =
+    tie.close
+    (tie.spec row-at-requires field-in-requires numbers-requires head-fits-requires returns widths-at-requires fit-all-requires returns-2 rules-at-requires has-fault-requires returns-3 listed-in-requires list-fits-requires returns-4 text-length-requires returns-5)

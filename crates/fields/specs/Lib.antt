@@ -1,0 +1,6 @@
+pub mod Table
+pub mod Records
+pub mod Lists
+pub mod Reading
+pub mod Writing
+pub mod Claims

@@ -1,0 +1,170 @@
+// The entries of a field's list, and their numbers: altimeter blocks of 8 bits with a sign, addresses and identifiers of 24.
+// Relies on `bits`; specs/Lists.antt says what each function means.
+ghost use mathlib.Core.Path.{_≡_};
+ghost use mathlib.Core.List.{List};
+ghost use Prim.Native.Nat.{_+_, _*_, _<_, _≤_, _^_};
+ghost use lib.IntN.{natAbs};
+ghost use lib.ListN.{replicate};
+ghost use Rattle.fields.specs.Table.{valuesOf};
+ghost use Rattle.fields.specs.Lists.{negative, signed, blockOf, blockUnused, entryOf, entryAt, entryBits, entryFits, entryOk, anyUnused, entriesIn, listFits, entriesBits};
+ghost use Rattle.fields.specs.Writing.{putAll};
+
+fn signed_of(minus: bool, n: u64) -> i32
+    requires { ⌜ n < 2 ^ 24 ⌝ }
+    ensures { λ r. ⌜ r ≡ signed minus n ⌝ }
+{
+    let z = n as i32;
+    if minus { 0 - z } else { z }
+}
+
+fn block_of(x: u64) -> i32
+    requires { ⌜ x < 256 ⌝ }
+    ensures { λ r. ⌜ r ≡ blockOf x ⌝ }
+{
+    signed_of(x / 128 == 1, x / 16 % 8 * 10 + x % 16)
+}
+
+// Hundreds above 9, or minus zero.
+fn block_unused(x: u64) -> bool
+    ensures { λ r. ⌜ r ≡ blockUnused x ⌝ }
+{
+    if 9 < x % 16 {
+        return true;
+    }
+    x == 128
+}
+
+// One of n blocks, of which the first stands behind `before` bits, is not in use.
+pub fn any_unused(b: &[u8], before: usize, n: usize) -> bool
+    requires { ⌜ (before ≤ 4096) × (n ≤ 64) ⌝ }
+    ensures { λ r. ⌜ r ≡ anyUnused (valuesOf (now (b .entry)) before (replicate n 8)) ⌝ }
+{
+    let mut k: usize = 0;
+    while k < n {
+        if block_unused(bits::read(b, before + 8 * k, 8)) {
+            return true;
+        }
+        k += 1;
+    }
+    false
+}
+
+// The number of an entry of `step` bits.
+fn entry_of(step: usize, x: u64) -> i32
+    requires { ⌜ (step ≤ 24) × (x < 2 ^ step) ⌝ }
+    ensures { λ r. ⌜ r ≡ entryOf step x ⌝ }
+{
+    if step == 8 {
+        return block_of(x);
+    }
+    signed_of(false, x)
+}
+
+// The number of entry k of n, of `step` bits each, of which the first stands behind `before` bits; zero from the count on.
+fn entry_at(b: &[u8], before: usize, step: usize, n: usize, k: usize) -> i32
+    requires { ⌜ (before ≤ 4096) × (step ≤ 24) × (k < 30) ⌝ }
+    ensures { λ r. ⌜ r ≡ entryAt (now (b .entry)) before step n k ⌝ }
+{
+    if k < n {
+        return entry_of(step, bits::read(b, before + step * k, step));
+    }
+    0
+}
+
+// Thirty numbers: those of n entries, and zeros.
+pub fn entries(b: &[u8], before: usize, step: usize, n: usize) -> [i32; 30]
+    requires { ⌜ (before ≤ 4096) × (step ≤ 24) ⌝ }
+    ensures { λ r. ⌜ r ≡ entriesIn step 30 (valuesOf (now (b .entry)) before (replicate n step)) ⌝ }
+{
+    let mut v = [0i32; 30];
+    let mut k: usize = 0;
+    while k < 30 {
+        v[k] = entry_at(b, before, step, n, k);
+        k += 1;
+    }
+    v
+}
+
+fn is_negative(z: i32) -> bool
+    ensures { λ r. ⌜ r ≡ negative z ⌝ }
+{
+    z < 0
+}
+
+fn magnitude(z: i32) -> u64
+    ensures { λ r. ⌜ (r ≡ natAbs z) × (r ≤ 2147483648) ⌝ }
+{
+    if z < 0 {
+        let n = 0 - (z as i64);
+        n as u64
+    } else {
+        z as u64
+    }
+}
+
+// A number that an entry of `step` bits can hold.
+fn entry_fits(step: usize, z: i32) -> bool
+    ensures { λ r. ⌜ r ≡ entryFits step z ⌝ }
+{
+    let m = magnitude(z);
+    if step == 8 {
+        return m < 80;
+    }
+    if is_negative(z) {
+        return false;
+    }
+    m < 16777216
+}
+
+// Number k of a list of n: an entry, or zero from the count on.
+fn entry_ok(step: usize, n: usize, k: usize, z: i32) -> bool
+    ensures { λ r. ⌜ r ≡ entryOk step n k z ⌝ }
+{
+    if k < n {
+        return entry_fits(step, z);
+    }
+    magnitude(z) == 0
+}
+
+// The first n numbers fit their entries, and the others are zero.
+pub fn list_fits(step: usize, n: usize, list: [i32; 30]) -> bool
+    ensures { λ r. ⌜ r ≡ listFits step n list ⌝ }
+{
+    let mut k: usize = 0;
+    while k < 30 {
+        let z = list[k];
+        if entry_ok(step, n, k, z) {
+            k += 1;
+        } else {
+            return false;
+        }
+    }
+    n <= 30
+}
+
+// The bits of a number.
+fn entry_bits(step: usize, z: i32) -> u64
+    ensures { λ r. ⌜ r ≡ entryBits step z ⌝ }
+{
+    let m = magnitude(z);
+    if step == 8 {
+        if is_negative(z) {
+            return 128 + m / 10 * 16 + m % 10;
+        }
+        return m / 10 * 16 + m % 10;
+    }
+    m
+}
+
+// Writes n entries of `step` bits behind the first `before` bits.
+pub fn put_entries(s: &mut [u8], before: usize, step: usize, n: usize, list: [i32; 30])
+    requires { ⌜ (before ≤ 4096) × (step ≤ 80) × (n ≤ 30) ⌝ }
+    ensures { λ _. ⌜ now (s .exit) ≡ putAll (now (s .entry)) before (replicate n step) (entriesBits step n list) ⌝ }
+{
+    let mut k: usize = 0;
+    while k < n {
+        let z = list[k];
+        bits::write(s, before + step * k, step, entry_bits(step, z));
+        k += 1;
+    }
+}
