@@ -1,6 +1,6 @@
 // Runs the reader and the writer over fields of every type, smallest and largest, over each refusal's examples and their nearest
 // neighbours, over relays of each type, and over every count from 0 to 200. Of a field that is accepted it prints the bits that writing
-// gives back. What it prints is held to the file stdout beside src/, which was worked out from document 01 by bit strings.
+// gives back. What it prints is held to the file stdout beside src/, which tests/fields.rs works out by strings of bits.
 use fields::Answer;
 use fields::Direction;
 use fields::Written;

@@ -1,0 +1,174 @@
+// Works out what crates/fields_test must print, from document 01's "Link data fields" by strings of bits. The cases are those that the
+// program's source lists; nothing of the proved library is used.
+use std::fs::read_to_string;
+
+// What may stand in a part: anything; a spare; not 0; only 1; QUAL, DEL, an advisory.
+#[derive(Clone, Copy, PartialEq)]
+enum Rule {
+    Any,
+    Spare,
+    NotZero,
+    One,
+    Qual,
+    Del,
+    Advisory,
+}
+use Rule::*;
+
+// What stands behind the parts: so many bits for each of the counted parts' sum and `more`; blocks have a rule of their own.
+struct Rest {
+    bits: usize,
+    more: usize,
+    counted: &'static [usize],
+    blocks: bool,
+}
+
+// A type: its code, whether it comes from the sensor, its parts behind the code.
+type Type = (u8, bool, &'static [(usize, Rule)], Option<Rest>);
+
+fn rest(bits: usize, more: usize, counted: &'static [usize]) -> Option<Rest> {
+    Some(Rest { bits, more, counted, blocks: bits == 8 })
+}
+
+fn types() -> Vec<Type> {
+    vec![
+        (0x21, false, &[(24, Any), (4, NotZero), (1, Any), (3, NotZero), (56, Any)], None),
+        (0x22, false, &[(24, Any), (4, NotZero), (1, Any), (3, NotZero), (4, Spare), (4, NotZero)], rest(80, 1, &[5])),
+        (0x23, false, &[(24, Any), (4, NotZero), (1, Any), (3, NotZero), (4, One), (4, Spare)], None),
+        (0x24, false, &[(24, Any), (4, NotZero), (4, Spare)], None),
+        (0x02, false, &[(24, Any), (4, NotZero), (4, Spare)], None),
+        (0x25, false, &[(24, Any), (4, NotZero), (4, NotZero), (8, Any)], None),
+        (0x61, false, &[(48, Any)], None),
+        (0x9B, false, &[(4, Spare), (4, Any)], rest(8, 1, &[1])),
+        (0x99, false, &[(2, NotZero), (6, Spare)], None),
+        (0x65, false, &[(4, Any), (2, Spare), (2, NotZero), (8, Spare)], None),
+        (0x9A, false, &[(3, Any), (3, Any), (2, Any)], rest(24, 0, &[0, 1, 2])),
+        (0x96, false, &[(4, Any), (4, Any)], rest(24, 0, &[0, 1])),
+        (0x31, true, &[(24, Any), (4, NotZero), (3, Qual), (1, Spare)], None),
+        (0x32, true, &[(24, Any), (4, NotZero), (1, Any), (3, Spare)], None),
+        (0x41, true, &[(24, Any), (56, Any)], None),
+        (0x42, true, &[(24, Any), (4, Spare), (4, NotZero)], rest(80, 1, &[2])),
+        (0x43, true, &[(24, Any), (2, Spare), (6, Any)], None),
+        (0x44, true, &[(24, Any), (3, Any), (6, Any), (52, Any), (3, Spare)], None),
+        (0x45, true, &[(24, Any), (4, Spare), (12, Any)], None),
+        (0x62, true, &[(48, Any)], None),
+        (0x83, true, &[(24, Any), (24, Any), (2, Any), (11, Advisory), (3, Del), (2, Any), (11, Advisory), (3, Del), (1, Any), (1, Any)], None),
+    ]
+}
+
+fn number(bits: &str) -> u64 {
+    u64::from_str_radix(bits, 2).unwrap()
+}
+
+fn unused(rule: Rule, v: u64) -> bool {
+    match rule {
+        Any | Spare => false,
+        NotZero => v == 0,
+        One => v != 1,
+        Qual => v > 4,
+        Del => v > 5,
+        Advisory => v % 8 == 7,
+    }
+}
+
+// 23 to 29, of a whole field or of one inside a relay; 0 where none holds.
+fn judge(bits: &str, from: bool, inner: bool) -> u8 {
+    let code = number(&bits[..8]) as u8;
+    let carried = types().into_iter().find(|t| t.0 == code);
+    if [0x64, 0x9C, 0xC1, 0xC2].contains(&code) || (0x80..=0x8F).contains(&code) && code != 0x83 {
+        return 24;
+    }
+    if carried.is_none() && code != 0x03 {
+        return 23;
+    }
+    if carried.as_ref().map_or(true, |t| t.1) != from {
+        return 25;
+    }
+    if inner && (code == 0x03 || code == 0x62) {
+        return 29;
+    }
+    let Some((_, _, parts, rest)) = carried else {
+        return if bits.len() < 24 { 26 } else { judge(&bits[16..], true, true) };
+    };
+    let base = 8 + parts.iter().map(|p| p.0).sum::<usize>();
+    if bits.len() < base {
+        return 26;
+    }
+    let mut at = 8;
+    let mut values = Vec::new();
+    for (width, _) in parts {
+        values.push(number(&bits[at..at + width]));
+        at += width;
+    }
+    let count = rest.as_ref().map_or(0, |r| r.more + r.counted.iter().map(|k| values[*k] as usize).sum::<usize>());
+    if bits.len() != base + rest.as_ref().map_or(0, |r| r.bits * count) {
+        return 26;
+    }
+    if parts.iter().zip(&values).any(|(p, v)| p.1 == Spare && *v != 0) {
+        return 27;
+    }
+    let block = |k: usize| number(&bits[base + 8 * k..base + 8 * k + 8]);
+    let bad_block = rest.is_some_and(|r| r.blocks) && (0..count).any(|k| block(k) % 16 > 9 || block(k) == 128);
+    if bad_block || parts.iter().zip(&values).any(|(p, v)| unused(p.1, *v)) {
+        return 28;
+    }
+    0
+}
+
+fn read(bytes: &[u8], count: usize, from: bool) -> u8 {
+    if count < 8 || count > 2008 {
+        return 20;
+    }
+    if bytes.len() != (count + 7) / 8 {
+        return 21;
+    }
+    let bits: String = bytes.iter().map(|b| format!("{b:08b}")).collect();
+    if bits[count..].contains('1') {
+        return 22;
+    }
+    judge(&bits[..count], from, false)
+}
+
+// ---- the cases, from the program's source
+
+// The next b"..." of the source, with \xHH read as bytes, and what follows it.
+fn quoted(text: &str) -> (Vec<u8>, &str) {
+    let start = text.find("b\"").unwrap() + 2;
+    let end = start + text[start..].find('"').unwrap();
+    let mut bytes = Vec::new();
+    let mut chars = text[start..end].chars();
+    while let Some(c) = chars.next() {
+        if c == '\\' {
+            chars.next();
+            let hex: String = chars.by_ref().take(2).collect();
+            bytes.push(u8::from_str_radix(&hex, 16).unwrap());
+        } else {
+            bytes.push(c as u8);
+        }
+    }
+    (bytes, &text[end + 1..])
+}
+
+fn main() {
+    let source = read_to_string("crates/fields_test/src/main.rt").unwrap();
+    for call in source.split("    show(").skip(1) {
+        let (name, after) = quoted(call);
+        let (bytes, after) = quoted(after);
+        let count: usize = after.split(',').nth(1).unwrap().trim().parse().unwrap();
+        let from = after[..after.find(')').unwrap()].contains("FromSensor");
+        let refused = read(&bytes, count, from);
+        let name = String::from_utf8(name).unwrap();
+        if refused == 0 {
+            let hex: String = bytes.iter().map(|b| format!("{b:02x}")).collect();
+            println!("{name}: 0 {count} {hex}");
+        } else {
+            println!("{name}: {refused}");
+        }
+    }
+    let (message, after) = quoted(source.rsplit_once("    counts(").unwrap().1);
+    let (relay, _) = quoted(after);
+    for count in 0..=200 {
+        let bytes = (count + 7) / 8;
+        println!("count {count}: 21 {} 03 {}", read(&message[..bytes], count, false), read(&relay[..bytes], count, true));
+    }
+}
