@@ -1,5 +1,5 @@
--- A list of reports that was written with idle words between reads back: the claims ReadsBack and EqualLists, for any answer that gives
--- each report that fits for its words. Assumes nothing.
+-- A list of reports that was written with idle words between reads back: the claim ReadsBack, for any answer that gives each
+-- report that fits for its words; and DocumentReturns and EqualLists. Assumes nothing.
 use Prim.Native.Nat.{ℕ, zero, suc, _+_, _≤_, _<_}
 use native.Mathlib.Nat.{add-zero}
 use mathlib.Core.Path.{_≡_, refl, ap, sym, _∙_, subst}
@@ -8,26 +8,25 @@ use mathlib.Core.List.{List, [], _∷_, _++_, map, append-nil}
 use native.Mathlib.Omega.{arith}
 use lib.ListN.{length, replicate}
 use Rattle.words.specs.Word.{idle}
-use Rattle.words.proofs.Layouts.{words-good}
 use Rattle.reports.specs.declared.Report.{Report}
 use Rattle.reports.specs.Altitude.{AltitudeForm}
-use Rattle.reports.specs.Layouts.{layoutOf, wordsOf, Fits}
-use Rattle.reports.proofs.Made.{twelve}
+use Rattle.reports.specs.Layouts.{wordsOf, Fits}
+use Rattle.reports.specs.Runs.{readRun}
+use Rattle.reports.proofs.Demand2.{words-length, words-good, demand-2}
 use Rattle.lines.specs.declared.What.{What}
 use Rattle.lines.specs.declared.What.the-variants as W
 use Rattle.lines.specs.declared.Outcome.{Outcome}
 use Rattle.lines.specs.Line.{most, outcomeOf, endOf, stretch, placed, outcomes}
 use Rattle.lines.specs.Stretches.{Run, closed, runsFrom}
 use Rattle.lines.specs.Spaced.{Spaced, lineOf, reportsOf, AllFit, Parted, Apart, back}
-use Rattle.lines.specs.Claims.{Answer, alone, Returns, ReadsBack, EqualLists}
-use Rattle.lines.proofs.Puts.{words-length}
+use Rattle.lines.specs.Claims.{Answer, alone, Returns, ReadsBack, DocumentReturns, EqualLists}
 use Rattle.lines.proofs.Runs.{Free, good-free, runs-idles, runs-words, runs-end}
 use Rattle.lines.proofs.Outcomes.{alone-free, one-each}
 
 -- ---- a report's words
 
 words-free : (form : AltitudeForm) (r : Report) → Fits form r → Free (wordsOf form r)
-words-free form r h = good-free (wordsOf form r) (words-good (layoutOf form r) (twelve form r) h)
+words-free form r h = good-free (wordsOf form r) (words-good form r h)
 
 words-some : (form : AltitudeForm) (r : Report) → 0 < length (wordsOf form r)
 words-some form r = ⊎-elim (λ n. omega arith) (λ n. omega arith) (words-length form r)
@@ -130,8 +129,13 @@ reports-back form p [] n = refl
 reports-back form p (s ∷ ss) n =
     ap (λ (rs : List Report). s .report ∷ rs) (reports-back form (p + s .ahead + length (wordsOf form (s .report))) ss n)
 
+pub document-returns : DocumentReturns
+document-returns form sound r h = demand-2 form sound (wordsOf form r) r .1 (refl, h)
+
 pub equal-lists : EqualLists
-equal-lists answer form gives ss ts m n f a g b h e =
+equal-lists form sound ss ts m n f a g b h e =
+    let answer = readRun form in
+    let gives = document-returns form sound in
     let k = ap length e in
     sym (reports-back form 0 ss (length (lineOf form ss m)))
     ∙ ap reportsIn (sym (reads-back answer form gives ss m f a h) ∙ ap (outcomes answer) e ∙ reads-back answer form gives ts n g b (omega arith))

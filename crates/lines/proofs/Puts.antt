@@ -15,11 +15,11 @@ use Rattle.refusals.specs.declared.LineRefusal.the-variants.{LineTooLong, Place
 use Rattle.words.specs.Tests.{pick}
 use Rattle.words.specs.Word.{idle}
 use Rattle.reports.specs.declared.Report.{Report}
-use Rattle.reports.specs.declared.Report.the-variants as R
 use Rattle.reports.specs.declared.Written.{Written}
 use Rattle.reports.specs.declared.Written.the-variants as M
 use Rattle.reports.specs.Altitude.{AltitudeForm}
 use Rattle.reports.specs.Layouts.{wordsOf, takes, Takes, asWritten, written}
+use Rattle.reports.proofs.Demand2.{words-length}
 use Rattle.lines.specs.declared.Wrote.{Wrote}
 use Rattle.lines.specs.declared.Wrote.the-variants as W
 use Rattle.lines.specs.Line.{most}
@@ -92,17 +92,6 @@ has-room line place n ws exit e h f =
     }
 
 -- ---- a report's words
-
-pub words-length : (form : AltitudeForm) (r : Report) → (length (wordsOf form r) ≡ 4) ⊎ (length (wordsOf form r) ≡ 7)
-words-length form (R.Search s) = inl refl
-words-length form (R.Strobe s) = inl refl
-words-length form (R.Map m) = inl refl
-words-length form (R.Status s) = inl refl
-words-length form (R.Rtqc s) = inl refl
-words-length form (R.Dabs d) = inr refl
-words-length form (R.Atcrbs a) = inr refl
-words-length form (R.Mtd m) = inr refl
-words-length form (R.Rdas d) = inr refl
 
 -- the words of what the report layer hands out
 abbrev pub handed : Written → List ℕ

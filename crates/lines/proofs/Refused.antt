@@ -1,134 +1,141 @@
--- Each refusal exactly under its condition: the claims ReaderRefuses, ByteReaderRefuses and WriterRefuses. A chain of tests is gone
--- through row by row, by one law. Assumes nothing.
-use Prim.Native.Nat.{ℕ, _+_, _-_, _/_, _%_, _≤_}
-use mathlib.Core.Path.{_≡_, refl, ap, sym, _∙_}
+-- Each refusal exactly under its condition, with the place that it names: the claims ReaderRefuses, ByteReaderRefuses and WriterRefuses.
+-- A chain of tests is gone through row by row, by one law. Assumes nothing.
+use Prim.Native.Nat.{ℕ, _+_, _-_, _%_}
+use mathlib.Core.Path.{_≡_, refl, ap, sym, _∙_, subst}
 use mathlib.Core.Bool.{Bool, true, false, not}
 use mathlib.Core.Logic.{_↔_, _⊎_, inl, inr, ⊎-elim}
 use mathlib.Core.List.{List, [], _∷_}
 use native.Mathlib.Omega.{arith}
 use lib.Dec.{eqb, ltb}
 use lib.ListN.{length, drop}
-use borrow.Author.Tests.{ltb-false, le-ltb, eq-eqb, ne-eqb}
+use borrow.Author.Tests.{ltb-false, le-ltb}
 use Rattle.refusals.specs.declared.LineRefusal.{LineRefusal}
 use Rattle.refusals.specs.declared.LineRefusal.the-variants.{LineTooLong, OddByteCount, PlaceBeyondLine, ValueTooLarge, NoRoom}
 use Rattle.words.specs.Tests.{pick}
 use Rattle.reports.specs.declared.Report.{Report}
 use Rattle.reports.specs.declared.RunAnswer.{RunAnswer}
 use Rattle.reports.specs.declared.RunAnswer.the-variants as A
-use Rattle.reports.specs.declared.Written.the-variants as M
 use Rattle.reports.specs.Altitude.{AltitudeForm}
-use Rattle.reports.specs.Layouts.{wordsOf, takes, asWritten, written}
+use Rattle.reports.specs.Claims.{Hit}
+use Rattle.reports.specs.Layouts.{wordsOf, takes, written}
 use Rattle.reports.specs.Records.{reportOf}
 use Rattle.reports.specs.Runs.{Row, firstHit, tableOf, readRun}
-use Rattle.lines.specs.declared.What.{What}
 use Rattle.lines.specs.declared.What.the-variants as W
 use Rattle.lines.specs.declared.Outcome.{Outcome}
 use Rattle.lines.specs.declared.Wrote.{Wrote}
 use Rattle.lines.specs.declared.Wrote.the-variants as P
-use Rattle.lines.specs.Line.{most, whatOf, notTaken, gap, runIn, outcomeAt, readBy, readAt}
+use Rattle.lines.specs.Line.{most, notTaken, placed, gap, runIn, outcomeAt, readBy, readAt}
 use Rattle.lines.specs.Bytes.{mostBytes, wordsIn, readBytes}
 use Rattle.lines.specs.Writing.{room, roomFor, writeAt}
-use Rattle.lines.specs.Rows.{FirstIs, runRows, rowsAt}
+use Rattle.lines.specs.Rows.{from, runRows, placeRows}
 use Rattle.lines.specs.Claims.{ReaderRefuses, ByteReaderRefuses, WriterRefuses}
-use Rattle.lines.proofs.Tests.{picked, passed, byTest}
+use Rattle.lines.proofs.Tests.{passed}
 use Rattle.lines.proofs.ByteWords.{words-length}
 use Rattle.lines.proofs.Puts.{room-for}
+
+-- ---- one row: it holds and answers, or it does not and the others do
 
 differ : true ≡ false → ⊥
 differ e = let z : _≡_ {A = ℕ} 0 1 = cc in omega arith
 
--- one row: it holds and answers, or it does not and the others do
-module _ {X : Type 0} (said : LineRefusal → X) (only : (a b : LineRefusal) → said a ≡ said b → a ≡ b) where
-  pub one-row : (b : Bool) (x q : LineRefusal) (rest : X) (T : Type 0) → (b ≡ false → (rest ≡ said q) ↔ T)
-      → (pick b (said x) rest ≡ said q) ↔ (((b ≡ true) × (x ≡ q)) ⊎ ((b ≡ false) × T))
-  one-row true x q rest T h = (λ e. inl (refl, only x q e), ⊎-elim (λ k. ap said (k .1)) (λ k. absurd (differ (k .0))))
-  one-row false x q rest T h = (λ e. inr (refl, h refl .0 e), ⊎-elim (λ k. absurd (differ (sym (k .0)))) (λ k. h refl .1 (k .1)))
+-- `Says x q p`: the answer x is refusal q, and names p
+module _ {X : Type 0} (Says : X → LineRefusal → ℕ → Type 0) (one : (x : X) (a b : LineRefusal) (m n : ℕ) → Says x a m → Says x b n → (a ≡ b) × (m ≡ n)) where
+  one-row : (b : Bool) (x rest : X) (a q : LineRefusal) (m p : ℕ) (T : Type 0) → Says x a m → (b ≡ false → Says rest q p ↔ T)
+      → Says (pick b x rest) q p ↔ (((b ≡ true) × (a ≡ q) × (m ≡ p)) ⊎ ((b ≡ false) × T))
+  one-row true x rest a q m p T s h = (
+    λ e. let k = one x a q m p s e in inl (refl, k .0, k .1),
+    ⊎-elim (λ k. subst (λ (n : ℕ). Says x q n) (k .2) (subst (λ (r : LineRefusal). Says x r m) (k .1) s)) (λ k. absurd (differ (k .0))),
+  )
+  one-row false x rest a q m p T s h = (λ e. inr (refl, h refl .0 e), ⊎-elim (λ k. absurd (differ (sym (k .0)))) (λ k. h refl .1 (k .1)))
 
 -- an equivalence for what is equal
-same-iff : {X : Type 0} {x y z : X} {T : Type 0} → x ≡ y → (y ≡ z) ↔ T → (x ≡ z) ↔ T
-same-iff e h = (λ k. h .0 (sym e ∙ k), λ t. e ∙ h .1 t)
+same-iff : {X : Type 0} (P : X → Type 0) {x y : X} {T : Type 0} → x ≡ y → P y ↔ T → P x ↔ T
+same-iff P e h = (λ k. h .0 (subst P e k), λ t. subst P (sym e) (h .1 t))
 
 -- ---- the reader
 
-what-only : (a b : LineRefusal) → W.Refused a ≡ W.Refused b → a ≡ b
-what-only a b e = cc
+abbrev Reads : Outcome → LineRefusal → ℕ → Type 0
+Reads o q p = (o .what ≡ W.Refused q) × (o .named ≡ p)
 
-what-pick : (b : Bool) (x y : Outcome) → pick b x y .what ≡ pick b (x .what) (y .what)
-what-pick true x y = refl
-what-pick false x y = refl
+one-read : (o : Outcome) (a b : LineRefusal) (m n : ℕ) → Reads o a m → Reads o b n → (a ≡ b) × (m ≡ n)
+one-read o a b m n s t = (same a b (sym (s .0) ∙ t .0), sym (s .1) ∙ t .1)
+  where
+    same : (a b : LineRefusal) → W.Refused a ≡ W.Refused b → a ≡ b
+    same a b e = cc
 
-answer-pick : (b : Bool) (x y : RunAnswer) → whatOf (pick b x y) ≡ pick b (whatOf x) (whatOf y)
-answer-pick true x y = refl
-answer-pick false x y = refl
+placed-pick : (f n : ℕ) (b : Bool) (x y : RunAnswer) → placed f n (pick b x y) ≡ pick b (placed f n x) (placed f n y)
+placed-pick f n true x y = refl
+placed-pick f n false x y = refl
 
-table-refuses : (rows : List Row) (r : Report) (q : LineRefusal) → (whatOf (firstHit rows (A.Accepted r)) ≡ W.Refused q) ↔ FirstIs rows q
-table-refuses [] r q = (λ e. let z : _≡_ {A = ℕ} 0 1 = cc in omega arith, λ k. absurd k)
-table-refuses (x ∷ rows) r q =
+table-refuses : (f n : ℕ) (rows : List Row) (r : Report) (q : LineRefusal) (p : ℕ) → Reads (placed f n (firstHit rows (A.Accepted r))) q p ↔ Hit (from f rows) q p
+table-refuses f n [] r q p = (λ e. let k = e .0 in let z : _≡_ {A = ℕ} 0 1 = cc in omega arith, λ k. absurd k)
+table-refuses f n (x ∷ rows) r q p =
     let rest = firstHit rows (A.Accepted r) in
-    same-iff (answer-pick (x .holds) (A.Refused (x .refusal) (x .offset)) rest)
-    (one-row W.Refused what-only (x .holds) (x .refusal) q (whatOf rest) (FirstIs rows q) (λ b. table-refuses rows r q))
+    same-iff (λ (o : Outcome). Reads o q p) (placed-pick f n (x .holds) (A.Refused (x .refusal) (x .offset)) rest)
+    (one-row Reads one-read (x .holds) (placed f n (A.Refused (x .refusal) (x .offset))) (placed f n rest) (x .refusal) q (f + x .offset) p
+    (Hit (from f rows) q p) (refl, refl) (λ b. table-refuses f n rows r q p))
 
-run-refuses : (form : AltitudeForm) (n f : ℕ) (run : List ℕ) (q : LineRefusal) → (outcomeAt (readRun form) n f run .what ≡ W.Refused q) ↔ FirstIs (runRows form run) q
-run-refuses form n f [] q = (λ e. let z : _≡_ {A = ℕ} 0 1 = cc in omega arith, λ k. absurd k)
-run-refuses form n f (w ∷ ws) q = table-refuses (tableOf form (w ∷ ws)) (reportOf form (w ∷ ws)) q
+run-refuses : (form : AltitudeForm) (n f : ℕ) (run : List ℕ) (q : LineRefusal) (p : ℕ) → Reads (outcomeAt (readRun form) n f run) q p ↔ Hit (runRows form f run) q p
+run-refuses form n f [] q p = (λ e. let k = e .0 in let z : _≡_ {A = ℕ} 0 1 = cc in omega arith, λ k. absurd k)
+run-refuses form n f (w ∷ ws) q p = table-refuses f (length (w ∷ ws)) (tableOf form (w ∷ ws)) (reportOf form (w ∷ ws)) q p
 
--- numbers 1 and 3 to 9, on a line that is short enough
-within-refuses : (form : AltitudeForm) (line : List ℕ) (place : ℕ) (q : LineRefusal)
-    → (pick (ltb (length line) place) (notTaken PlaceBeyondLine place) (outcomeAt (readRun form) (length line) (place + gap (drop place line)) (runIn (drop place line))) .what ≡ W.Refused q)
-    ↔ (((ltb (length line) place ≡ true) × (PlaceBeyondLine ≡ q)) ⊎ ((ltb (length line) place ≡ false) × FirstIs (runRows form (runIn (drop place line))) q))
-within-refuses form line place q =
+-- the reader on a line that is short enough
+abbrev within : AltitudeForm → List ℕ → ℕ → Outcome
+within form line place =
+    pick (ltb (length line) place) (notTaken PlaceBeyondLine place)
+    (outcomeAt (readRun form) (length line) (place + gap (drop place line)) (runIn (drop place line)))
+
+within-refuses : (form : AltitudeForm) (line : List ℕ) (place : ℕ) (q : LineRefusal) (p : ℕ) → Reads (within form line place) q p ↔ Hit (placeRows form line place) q p
+within-refuses form line place q p =
     let run = runIn (drop place line) in
-    let o = outcomeAt (readRun form) (length line) (place + gap (drop place line)) run in
-    same-iff (what-pick (ltb (length line) place) (notTaken PlaceBeyondLine place) o)
-    (one-row W.Refused what-only (ltb (length line) place) PlaceBeyondLine q (o .what) (FirstIs (runRows form run) q)
-    (λ b. run-refuses form (length line) (place + gap (drop place line)) run q))
+    let f = place + gap (drop place line) in
+    one-row Reads one-read (ltb (length line) place) (notTaken PlaceBeyondLine place) (outcomeAt (readRun form) (length line) f run) PlaceBeyondLine q place p
+    (Hit (runRows form f run) q p) (refl, refl) (λ b. run-refuses form (length line) f run q p)
 
 pub reader-refuses : ReaderRefuses
 unfolding readBy
-reader-refuses form line place q =
-    let inner = pick (ltb (length line) place) (notTaken PlaceBeyondLine place)
-    (outcomeAt (readRun form) (length line) (place + gap (drop place line)) (runIn (drop place line))) in
-    same-iff (what-pick (ltb most (length line)) (notTaken LineTooLong place) inner)
-    (one-row W.Refused what-only (ltb most (length line)) LineTooLong q (inner .what) _ (λ b. within-refuses form line place q))
+reader-refuses form line place q p =
+    one-row Reads one-read (ltb most (length line)) (notTaken LineTooLong place) (within form line place) LineTooLong q place p
+    (Hit (placeRows form line place) q p) (refl, refl) (λ b. within-refuses form line place q p)
 
 -- ---- the reader of bytes: bytes that are few enough hold words that are
 
-pub byte-reader-refuses : ByteReaderRefuses
-unfolding readBytes readBy
-byte-reader-refuses form bytes place q =
-    let line = wordsIn bytes in
-    let inner = pick (ltb (length line) place) (notTaken PlaceBeyondLine place)
-    (outcomeAt (readRun form) (length line) (place + gap (drop place line)) (runIn (drop place line))) in
-    let whole = readAt form line place in
-    let odd = pick (eqb (length bytes % 2) 1) (notTaken OddByteCount place) whole in
-    same-iff (what-pick (ltb mostBytes (length bytes)) (notTaken LineTooLong place) odd)
-    (one-row W.Refused what-only (ltb mostBytes (length bytes)) LineTooLong q (odd .what) _
-    (λ b.
+short : (form : AltitudeForm) (bytes : List ℕ) (place : ℕ) → ltb mostBytes (length bytes) ≡ false → readAt form (wordsIn bytes) place ≡ within form (wordsIn bytes) place
+unfolding readBy
+short form bytes place b =
     let n = words-length bytes in
     let m = ltb-false mostBytes (length bytes) b in
-    same-iff (what-pick (eqb (length bytes % 2) 1) (notTaken OddByteCount place) whole)
-    (one-row W.Refused what-only (eqb (length bytes % 2) 1) OddByteCount q (whole .what) _
-    (λ c.
-    same-iff (ap (λ (o : Outcome). o .what) (passed (notTaken LineTooLong place) inner (le-ltb most (length line) (omega arith))))
-    (within-refuses form line place q)))))
+    passed (notTaken LineTooLong place) (within form (wordsIn bytes) place) (le-ltb most (length (wordsIn bytes)) (omega arith))
+
+pub byte-reader-refuses : ByteReaderRefuses
+unfolding readBytes
+byte-reader-refuses form bytes place q p =
+    let line = wordsIn bytes in
+    let whole = readAt form line place in
+    let rows = placeRows form line place in
+    let isOdd = eqb (length bytes % 2) 1 in
+    one-row Reads one-read (ltb mostBytes (length bytes)) (notTaken LineTooLong place) (pick isOdd (notTaken OddByteCount place) whole) LineTooLong q place p
+    _ (refl, refl)
+    (λ b. one-row Reads one-read isOdd (notTaken OddByteCount place) whole OddByteCount q place p (Hit rows q p) (refl, refl)
+    (λ c. same-iff (λ (o : Outcome). Reads o q p) (short form bytes place b) (within-refuses form line place q p)))
 
 -- ---- the writer
 
-abbrev giveBack : ℕ → LineRefusal → Wrote
-giveBack place q = P.Refused q place
+abbrev Answers : Wrote → LineRefusal → ℕ → Type 0
+Answers w q p = w ≡ P.Refused q p
 
-back-only : (place : ℕ) (a b : LineRefusal) → giveBack place a ≡ giveBack place b → a ≡ b
-back-only place a b e = cc
+one-answer : (w : Wrote) (a b : LineRefusal) (m n : ℕ) → Answers w a m → Answers w b n → (a ≡ b) × (m ≡ n)
+one-answer w a b m n s t = (cc, cc)
 
 pub writer-refuses : WriterRefuses
 unfolding writeAt
-writer-refuses form line place r q =
+writer-refuses form line place r q p =
     let n = length (wordsOf form r) in
-    let last = room line place n in
     let whole = roomFor line place (written form r) in
-    one-row (giveBack place) (back-only place) (ltb most (length line)) LineTooLong q (pick (ltb (length line) place) (P.Refused PlaceBeyondLine place) whole) _
-    (λ a. one-row (giveBack place) (back-only place) (ltb (length line) place) PlaceBeyondLine q whole _
-    (λ b. same-iff (room-for form line place r)
-    (one-row (giveBack place) (back-only place) (not (takes form r)) ValueTooLarge q last _
-    (λ c. one-row (giveBack place) (back-only place) (ltb (length line - place) (n + 1)) NoRoom q (P.Next (place + n + 1)) ⊥
+    one-row Answers one-answer (ltb most (length line)) (P.Refused LineTooLong place) (pick (ltb (length line) place) (P.Refused PlaceBeyondLine place) whole)
+    LineTooLong q place p _ refl
+    (λ a. one-row Answers one-answer (ltb (length line) place) (P.Refused PlaceBeyondLine place) whole PlaceBeyondLine q place p _ refl
+    (λ b. same-iff (λ (w : Wrote). Answers w q p) (room-for form line place r)
+    (one-row Answers one-answer (not (takes form r)) (P.Refused ValueTooLarge place) (room line place n) ValueTooLarge q place p _ refl
+    (λ c. one-row Answers one-answer (ltb (length line - place) (n + 1)) (P.Refused NoRoom place) (P.Next (place + n + 1)) NoRoom q place p ⊥ refl
     (λ d. (λ e. let z : _≡_ {A = ℕ} 0 1 = cc in omega arith, λ k. absurd k))))))

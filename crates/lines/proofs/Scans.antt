@@ -8,8 +8,8 @@ use mathlib.Core.List.{List, [], _∷_, _++_, append-nil}
 use native.Mathlib.Omega.{arith}
 use native.Mathlib.Numerals.{add-one}
 use lib.Dec.{eqb, ltb, leb·suc-suc}
-use lib.ListN.{length, getD, take, drop, length-append, length-drop, length-take, drop-of-length-le, List·getD-eq-default}
-use lib.Seq.{drop-cons, append-snoc, drop-drop, getD-take, getD-drop, length-take-le}
+use lib.ListN.{length, getD, take, drop, length-append, length-take, drop-of-length-le, List·getD-eq-default}
+use lib.Seq.{drop-cons, append-snoc, drop-drop, getD-take, getD-drop}
 use borrow.Author.Tests.{lt-ltb, le-ltb, ltb-true, ne-eqb}
 use Rattle.refusals.specs.declared.LineRefusal.the-variants.{PlaceBeyondLine}
 use Rattle.words.specs.Tests.{pick}
@@ -17,10 +17,9 @@ use Rattle.words.specs.Word.{idle, wide, even, first}
 use Rattle.reports.specs.declared.RunAnswer.{RunAnswer}
 use Rattle.reports.specs.declared.RunAnswer.the-variants as A
 use Rattle.reports.specs.Altitude.{AltitudeForm}
-use Rattle.reports.specs.Conditions.{unknownForm, fourZeros, heightSpares, sevenSpares, zeros, unassigned, spareSet, minusZero}
-use Rattle.reports.specs.Forms.{wordCount}
-use Rattle.reports.specs.Records.{heightOf, fourOf, sevenOf, reportOf}
+use Rattle.reports.specs.Records.{reportOf}
 use Rattle.reports.specs.Runs.{Row, firstHit, table, judged, readRun, answerOffset}
+use Rattle.reports.proofs.Refusals.{first-seven}
 use Rattle.lines.specs.declared.run.Scan.{Scan}
 use Rattle.lines.specs.declared.Outcome.{Outcome}
 use Rattle.lines.specs.Line.{most, gap, stretch, runIn, outcomeAt, placed, notTaken, readBy, readAt}
@@ -170,11 +169,6 @@ gap-seen g (w ∷ ws) =
 -- the first seven words, zeros past the end
 abbrev pub seven : List ℕ → List ℕ
 seven ws = getD ws 0 0 ∷ getD ws 1 0 ∷ getD ws 2 0 ∷ getD ws 3 0 ∷ getD ws 4 0 ∷ getD ws 5 0 ∷ getD ws 6 0 ∷ []
-
--- a run is judged by its first seven words
-first-seven : (form : AltitudeForm) (ws : List ℕ) (n w e : ℕ) → judged form (seven ws) n w e ≡ judged form ws n w e
-unfolding fourZeros heightSpares sevenSpares zeros heightOf fourOf sevenOf reportOf
-first-seven form ws n w e = refl
 
 stretch-taken : (ws : List ℕ) → take (length (stretch ws)) ws ≡ stretch ws
 unfolding stretch

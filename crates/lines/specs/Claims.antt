@@ -13,18 +13,19 @@ use Rattle.words.specs.Word.{idle}
 use Rattle.reports.specs.declared.Report.{Report}
 use Rattle.reports.specs.declared.RunAnswer.{RunAnswer}
 use Rattle.reports.specs.declared.RunAnswer.the-variants as A
-use Rattle.reports.specs.Altitude.{AltitudeForm}
+use Rattle.reports.specs.Altitude.{AltitudeForm, Sound}
+use Rattle.reports.specs.Claims.{Hit}
 use Rattle.reports.specs.Layouts.{wordsOf, Fits}
+use Rattle.reports.specs.Runs.{readRun}
 use Rattle.lines.specs.declared.What.{What}
 use Rattle.lines.specs.declared.What.the-variants as W
 use Rattle.lines.specs.declared.Outcome.{Outcome}
-use Rattle.lines.specs.declared.Wrote.{Wrote}
 use Rattle.lines.specs.declared.Wrote.the-variants as P
 use Rattle.lines.specs.Line.{most, outcomeOf, endOf, isReport, isRefusal, isEnd, readBy, readAt, calls, outcomes}
 use Rattle.lines.specs.Bytes.{readBytes}
 use Rattle.lines.specs.Stretches.{Run, runs, idleWords, reportedWords, refusedWords}
 use Rattle.lines.specs.Spaced.{Spaced, lineOf, reportsOf, AllFit, Apart, back}
-use Rattle.lines.specs.Rows.{FirstIs, rowsAt, byteRowsAt, writerRowsAt}
+use Rattle.lines.specs.Rows.{rowsAt, byteRowsAt, writerRowsAt}
 use Rattle.lines.specs.Writing.{writeAt, leftBy, put, puts, taken}
 
 -- what looks at the words of a run
@@ -33,20 +34,21 @@ Answer = List ℕ → RunAnswer
 
 -- ---- demand 1: each refusal exactly under its condition (proofs/Refused.antt)
 
--- the reader gives a refusal exactly where it is the first of the table whose condition holds
+-- a refusal is given, and a place named, exactly where its row is the first of the table that holds
 abbrev pub ReaderRefuses : Type 0
 ReaderRefuses =
-    (form : AltitudeForm) (line : List ℕ) (place : ℕ) (q : LineRefusal) → (readAt form line place .what ≡ W.Refused q) ↔ FirstIs (rowsAt form line place) q
+    (form : AltitudeForm) (line : List ℕ) (place : ℕ) (q : LineRefusal) (p : ℕ)
+    → ((readAt form line place .what ≡ W.Refused q) × (readAt form line place .named ≡ p)) ↔ Hit (rowsAt form line place) q p
 
 abbrev pub ByteReaderRefuses : Type 0
 ByteReaderRefuses =
-    (form : AltitudeForm) (bytes : List ℕ) (place : ℕ) (q : LineRefusal) → (readBytes form bytes place .what ≡ W.Refused q) ↔ FirstIs (byteRowsAt form bytes place) q
+    (form : AltitudeForm) (bytes : List ℕ) (place : ℕ) (q : LineRefusal) (p : ℕ)
+    → ((readBytes form bytes place .what ≡ W.Refused q) × (readBytes form bytes place .named ≡ p)) ↔ Hit (byteRowsAt form bytes place) q p
 
--- the writer gives the place back with it
 abbrev pub WriterRefuses : Type 0
 WriterRefuses =
-    (form : AltitudeForm) (line : List ℕ) (place : ℕ) (r : Report) (q : LineRefusal)
-    → (writeAt form line place r ≡ P.Refused q place) ↔ FirstIs (writerRowsAt form line place r) q
+    (form : AltitudeForm) (line : List ℕ) (place : ℕ) (r : Report) (q : LineRefusal) (p : ℕ)
+    → (writeAt form line place r ≡ P.Refused q p) ↔ Hit (writerRowsAt form line place r) q p
 
 -- ---- demand 1: the calls come to an end (proofs/Outcomes.antt)
 
@@ -169,10 +171,14 @@ ReadsBack =
     length (lineOf form ss tail) ≤ most →
     outcomes answer (lineOf form ss tail) ≡ back form 0 ss ++ (endOf (length (lineOf form ss tail)) ∷ [])
 
+-- document 01's reader is such an answer
+abbrev pub DocumentReturns : Type 0
+DocumentReturns = (form : AltitudeForm) → Sound form → Returns (readRun form) form
+
 -- two such lists whose lines are equal are equal
 abbrev pub EqualLists : Type 0
 EqualLists =
-    (answer : Answer) (form : AltitudeForm) → Returns answer form → (ss ts : List Spaced) (m n : ℕ) → AllFit form ss → Apart ss → AllFit form ts → Apart ts →
+    (form : AltitudeForm) → Sound form → (ss ts : List Spaced) (m n : ℕ) → AllFit form ss → Apart ss → AllFit form ts → Apart ts →
     length (lineOf form ss m) ≤ most → lineOf form ss m ≡ lineOf form ts n → reportsOf ss ≡ reportsOf ts
 
 -- calls of the writer one after the other on a line of idle words leave such a list: the reports that were not refused
