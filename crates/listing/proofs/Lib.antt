@@ -1,0 +1,5 @@
+pub mod Decimals
+pub mod Putting
+pub mod Bounded
+pub mod Telling
+pub mod Whole
