@@ -149,6 +149,69 @@ fn quoted(text: &str) -> (Vec<u8>, &str) {
     (bytes, &text[end + 1..])
 }
 
+// ---- writing: a name, the room, a type and the values of its parts (the spares too), the list, the text, the sensor of a relay
+
+type Write = (&'static str, usize, u8, &'static [u64], &'static [i64], &'static str, Option<u64>);
+
+const WRITTEN: &[Write] = &[
+    ("write 24 number 0", 6, 0x24, &[1, 0, 0], &[], "", None),
+    ("write 24 number 16", 6, 0x24, &[1, 16, 0], &[], "", None),
+    ("write 24 with a text", 6, 0x24, &[1, 15, 0], &[], "x", None),
+    ("write 24 number 15", 6, 0x24, &[1, 15, 0], &[], "", None),
+    ("write 24 in four bytes", 4, 0x24, &[1, 1, 0], &[], "", None),
+    ("write 24 in five bytes", 5, 0x24, &[1, 1, 0], &[], "", None),
+    ("write 9B N 16", 4, 0x9B, &[0, 16], &[], "", None),
+    ("write 9B 80", 4, 0x9B, &[0, 0], &[80], "", None),
+    ("write 9B -80", 4, 0x9B, &[0, 0], &[-80], "", None),
+    ("write 9B past the count", 4, 0x9B, &[0, 0], &[-79, 1], "", None),
+    ("write 9B -79", 4, 0x9B, &[0, 0], &[-79], "", None),
+    ("write 42 of 19 bytes", 26, 0x42, &[1, 0, 1], &[], "0123456789012345678", None),
+    ("write 42 of 20 bytes", 26, 0x42, &[1, 0, 1], &[], "01234567890123456789", None),
+    ("write 03 of 24", 8, 0x24, &[1, 1, 0], &[], "", Some(7)),
+    ("write 03 of 62", 8, 0x62, &[1], &[], "", Some(7)),
+    ("write 03 sensor 256", 8, 0x31, &[1, 1, 0, 0], &[], "", Some(256)),
+    ("write 03 of 31", 8, 0x31, &[1, 1, 0, 0], &[], "", Some(255)),
+    ("write 83", 13, 0x83, &[0, 0, 0, 0, 0, 0, 0, 0, 0, 1], &[], "", None),
+];
+
+// 30, 31 or 0, and the bytes of the room, which held ones.
+fn write(room: usize, code: u8, values: &[u64], list: &[i64], text: &[u8], relay: Option<u64>) -> String {
+    let (_, from, parts, rest) = types().into_iter().find(|t| t.0 == code).unwrap();
+    let hex = |bytes: &[u8]| bytes.iter().map(|b| format!("{b:02x}")).collect::<String>();
+    let ones = vec![0xFF; room];
+    let count = rest.as_ref().map_or(0, |r| r.more + r.counted.iter().map(|k| values[*k] as usize).sum::<usize>());
+    let blocks = rest.as_ref().is_some_and(|r| r.blocks);
+    let listed = if rest.as_ref().is_some_and(|r| r.bits == 80) { 0 } else { count };
+    let texted = if rest.as_ref().is_some_and(|r| r.bits == 80) { 10 * count } else { 0 };
+    let too_large = parts.iter().zip(values).any(|(p, v)| *v >= 1 << p.0 || unused(p.1, *v));
+    let bad_list = list.iter().enumerate().any(|(k, v)| if k < listed { blocks && v.abs() > 79 } else { *v != 0 });
+    let bad_relay = relay.is_some_and(|sensor| sensor > 255 || !from || code == 0x62);
+    if too_large || bad_list || text.len() != texted || bad_relay {
+        return format!("30 {}", hex(&ones));
+    }
+    let mut bits = relay.map_or(String::new(), |sensor| format!("{:08b}{sensor:08b}", 3));
+    bits += &format!("{code:08b}");
+    for ((width, _), v) in parts.iter().zip(values) {
+        bits += &format!("{v:0width$b}");
+    }
+    for k in 0..listed {
+        let v = list.get(k).copied().unwrap_or(0);
+        bits += &format!("{}{:03b}{:04b}", if v < 0 { 1 } else { 0 }, v.abs() / 10, v.abs() % 10);
+    }
+    for b in text {
+        bits += &format!("{b:08b}");
+    }
+    while bits.len() % 8 != 0 {
+        bits.push('0');
+    }
+    let mut bytes: Vec<u8> = bits.as_bytes().chunks(8).map(|c| number(std::str::from_utf8(c).unwrap()) as u8).collect();
+    if bytes.len() > room {
+        return format!("31 {}", hex(&ones));
+    }
+    bytes.resize(room, 0xFF);
+    format!("0 {}", hex(&bytes))
+}
+
 fn main() {
     let source = read_to_string("crates/fields_test/src/main.rt").unwrap();
     for call in source.split("    show(").skip(1) {
@@ -164,6 +227,9 @@ fn main() {
         } else {
             println!("{name}: {refused}");
         }
+    }
+    for (name, room, code, values, list, text, relay) in WRITTEN {
+        println!("{name}: {}", write(*room, *code, values, list, text.as_bytes(), *relay));
     }
     let (message, after) = quoted(source.rsplit_once("    counts(").unwrap().1);
     let (relay, _) = quoted(after);

@@ -6,7 +6,7 @@ use native.Mathlib.Omega.{arith}
 use lib.Dec.{ltb}
 use lib.ListN.{length, length-append}
 use borrow.Author.Tests.{lt-ltb, le-ltb, ltb-true, ltb-false}
-use Rattle.lines.proofs.Tests.{picked, passed, byTest}
+use Rattle.lines.proofs.Tests.{picked, passed, by-test}
 use Rattle.listing.specs.Letters.{digits, decimal}
 
 -- more digits than enough change nothing
@@ -15,7 +15,7 @@ unfolding digits
 digits-enough zero m n h g = absurd (omega arith)
 digits-enough (suc k) zero n h g = absurd (omega arith)
 digits-enough (suc k) (suc m) n h g =
-    byTest (ltb n 10)
+    by-test (ltb n 10)
     (λ e. picked _ _ e ∙ sym (picked _ _ e))
     (λ e.
     let b = ltb-false n 10 e in
@@ -48,7 +48,7 @@ few : (j n : ℕ) → n < tens j → length (decimal n) ≤ suc j
 unfolding tens
 few zero n h = let e = length-one n h in omega arith
 few (suc j) n h =
-    byTest (ltb n 10)
+    by-test (ltb n 10)
     (λ e. let b = length-one n (ltb-true n 10 e) in omega arith)
     (λ e. let b = length-last n (ltb-false n 10 e) in let f = few j (n / 10) (omega arith) in omega arith)
 

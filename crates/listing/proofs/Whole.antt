@@ -22,7 +22,7 @@ use Rattle.lines.specs.Bytes.{mostBytes, wordsIn}
 use Rattle.lines.specs.Line.{most, endOf, isEnd, placed, readBy, calls, outcomes}
 use Rattle.lines.specs.Stretches.{Run, runs, idleWords, isAccepted, wordsWhere}
 use Rattle.lines.specs.Claims.{alone}
-use Rattle.lines.proofs.Tests.{picked, passed, byTest}
+use Rattle.lines.proofs.Tests.{picked, passed, by-test}
 use Rattle.lines.proofs.ByteWords.{words-length}
 use Rattle.lines.proofs.Runs.{All, all-runs}
 use Rattle.lines.proofs.Outcomes as reader
@@ -174,7 +174,7 @@ runs-told n p r q (x ∷ rs) h =
 end-last : (n : ℕ) (os : List Outcome) → hasEnd (os ++ (endOf n ∷ [])) ≡ true
 unfolding hasEnd
 end-last n [] = refl
-end-last n (o ∷ os) = byTest (isEnd (o .what)) (λ e. picked _ _ e) (λ e. passed _ _ e ∙ end-last n os)
+end-last n (o ∷ os) = by-test (isEnd (o .what)) (λ e. picked _ _ e) (λ e. passed _ _ e ∙ end-last n os)
 
 -- ---- the whole
 
@@ -216,14 +216,14 @@ alone-said (suc k) bytes all s h e t =
 pub whole : Whole
 unfolding listing
 whole bytes k enough =
-    byTest (ltb mostBytes (length bytes))
+    by-test (ltb mostBytes (length bytes))
     (λ e.
     let long = is-long 64 bytes start (omega arith) refl (ltb-true mostBytes (length bytes) e) in
     let r = alone-said k bytes (text "LONG\n") _ (omega arith) (sym (roomy 64 bytes start (omega arith)) ∙ long) refl in
     (r .0 ∙ sym (picked _ _ e), r .1))
     (λ e.
     let short = ltb-false mostBytes (length bytes) e in
-    byTest (eqb (length bytes % 2) 1)
+    by-test (eqb (length bytes % 2) 1)
     (λ f.
     let odd = is-odd 64 bytes start (omega arith) refl short (eqb-true (length bytes % 2) 1 f) in
     let r = alone-said k bytes (text "ODD\n") _ (omega arith) (sym (roomy 64 bytes start (omega arith)) ∙ odd) refl in
