@@ -6,9 +6,10 @@ use mathlib.Core.Logic.{_⊎_, inl, inr, ⊎-elim}
 use mathlib.Core.Bool.{Bool, true, false}
 use mathlib.Core.List.{List, [], _∷_}
 use native.Mathlib.Omega.{arith}
+use lib.ListN.{length}
 use Rattle.refusals.specs.declared.LineRefusal.{LineRefusal}
 use Rattle.words.specs.Tests.{pick}
-use Rattle.words.specs.Word.{wide, even}
+use Rattle.words.specs.Word.{wide, even, first}
 use Rattle.words.proofs.Faults.{first-good, good-first, not-wide, not-even}
 use Rattle.reports.specs.declared.Report.{Report}
 use Rattle.reports.specs.declared.RunAnswer.{RunAnswer}
@@ -17,7 +18,7 @@ use Rattle.reports.specs.Altitude.{AltitudeForm}
 use Rattle.reports.specs.Records.{heightOf, fourOf, sevenOf, reportOf}
 use Rattle.reports.specs.Conditions.{fourZeros, heightSpares, sevenSpares, zeros, HasLayout}
 use Rattle.reports.specs.Runs.{Row, firstHit, tableOf, readRun}
-use Rattle.reports.specs.Claims.{Hit, RefusedExactly, AcceptedExactly, FirstSeven}
+use Rattle.reports.specs.Claims.{Hit, RefusedExactly, AcceptedExactly, FirstSeven, JudgedIsRead}
 
 -- ---- a refusal
 
@@ -92,3 +93,6 @@ accepted-exactly form ws = (λ h. accepted-layout form ws (h .0) (h .1) .0, λ h
 pub first-seven : FirstSeven
 unfolding heightOf fourOf sevenOf reportOf fourZeros heightSpares sevenSpares zeros
 first-seven form ws n w e = refl
+
+pub judged-is-read : JudgedIsRead
+judged-is-read form ws = first-seven form ws (length ws) (first wide ws) (first even ws)

@@ -5,10 +5,11 @@ use mathlib.Core.Path.{_≡_}
 use mathlib.Core.Bool.{true, false}
 use mathlib.Core.List.{List, [], _∷_}
 use mathlib.Core.Logic.{_↔_, _⊎_}
-use lib.ListN.{getD}
+use lib.ListN.{length, getD}
 use Rattle.refusals.specs.Numbers.{lineNumber, fieldNumber}
 use Rattle.refusals.specs.declared.LineRefusal.{LineRefusal}
 use Rattle.refusals.specs.declared.FieldRefusal.{FieldRefusal}
+use Rattle.words.specs.Word.{wide, even, first}
 use Rattle.reports.specs.declared.Report.{Report}
 use Rattle.reports.specs.declared.RunAnswer.the-variants.{Accepted, Refused}
 use Rattle.reports.specs.declared.kinds.Kind.{Kind}
@@ -64,11 +65,17 @@ RefusedExactly = (form : AltitudeForm) (ws : List ℕ) (q : LineRefusal) (o : �
 
 -- ---- for the line
 
--- of a run's words no more than the first seven are looked at once its length and its first wide and first even word are known
+-- the first seven words, with 0 for those that are not there
+abbrev pub firstSeven : List ℕ → List ℕ
+firstSeven ws = getD ws 0 0 ∷ getD ws 1 0 ∷ getD ws 2 0 ∷ getD ws 3 0 ∷ getD ws 4 0 ∷ getD ws 5 0 ∷ getD ws 6 0 ∷ []
+
+-- no more than those are looked at once the count and the first wide and first even word are known
 abbrev pub FirstSeven : Type 0
-FirstSeven =
-    (form : AltitudeForm) (ws : List ℕ) (n w e : ℕ)
-    → judged form (getD ws 0 0 ∷ getD ws 1 0 ∷ getD ws 2 0 ∷ getD ws 3 0 ∷ getD ws 4 0 ∷ getD ws 5 0 ∷ getD ws 6 0 ∷ []) n w e ≡ judged form ws n w e
+FirstSeven = (form : AltitudeForm) (ws : List ℕ) (n w e : ℕ) → judged form (firstSeven ws) n w e ≡ judged form ws n w e
+
+-- so what is judged of a run's first seven words, its length and its first wide and first even word is what the whole run is read as
+abbrev pub JudgedIsRead : Type 0
+JudgedIsRead = (form : AltitudeForm) (ws : List ℕ) → judged form (firstSeven ws) (length ws) (first wide ws) (first even ws) ≡ readRun form ws
 
 -- ---- the kinds
 
