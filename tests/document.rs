@@ -92,8 +92,10 @@ fn forms() -> Vec<Form> {
 
 // The forms, made once.
 pub fn all_forms() -> &'static [Form] {
-    static FORMS: std::sync::OnceLock<Vec<Form>> = std::sync::OnceLock::new();
-    FORMS.get_or_init(forms)
+    thread_local! {
+        static FORMS: &'static [Form] = Box::leak(forms().into_boxed_slice());
+    }
+    FORMS.with(|f| *f)
 }
 
 // ---- strings of bits
@@ -135,14 +137,16 @@ pub fn read(forms: &[Form], run: &[u16]) -> Read {
     let bits = string(run);
     // what the first word alone tells
     let first: Vec<&Form> = forms.iter().filter(|f| f.told.iter().filter(|(at, _)| *at < 5 && f.words == 4 || *at < 4).all(|t| fits(&bits, &[*t]))).collect();
-    let Some(words) = first.first().map(|f| f.words) else {
-        return Read::Refused(5, 0);
+    let words = match first.first() {
+        Some(form) => form.words,
+        None => return Read::Refused(5, 0),
     };
     if run.len() != words {
         return Read::Refused(6, 0);
     }
-    let Some(form) = forms.iter().find(|f| f.words == words && fits(&bits, f.told)) else {
-        return Read::Refused(7, 0);
+    let form = match forms.iter().find(|f| f.words == words && fits(&bits, f.told)) {
+        Some(form) => form,
+        None => return Read::Refused(7, 0),
     };
     if form.zero.iter().any(|z| ones(part(&bits, *z)) > 0) {
         return Read::Refused(8, 0);

@@ -87,8 +87,10 @@ fn judge(bits: &str, from: bool, inner: bool) -> u8 {
     if inner && (code == 0x03 || code == 0x62) {
         return 29;
     }
-    let Some((_, _, parts, rest)) = carried else {
-        return if bits.len() < 24 { 26 } else { judge(&bits[16..], true, true) };
+    let (parts, rest) = match carried {
+        Some((_, _, parts, rest)) => (parts, rest),
+        None if bits.len() < 24 => return 26,
+        None => return judge(&bits[16..], true, true),
     };
     let base = 8 + parts.iter().map(|p| p.0).sum::<usize>();
     if bits.len() < base {
@@ -108,7 +110,7 @@ fn judge(bits: &str, from: bool, inner: bool) -> u8 {
         return 27;
     }
     let block = |k: usize| number(&bits[base + 8 * k..base + 8 * k + 8]);
-    let bad_block = rest.is_some_and(|r| r.blocks) && (0..count).any(|k| block(k) % 16 > 9 || block(k) == 128);
+    let bad_block = rest.map_or(false, |r| r.blocks) && (0..count).any(|k| block(k) % 16 > 9 || block(k) == 128);
     if bad_block || parts.iter().zip(&values).any(|(p, v)| unused(p.1, *v)) {
         return 28;
     }
@@ -180,12 +182,12 @@ fn write(room: usize, code: u8, values: &[u64], list: &[i64], text: &[u8], relay
     let hex = |bytes: &[u8]| bytes.iter().map(|b| format!("{b:02x}")).collect::<String>();
     let ones = vec![0xFF; room];
     let count = rest.as_ref().map_or(0, |r| r.more + r.counted.iter().map(|k| values[*k] as usize).sum::<usize>());
-    let blocks = rest.as_ref().is_some_and(|r| r.blocks);
-    let listed = if rest.as_ref().is_some_and(|r| r.bits == 80) { 0 } else { count };
-    let texted = if rest.as_ref().is_some_and(|r| r.bits == 80) { 10 * count } else { 0 };
+    let blocks = rest.as_ref().map_or(false, |r| r.blocks);
+    let listed = if rest.as_ref().map_or(false, |r| r.bits == 80) { 0 } else { count };
+    let texted = if rest.as_ref().map_or(false, |r| r.bits == 80) { 10 * count } else { 0 };
     let too_large = parts.iter().zip(values).any(|(p, v)| *v >= 1 << p.0 || unused(p.1, *v));
     let bad_list = list.iter().enumerate().any(|(k, v)| if k < listed { blocks && v.abs() > 79 } else { *v != 0 });
-    let bad_relay = relay.is_some_and(|sensor| sensor > 255 || !from || code == 0x62);
+    let bad_relay = relay.map_or(false, |sensor| sensor > 255 || !from || code == 0x62);
     if too_large || bad_list || text.len() != texted || bad_relay {
         return format!("30 {}", hex(&ones));
     }

@@ -19,11 +19,12 @@ fn upper(name: &str) -> String {
 fn defined(path: &str, head: &str, prefix: &str) -> BTreeMap<String, u32> {
     let mut found = BTreeMap::new();
     for line in read_to_string(path).unwrap().lines() {
-        let Some((left, right)) = line.split_once(" = ") else { continue };
-        let Some(name) = left.strip_prefix(head) else { continue };
-        let Ok(number) = right.parse() else { continue };
-        if !name.contains(' ') {
-            assert!(found.insert(format!("{prefix}_{}", upper(name)), number).is_none());
+        if let Some((left, right)) = line.split_once(" = ") {
+            if let (Some(name), Ok(number)) = (left.strip_prefix(head), right.parse()) {
+                if !name.contains(' ') {
+                    assert!(found.insert(format!("{prefix}_{}", upper(name)), number).is_none());
+                }
+            }
         }
     }
     found
