@@ -8,7 +8,7 @@ use lib.ListN.{length, getD, take, drop, set, length-append}
 use lib.Seq.{drop-cons, take-suc, set-at, append-snoc, drop-drop, length-take-le}
 use borrow.Author.Tests.{lt-ltb, le-ltb, ne-eqb}
 use Rattle.refusals.specs.declared.LineRefusal.{LineRefusal}
-use Rattle.refusals.specs.declared.LineRefusal.the-variants.{NoRoom}
+use Rattle.refusals.specs.declared.LineRefusal.the-variants.{PlaceBeyondLine, NoRoom}
 use Rattle.words.specs.Word.{idle}
 use Rattle.reports.specs.declared.Report.{Report}
 use Rattle.reports.specs.declared.Written.{Written}
@@ -16,6 +16,7 @@ use Rattle.reports.specs.Altitude.{AltitudeForm}
 use Rattle.reports.specs.Layouts.{wordsOf, written}
 use Rattle.lines.specs.declared.Wrote.{Wrote}
 use Rattle.lines.specs.declared.Wrote.the-variants as W
+use Rattle.lines.specs.Line.{most}
 use Rattle.lines.specs.Bytes.{mostBytes, wordsIn}
 use Rattle.lines.specs.Writing.{room, roomFor, writeAt, put}
 use Rattle.lines.specs.ByteWriting.{bytesOf, writeBytes, bytesLeft, WritesBytes, PutsBytes}
@@ -131,3 +132,12 @@ words-writes form bytes place r m w exit long odd k e f g p =
           ∙ ap (bytesLeft (room (wordsIn bytes) place (length (handed m))) bytes place) (sym (handed-words form r m e g))
           ∙ ap (λ (x : Wrote). bytesLeft x bytes place (wordsOf form r)) (sym a);
     }
+
+pub past-bytes : (form : AltitudeForm) (bytes : List ℕ) (place : ℕ) (r : Report) → length bytes ≤ mostBytes → (length bytes % 2 ≡ 1 → ⊥) → length bytes / 2 < place
+    → writeBytes form bytes place r ≡ W.Refused PlaceBeyondLine place
+unfolding writeAt
+past-bytes form bytes place r m h k =
+    let n = words-length bytes in
+    within-bytes form bytes place r m h
+    ∙ passed _ _ (le-ltb most (length (wordsIn bytes)) (omega arith))
+    ∙ picked _ _ (lt-ltb (length (wordsIn bytes)) place (omega arith))

@@ -1,69 +1,77 @@
+-- `lines::byte_writer::put_pairs` meets its contract. Assumes nothing.
+use Prim.Native.Nat.{ℕ, _+_, _*_, _-_, _/_, _%_, _≤_}
+use mathlib.Core.Path.{_≡_, refl, ap, _∙_}
+use mathlib.Core.List.{List, _++_}
+use lib.ListN.{length, take, drop, getD, set, length-set}
+use Rattle.lines.specs.ByteWriting.{bytesOf}
+use Rattle.lines.proofs.BytePuts.{pair-more}
+use borrow.Author.Needs.{needs}
+use native.Mathlib.Omega.{arith}
 use Rattle.lines.proofs.byte_writer.put_pairs.Statement.{statement}
 use Rattle.lines.proofs.byte_writer.put_pairs.Tie as tie
-use Rattle.lines.proofs.byte_writer.put_pairs.Reads as reads
-use Rattle.lines.proofs.byte_writer.put_pairs.Lts as lts
 
 abbrev Inv-loop : tie.InvT-loop
-Inv-loop part₀ n ws i₀ part i = ?
+Inv-loop part₀ n ws i₀ part i = (i ≤ n) × (length part ≡ length part₀) × (part ≡ bytesOf (take i ws) ++ drop (i * 2) part₀)
 
 abbrev μ-loop : tie.MeasureT-loop
-μ-loop part₀ n ws i₀ part i = ?
+μ-loop part₀ n ws i₀ part i = n - i
 
--- src/byte_writer.rt:24:5
 loop-holds : tie.Need-loop-holds Inv-loop μ-loop
-loop-holds c = ?
+unfolding bytesOf
+loop-holds c = (omega arith, refl, refl)
 
--- src/byte_writer.rt:25:17
 mul-w : tie.Need-mul-w Inv-loop μ-loop
-mul-w c = ?
+mul-w c = omega arith
 
--- src/byte_writer.rt:25:17
 array-read-w : tie.Need-array-read-w Inv-loop μ-loop
-array-read-w c = ?
+array-read-w c = omega arith
 
--- src/byte_writer.rt:26:18
 mul-at : tie.Need-mul-at Inv-loop μ-loop
-mul-at c = ?
+mul-at c = omega arith
 
--- src/byte_writer.rt:27:20
 cast-part : tie.Need-cast-part Inv-loop μ-loop
-cast-part c = ?
+cast-part c = omega arith
 
--- src/byte_writer.rt:27:9
 slice-write-part : tie.Need-slice-write-part Inv-loop μ-loop
-slice-write-part c = ?
+slice-write-part c = omega arith
 
--- src/byte_writer.rt:28:24
 cast-part-2 : tie.Need-cast-part-2 Inv-loop μ-loop
-cast-part-2 c = ?
+cast-part-2 c = omega arith
 
--- src/byte_writer.rt:28:14
 add-part : tie.Need-add-part Inv-loop μ-loop
-add-part c = ?
+add-part c = omega arith
 
--- src/byte_writer.rt:28:9
 slice-write-part-2 : tie.Need-slice-write-part-2 Inv-loop μ-loop
-slice-write-part-2 c = ?
+slice-write-part-2 c = rw length-set (omega arith)
 
--- src/byte_writer.rt:29:9
 add-i : tie.Need-add-i Inv-loop μ-loop
-add-i c = ?
+add-i c = omega arith
 
--- src/byte_writer.rt:24:5
 loop-less : tie.Need-loop-less Inv-loop μ-loop
-loop-less c = ?
+loop-less c = omega arith
 
--- src/byte_writer.rt:24:5
 loop-again : tie.Need-loop-again Inv-loop μ-loop
-loop-again c = ?
+loop-again c =
+    let l = c .before .loop in
+    let a = c .before .before .args in
+    let m : length (a .t2) ≡ 8 = search needs in
+    let w = getD (a .t2) (l .i) 0 in
+    let hi = w / 256 % 256 in
+    let lo = w % 256 in (
+      omega arith,
+      length-set (set (l .part) (l .i * 2) hi) (l .i * 2 + 1) lo ∙ length-set (l .part) (l .i * 2) hi ∙ l .inv .1,
+      ap (λ (q : List ℕ). set (set q (l .i * 2) hi) (l .i * 2 + 1) lo) (l .inv .2) ∙ pair-more (a .part .now) (a .t2) (l .i) (omega arith) (omega arith),
+    )
 
--- src/byte_writer.rt:19:1
 same-length : tie.Need-same-length Inv-loop μ-loop
-same-length c = ?
+same-length c = c .before .loop .inv .1
 
--- src/byte_writer.rt:19:1
 returns : tie.Need-returns Inv-loop μ-loop
-returns c = ?
+returns c =
+    let l = c .before .loop in
+    let a = c .before .before .args in
+    let e : l .i ≡ a .n = omega arith in
+    l .inv .2 ∙ ap (λ (i : ℕ). bytesOf (take i (a .t2)) ++ drop (i * 2) (a .part .now)) e
 
 pub put-pairs-spec : {M : Type 1} → statement M
 put-pairs-spec =
