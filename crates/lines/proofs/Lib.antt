@@ -12,3 +12,4 @@ pub mod Back
 pub mod Written
 pub mod Flipped
 pub mod BytePuts
+pub mod ByteLeft
