@@ -11,3 +11,5 @@ pub mod Refused
 pub mod Back
 pub mod Written
 pub mod Flipped
+pub mod BytePuts
+pub mod ByteLeft

@@ -1,5 +1,5 @@
--- Each refusal exactly under its condition, with the place that it names: the claims ReaderRefuses, ByteReaderRefuses and WriterRefuses.
--- A chain of tests is gone through row by row, by one law. Assumes nothing.
+-- Each refusal exactly under its condition, with the place that it names: the claims ReaderRefuses, ByteReaderRefuses,
+-- WriterRefuses and ByteWriterRefuses. A chain of tests is gone through row by row, by one law. Assumes nothing.
 use Prim.Native.Nat.{ℕ, _+_, _-_, _%_}
 use mathlib.Core.Path.{_≡_, refl, sym, _∙_, subst}
 use mathlib.Core.Bool.{Bool, true, false, not}
@@ -27,8 +27,9 @@ use Rattle.lines.specs.declared.Wrote.the-variants as P
 use Rattle.lines.specs.Line.{most, notTaken, placed, gap, runIn, outcomeAt, readBy, readAt}
 use Rattle.lines.specs.Bytes.{mostBytes, wordsIn, readBytes}
 use Rattle.lines.specs.Writing.{room, roomFor, writeAt}
-use Rattle.lines.specs.Rows.{from, runRows, placeRows}
-use Rattle.lines.specs.Claims.{ReaderRefuses, ByteReaderRefuses, WriterRefuses}
+use Rattle.lines.specs.ByteWriting.{writeBytes}
+use Rattle.lines.specs.Rows.{from, runRows, placeRows, writerPlaceRows}
+use Rattle.lines.specs.Claims.{ReaderRefuses, ByteReaderRefuses, WriterRefuses, ByteWriterRefuses}
 use Rattle.lines.proofs.Tests.{passed}
 use Rattle.lines.proofs.ByteWords.{words-length}
 use Rattle.lines.proofs.Puts.{room-for}
@@ -127,15 +128,40 @@ Answers w q p = w ≡ P.Refused q p
 one-answer : (w : Wrote) (a b : LineRefusal) (m n : ℕ) → Answers w a m → Answers w b n → (a ≡ b) × (m ≡ n)
 one-answer w a b m n s t = (cc, cc)
 
-pub writer-refuses : WriterRefuses
-unfolding writeAt
-writer-refuses form line place r q p =
+-- the writer on a line that is short enough
+abbrev placed-write : AltitudeForm → List ℕ → ℕ → Report → Wrote
+placed-write form line place r = pick (ltb (length line) place) (P.Refused PlaceBeyondLine place) (roomFor line place (written form r))
+
+write-refuses : (form : AltitudeForm) (line : List ℕ) (place : ℕ) (r : Report) (q : LineRefusal) (p : ℕ)
+    → Answers (placed-write form line place r) q p ↔ Hit (writerPlaceRows form line place r) q p
+write-refuses form line place r q p =
     let n = length (wordsOf form r) in
-    let whole = roomFor line place (written form r) in
-    one-row Answers one-answer (ltb most (length line)) (P.Refused LineTooLong place) (pick (ltb (length line) place) (P.Refused PlaceBeyondLine place) whole)
-    LineTooLong q place p _ refl
-    (λ a. one-row Answers one-answer (ltb (length line) place) (P.Refused PlaceBeyondLine place) whole PlaceBeyondLine q place p _ refl
+    one-row Answers one-answer (ltb (length line) place) (P.Refused PlaceBeyondLine place) (roomFor line place (written form r)) PlaceBeyondLine q place p _ refl
     (λ b. same-iff (λ (w : Wrote). Answers w q p) (room-for form line place r)
     (one-row Answers one-answer (not (takes form r)) (P.Refused ValueTooLarge place) (room line place n) ValueTooLarge q place p _ refl
     (λ c. one-row Answers one-answer (ltb (length line - place) (n + 1)) (P.Refused NoRoom place) (P.Next (place + n + 1)) NoRoom q place p ⊥ refl
-    (λ d. (λ e. let z : _≡_ {A = ℕ} 0 1 = cc in omega arith, λ k. absurd k))))))
+    (λ d. (λ e. let z : _≡_ {A = ℕ} 0 1 = cc in omega arith, λ k. absurd k)))))
+
+pub writer-refuses : WriterRefuses
+unfolding writeAt
+writer-refuses form line place r q p =
+    one-row Answers one-answer (ltb most (length line)) (P.Refused LineTooLong place) (placed-write form line place r) LineTooLong q place p
+    (Hit (writerPlaceRows form line place r) q p) refl (λ a. write-refuses form line place r q p)
+
+short-write : (form : AltitudeForm) (bytes : List ℕ) (place : ℕ) (r : Report) → ltb mostBytes (length bytes) ≡ false
+    → writeAt form (wordsIn bytes) place r ≡ placed-write form (wordsIn bytes) place r
+unfolding writeAt
+short-write form bytes place r b =
+    let n = words-length bytes in
+    let m = ltb-false mostBytes (length bytes) b in
+    passed (P.Refused LineTooLong place) (placed-write form (wordsIn bytes) place r) (le-ltb most (length (wordsIn bytes)) (omega arith))
+
+pub byte-writer-refuses : ByteWriterRefuses
+unfolding writeBytes
+byte-writer-refuses form bytes place r q p =
+    let line = wordsIn bytes in
+    let whole = writeAt form line place r in
+    let isOdd = eqb (length bytes % 2) 1 in
+    one-row Answers one-answer (ltb mostBytes (length bytes)) (P.Refused LineTooLong place) (pick isOdd (P.Refused OddByteCount place) whole) LineTooLong q place p _ refl
+    (λ b. one-row Answers one-answer isOdd (P.Refused OddByteCount place) whole OddByteCount q place p (Hit (writerPlaceRows form line place r) q p) refl
+    (λ c. same-iff (λ (w : Wrote). Answers w q p) (short-write form bytes place r b) (write-refuses form line place r q p)))

@@ -24,10 +24,11 @@ use Rattle.lines.specs.declared.What.the-variants as W
 use Rattle.lines.specs.declared.Outcome.{Outcome}
 use Rattle.lines.specs.declared.Wrote.the-variants as P
 use Rattle.lines.specs.Line.{most, outcomeOf, endOf, isReport, isRefusal, isEnd, readBy, readAt, calls, outcomes}
-use Rattle.lines.specs.Bytes.{readBytes}
+use Rattle.lines.specs.Bytes.{wordsIn, readBytes}
+use Rattle.lines.specs.ByteWriting.{writeBytes, bytesLeft}
 use Rattle.lines.specs.Stretches.{Run, runs, idleWords, reportedWords, refusedWords}
 use Rattle.lines.specs.Spaced.{Spaced, lineOf, reportsOf, AllFit, Apart, back}
-use Rattle.lines.specs.Rows.{rowsAt, byteRowsAt, writerRowsAt}
+use Rattle.lines.specs.Rows.{rowsAt, byteRowsAt, writerRowsAt, byteWriterRowsAt}
 use Rattle.lines.specs.Writing.{writeAt, leftBy, put, puts, taken}
 
 -- what looks at the words of a run
@@ -51,6 +52,11 @@ abbrev pub WriterRefuses : Type 0
 WriterRefuses =
     (form : AltitudeForm) (line : List ℕ) (place : ℕ) (r : Report) (q : LineRefusal) (p : ℕ)
     → (writeAt form line place r ≡ P.Refused q p) ↔ Hit (writerRowsAt form line place r) q p
+
+abbrev pub ByteWriterRefuses : Type 0
+ByteWriterRefuses =
+    (form : AltitudeForm) (bytes : List ℕ) (place : ℕ) (r : Report) (q : LineRefusal) (p : ℕ)
+    → (writeBytes form bytes place r ≡ P.Refused q p) ↔ Hit (byteWriterRowsAt form bytes place r) q p
 
 -- ---- demand 1: the calls come to an end (proofs/Outcomes.antt)
 
@@ -225,3 +231,9 @@ abbrev pub RefusedLeaves : Type 0
 RefusedLeaves =
     (form : AltitudeForm) (line : List ℕ) (place p : ℕ) (r : Report) (q : LineRefusal) → writeAt form line place r ≡ P.Refused q p →
     (p ≡ place) × (leftBy (writeAt form line place r) line place (wordsOf form r) ≡ line)
+
+-- the bytes that a call leaves hold the words that it would leave of the words that they held (proofs/ByteLeft.antt)
+abbrev pub SameWords : Type 0
+SameWords =
+    (form : AltitudeForm) (bytes : List ℕ) (place : ℕ) (r : Report) →
+    wordsIn (bytesLeft (writeBytes form bytes place r) bytes place (wordsOf form r)) ≡ leftBy (writeBytes form bytes place r) (wordsIn bytes) place (wordsOf form r)

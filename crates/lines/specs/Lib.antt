@@ -1,6 +1,7 @@
 pub mod Line
 pub mod Bytes
 pub mod Writing
+pub mod ByteWriting
 pub mod Scan
 pub mod Stretches
 pub mod Spaced

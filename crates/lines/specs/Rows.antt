@@ -39,11 +39,21 @@ byteRowsAt form bytes place =
     ∷ row (eqb (length bytes % 2) 1) OddByteCount place
     ∷ placeRows form (wordsIn bytes) place
 
--- the writer: 2, 1, 11, 10
-abbrev pub writerRowsAt : AltitudeForm → List ℕ → ℕ → Report → List Row
-writerRowsAt form line place r =
-    row (ltb most (length line)) LineTooLong place
-    ∷ row (ltb (length line) place) PlaceBeyondLine place
+-- numbers 1, 11 and 10 of the writer
+abbrev pub writerPlaceRows : AltitudeForm → List ℕ → ℕ → Report → List Row
+writerPlaceRows form line place r =
+    row (ltb (length line) place) PlaceBeyondLine place
     ∷ row (not (takes form r)) ValueTooLarge place
     ∷ row (ltb (length line - place) (length (wordsOf form r) + 1)) NoRoom place
     ∷ []
+
+-- the writer: 2, 1, 11, 10
+abbrev pub writerRowsAt : AltitudeForm → List ℕ → ℕ → Report → List Row
+writerRowsAt form line place r = row (ltb most (length line)) LineTooLong place ∷ writerPlaceRows form line place r
+
+-- the writer into bytes: 2, 14, 1, 11, 10
+abbrev pub byteWriterRowsAt : AltitudeForm → List ℕ → ℕ → Report → List Row
+byteWriterRowsAt form bytes place r =
+    row (ltb mostBytes (length bytes)) LineTooLong place
+    ∷ row (eqb (length bytes % 2) 1) OddByteCount place
+    ∷ writerPlaceRows form (wordsIn bytes) place r

@@ -6,6 +6,7 @@ ghost use Rattle.lines.specs.Line.{outcomeOf};
 use refusals::LineRefusal;
 use reports::Report;
 
+pub mod byte_writer; // byte_writer.rt: the writer into bytes
 pub mod bytes; // bytes.rt: a line lent as bytes, two a word
 mod run; // run.rt: one word after the other, and the answer
 pub mod wide; // wide.rt: a line lent as 16-bit numbers

@@ -1,0 +1,81 @@
+-- `lines::byte_writer::write` meets its contract. Assumes nothing.
+use mathlib.Core.Path.{refl, ap, sym, _∙_}
+use borrow.Author.Tests.{lt-ltb, le-ltb, eq-eqb}
+use Rattle.lines.specs.Writing.{roomFor}
+use Rattle.lines.specs.ByteWriting.{writeBytes}
+use Rattle.lines.proofs.Tests.{picked, passed}
+use Rattle.lines.proofs.BytePuts.{refused-writes, words-writes, beyond-bytes, past-bytes}
+use borrow.Author.Needs.{needs}
+use native.Mathlib.Omega.{arith}
+use Rattle.lines.proofs.byte_writer.write.Statement.{statement}
+use Rattle.lines.proofs.byte_writer.write.Tie as tie
+
+returns : tie.Need-returns
+unfolding writeBytes
+returns c = refused-writes _ _ _ _ _ (picked _ _ (lt-ltb _ _ (c .if1 .taken)))
+
+returns-2 : tie.Need-returns-2
+unfolding writeBytes
+returns-2 c = refused-writes _ _ _ _ _ (passed _ _ (le-ltb _ _ (c .before .if1 .left)) ∙ picked _ _ (eq-eqb _ _ (c .if2 .taken)))
+
+returns-3 : tie.Need-returns-3
+returns-3 c = refused-writes _ _ _ _ _ (past-bytes _ _ _ _ (c .before .before .if1 .left) (c .before .if2 .left) (c .if3 .taken))
+
+words-of-requires : tie.Need-words-of-requires
+words-of-requires c κs = search needs
+
+enum-known-made : tie.Need-enum-known-made
+enum-known-made c = search needs
+
+put-spaced-requires : tie.Need-put-spaced-requires
+put-spaced-requires c κs = search needs
+
+enum-known-made-2 : tie.Need-enum-known-made-2
+enum-known-made-2 c = search needs
+
+put-spaced-requires-2 : tie.Need-put-spaced-requires-2
+put-spaced-requires-2 c κs = search needs
+
+enum-known-made-3 : tie.Need-enum-known-made-3
+enum-known-made-3 c = search needs
+
+same-length : tie.Need-same-length
+same-length c = search needs
+
+returns-4 : tie.Need-returns-4
+returns-4 c =
+    let t = c .before .before .before .before .before .before .before in
+    words-writes _ _ _ _ _ _ _ (t .before .before .before .if1 .left) (t .before .before .if2 .left) (t .before .if3 .left) (sym (t .words-of .ensures) ∙ c .before .before .before .before .before .made .given .1) refl (omega arith) (c .before .before .put-spaced .ensures)
+
+same-length-2 : tie.Need-same-length-2
+same-length-2 c = search needs
+
+returns-5 : tie.Need-returns-5
+returns-5 c =
+    let t = c .before .before .before .before .before .before .before in
+    words-writes _ _ _ _ _ _ _ (t .before .before .before .if1 .left) (t .before .before .if2 .left) (t .before .if3 .left) (sym (t .words-of .ensures) ∙ c .before .before .before .before .before .made2 .given .1) refl (omega arith) (c .before .before .put-spaced2 .ensures)
+
+returns-6 : tie.Need-returns-6
+returns-6 c =
+    let t = c .before .before .before in
+    refused-writes _ _ _ _ _
+    (beyond-bytes _ _ _ _ (t .before .before .before .if1 .left) (t .before .before .if2 .left) (t .before .if3 .left) ∙ ap (roomFor _ _) (sym (t .words-of .ensures) ∙ c .before .made3 .given .1))
+
+pub write-spec : {M : Type 1} → statement M
+write-spec =
+    tie.close
+    (tie.spec
+    returns
+    returns-2
+    returns-3
+    words-of-requires
+    enum-known-made
+    put-spaced-requires
+    enum-known-made-2
+    put-spaced-requires-2
+    enum-known-made-3
+    same-length
+    returns-4
+    same-length-2
+    returns-5
+    returns-6)
