@@ -1,6 +1,6 @@
-// Works out what crates/fields_test must print, from document 01's "Link data fields" by strings of bits. The cases are those that the
-// program's source lists; nothing of the proved library is used.
-use std::fs::read_to_string;
+// Makes the fields that crates/fields_test reads and works out what it must print, from document 01's "Link data fields" by strings of bits;
+// nothing of the proved library is used. tests/fields stdin writes the cases, tests/fields stdout what is printed of them.
+use std::io::Write as _;
 
 // What may stand in a part: anything; a spare; not 0; only 1; QUAL, DEL, an advisory.
 #[derive(Clone, Copy, PartialEq)]
@@ -131,24 +131,143 @@ fn read(bytes: &[u8], count: usize, from: bool) -> u8 {
     judge(&bits[..count], from, false)
 }
 
-// ---- the cases, from the program's source
+// ---- the cases: a name, the bytes (AB*3 is AB three times), the bit count, whether it comes from the sensor
 
-// The next b"..." of the source, with \xHH read as bytes, and what follows it.
-fn quoted(text: &str) -> (Vec<u8>, &str) {
-    let start = text.find("b\"").unwrap() + 2;
-    let end = start + text[start..].find('"').unwrap();
+const CASES: &[(&str, &str, usize, bool)] = &[
+    ("21 least", "210000001100000000000000", 96, false),
+    ("22 least", "220000001101 00*20", 208, false),
+    ("23 least", "230000001110", 48, false),
+    ("24 least", "2400000010", 40, false),
+    ("02 least", "0200000010", 40, false),
+    ("25 least", "250000001100", 48, false),
+    ("61 least", "61000000000000", 56, false),
+    ("9B least", "9B0000", 24, false),
+    ("99 least", "9940", 16, false),
+    ("65 least", "650100", 24, false),
+    ("9A least", "9A00", 16, false),
+    ("96 least", "9600", 16, false),
+    ("31 least", "3100000010", 40, true),
+    ("32 least", "3200000010", 40, true),
+    ("41 least", "41 00*10", 88, true),
+    ("42 least", "4200000001 00*20", 200, true),
+    ("43 least", "4300000000", 40, true),
+    ("44 least", "44 00*11", 96, true),
+    ("45 least", "450000000000", 48, true),
+    ("62 least", "62000000000000", 56, true),
+    ("83 least", "83 00*11", 90, true),
+    ("21 most", "21 FF*11", 96, false),
+    ("22 most", "22FFFFFFFF0F FF*160", 1328, false),
+    ("23 most", "23FFFFFFFF10", 48, false),
+    ("24 most", "24FFFFFFF0", 40, false),
+    ("02 most", "02FFFFFFF0", 40, false),
+    ("25 most", "25FFFFFFFFFF", 48, false),
+    ("61 most", "61FFFFFFFFFFFF", 56, false),
+    ("9B most", "9B0F F9*16", 144, false),
+    ("99 most", "99C0", 16, false),
+    ("65 most", "65F300", 24, false),
+    ("9A most", "9A FF*52", 424, false),
+    ("96 most", "96 FF*91", 736, false),
+    ("31 most", "31FFFFFFF8", 40, true),
+    ("32 most", "32FFFFFFF8", 40, true),
+    ("41 most", "41 FF*10", 88, true),
+    ("42 most", "42FFFFFF0F FF*160", 1320, true),
+    ("43 most", "43FFFFFF3F", 40, true),
+    ("44 most", "44 FF*10 F8", 96, true),
+    ("45 most", "45FFFFFF0FFF", 48, true),
+    ("62 most", "62FFFFFFFFFFFF", 56, true),
+    ("83 most", "83FFFFFFFFFFFFFFF5FFF5C0", 90, true),
+    ("03 of 21", "0321210000001100000000000000", 112, true),
+    ("03 of 22", "0322220000001101 00*20", 224, true),
+    ("03 of 23", "0323230000001110", 64, true),
+    ("03 of 24", "03242400000010", 56, true),
+    ("03 of 02", "03020200000010", 56, true),
+    ("03 of 25", "0325250000001100", 64, true),
+    ("03 of 61", "036161000000000000", 72, true),
+    ("03 of 9B", "039B9B0000", 40, true),
+    ("03 of 99", "03999940", 32, true),
+    ("03 of 65", "0365650100", 40, true),
+    ("03 of 9A", "039A9A00", 32, true),
+    ("03 of 96", "03969600", 32, true),
+    ("03 of 31", "03313100000010", 56, true),
+    ("03 of 32", "03323200000010", 56, true),
+    ("03 of 41", "034141 00*10", 104, true),
+    ("03 of 42", "03424200000001 00*20", 216, true),
+    ("03 of 43", "03434300000000", 56, true),
+    ("03 of 44", "034444 00*11", 112, true),
+    ("03 of 45", "0345450000000000", 64, true),
+    ("03 of 62", "036262000000000000", 72, true),
+    ("03 of 83", "038383 00*11", 106, true),
+    ("no bits", "", 0, false),
+    ("7 bits", "20", 7, false),
+    ("8 bits", "21", 8, false),
+    ("2008 bits", "21 00*250", 2008, false),
+    ("2009 bits", "21 00*251", 2009, false),
+    ("a byte more", "2100000011 00*8", 96, false),
+    ("a byte less", "2100000011000000000000", 96, false),
+    ("a bit after the count", "83 00*10 01", 90, true),
+    ("unknown type 20", "20", 8, false),
+    ("unknown type 90", "90", 8, true),
+    ("64", "64", 8, false),
+    ("9C", "9C", 8, true),
+    ("C1", "C1", 8, false),
+    ("C2", "C2", 8, true),
+    ("80", "80", 8, false),
+    ("8F", "8F", 8, true),
+    ("83 to the sensor", "83 00*11", 90, false),
+    ("21 from the sensor", "210000001100000000000000", 96, true),
+    ("31 to the sensor", "3100000010", 40, false),
+    ("03 to the sensor", "0300", 16, false),
+    ("03 of 16 bits", "0300", 16, true),
+    ("03 of 23 bits", "030000", 23, true),
+    ("03 of 24 bits", "030000", 24, true),
+    ("03 of 03", "030003", 24, true),
+    ("03 of 62, too short", "030062", 24, true),
+    ("22 of Length 0", "2200000011 00*11", 128, false),
+    ("22 of Length 0, 208 bits", "2200000011 00*21", 208, false),
+    ("42 of Length 0", "42 00*14", 120, true),
+    ("26 before 27", "210000009100000000000000", 95, false),
+    ("24 spare", "2400000011", 40, false),
+    ("24 number 0", "2400000000", 40, false),
+    ("24 spare and number 0", "2400000001", 40, false),
+    ("23 MSRC 2", "230000001120", 48, false),
+    ("31 QUAL 4", "3100000018", 40, true),
+    ("31 QUAL 5", "310000001A", 40, true),
+    ("83 DEL 5", "830000000000000005000000", 90, true),
+    ("83 DEL 6", "830000000000000006000000", 90, true),
+    ("83 advisory 110", "830000000000000030000000", 90, true),
+    ("83 advisory 111", "830000000000000038000000", 90, true),
+    ("99 state 0", "9900", 16, false),
+    ("65 SSTAT 0", "650000", 24, false),
+    ("21 EXP 0", "210000001000000000000000", 96, false),
+    ("C10", "9B011283", 32, false),
+    ("C11", "9B011280", 32, false),
+    ("9B hundreds 9", "9B0009", 24, false),
+    ("9B hundreds A", "9B000A", 24, false),
+    ("9B spare", "9B1000", 24, false),
+    ("9B one block short", "9B0112", 24, false),
+    ("C12", "21A1B2C35B00000000000000", 96, false),
+];
+
+fn bytes_of(text: &str) -> Vec<u8> {
     let mut bytes = Vec::new();
-    let mut chars = text[start..end].chars();
-    while let Some(c) = chars.next() {
-        if c == '\\' {
-            chars.next();
-            let hex: String = chars.by_ref().take(2).collect();
-            bytes.push(u8::from_str_radix(&hex, 16).unwrap());
-        } else {
-            bytes.push(c as u8);
+    for word in text.split_whitespace() {
+        let (hex, times) = word.split_once('*').map_or((word, 1), |(hex, n)| (hex, n.parse().unwrap()));
+        for _ in 0..times {
+            bytes.extend((0..hex.len()).step_by(2).map(|i| u8::from_str_radix(&hex[i..i + 2], 16).unwrap()));
         }
     }
-    (bytes, &text[end + 1..])
+    bytes
+}
+
+// The cases, and as many bytes as the count has, of a tactical message and of a relay of a notice, for every count from 0 to 200.
+fn cases() -> Vec<(Vec<u8>, usize, bool)> {
+    let mut all: Vec<_> = CASES.iter().map(|(_, text, count, from)| (bytes_of(text), *count, *from)).collect();
+    for (text, from) in [("2100000011 00*20", false), ("03073100000010 00*18", true)] {
+        for count in 0..=200 {
+            all.push((bytes_of(text)[..(count + 7) / 8].to_vec(), count, from));
+        }
+    }
+    all
 }
 
 // ---- writing: a name, the room, a type and the values of its parts (the spares too), the list, the text, the sensor of a relay
@@ -214,29 +333,35 @@ fn write(room: usize, code: u8, values: &[u64], list: &[i64], text: &[u8], relay
     format!("0 {}", hex(&bytes))
 }
 
-fn main() {
-    let source = read_to_string("crates/fields_test/src/main.rt").unwrap();
-    for call in source.split("    show(").skip(1) {
-        let (name, after) = quoted(call);
-        let (bytes, after) = quoted(after);
-        let count: usize = after.split(',').nth(1).unwrap().trim().parse().unwrap();
-        let from = after[..after.find(')').unwrap()].contains("FromSensor");
+// A case on standard input: 1 from the sensor or 0, the count in two bytes, the number of bytes, the bytes.
+fn stdin() {
+    let mut out = std::io::stdout().lock();
+    for (bytes, count, from) in cases() {
+        out.write_all(&[from as u8, (count / 256) as u8, (count % 256) as u8, bytes.len() as u8]).unwrap();
+        out.write_all(&bytes).unwrap();
+    }
+}
+
+// The number that reading answers; of a field that is accepted, the bits that writing gives back.
+fn stdout() {
+    for (bytes, count, from) in cases() {
         let refused = read(&bytes, count, from);
-        let name = String::from_utf8(name).unwrap();
         if refused == 0 {
             let hex: String = bytes.iter().map(|b| format!("{b:02x}")).collect();
-            println!("{name}: 0 {count} {hex}");
+            println!("{count}: 0 {count} {hex}");
         } else {
-            println!("{name}: {refused}");
+            println!("{count}: {refused}");
         }
     }
     for (name, room, code, values, list, text, relay) in WRITTEN {
         println!("{name}: {}", write(*room, *code, values, list, text.as_bytes(), *relay));
     }
-    let (message, after) = quoted(source.rsplit_once("    counts(").unwrap().1);
-    let (relay, _) = quoted(after);
-    for count in 0..=200 {
-        let bytes = (count + 7) / 8;
-        println!("count {count}: 21 {} 03 {}", read(&message[..bytes], count, false), read(&relay[..bytes], count, true));
+}
+
+fn main() {
+    if std::env::args().nth(1).as_deref() == Some("stdin") {
+        stdin();
+    } else {
+        stdout();
     }
 }

@@ -1,10 +1,10 @@
--- `fields_test::print_bytes` meets its contract: it goes through the bytes and ends. Assumes nothing.
+-- `fields_test::print::bytes` meets its contract: it goes through the bytes and ends. Assumes nothing.
 use borrow.Author.Needs.{needs}
 use Prim.Native.Nat.{_-_, _≤_}
 use native.Mathlib.Omega.{arith}
 use lib.ListN.{length}
-use Rattle.fields_test.proofs.print_bytes.Statement.{statement}
-use Rattle.fields_test.proofs.print_bytes.Tie as tie
+use Rattle.fields_test.proofs.print.bytes.Statement.{statement}
+use Rattle.fields_test.proofs.print.bytes.Tie as tie
 
 abbrev Inv-loop : tie.InvT-loop
 Inv-loop b i₀ i = i ≤ length b
@@ -36,7 +36,7 @@ loop-again c = search needs
 returns : tie.Need-returns Inv-loop μ-loop
 returns c = search needs
 
-pub print-bytes-spec : {M : Type 1} → statement M
-print-bytes-spec =
+pub bytes-spec : {M : Type 1} → statement M
+bytes-spec =
     tie.close
     (tie.spec Inv-loop μ-loop loop-holds shared-slice-read-wide wide-requires print-hex-requires add-i loop-less loop-again returns)
