@@ -1,1 +1,5 @@
 pub mod Values
+pub mod Signed
+pub mod Sizes
+pub mod Builds
+pub mod Writes

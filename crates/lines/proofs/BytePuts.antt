@@ -5,13 +5,16 @@ use mathlib.Core.List.{List, [], _∷_, _++_, append-assoc}
 use native.Mathlib.Omega.{arith}
 use native.Mathlib.Numerals.{add-one}
 use lib.ListN.{length, getD, take, drop, set, length-append}
+use lib.Dec.{eqb, ltb}
 use lib.Seq.{drop-cons, take-suc, set-at, append-snoc, drop-drop, length-take-le}
-use borrow.Author.Tests.{lt-ltb, le-ltb, ne-eqb}
+use borrow.Author.Tests.{lt-ltb, le-ltb, ne-eqb, ltb-false}
 use Rattle.refusals.specs.declared.LineRefusal.{LineRefusal}
-use Rattle.refusals.specs.declared.LineRefusal.the-variants.{PlaceBeyondLine, NoRoom}
+use Rattle.refusals.specs.declared.LineRefusal.the-variants.{OddByteCount, PlaceBeyondLine, NoRoom}
+use Rattle.words.specs.Tests.{pick}
 use Rattle.words.specs.Word.{idle}
 use Rattle.reports.specs.declared.Report.{Report}
 use Rattle.reports.specs.declared.Written.{Written}
+use Rattle.reports.specs.declared.Written.the-variants as M
 use Rattle.reports.specs.Altitude.{AltitudeForm}
 use Rattle.reports.specs.Layouts.{wordsOf, written}
 use Rattle.lines.specs.declared.Wrote.{Wrote}
@@ -19,8 +22,8 @@ use Rattle.lines.specs.declared.Wrote.the-variants as W
 use Rattle.lines.specs.Line.{most}
 use Rattle.lines.specs.Bytes.{mostBytes, wordsIn}
 use Rattle.lines.specs.Writing.{room, roomFor, writeAt, put}
-use Rattle.lines.specs.ByteWriting.{bytesOf, writeBytes, bytesLeft, WritesBytes, PutsBytes}
-use Rattle.lines.proofs.Tests.{picked, passed}
+use Rattle.lines.specs.ByteWriting.{bytesOf, writeBytes, roomOfMade, answerOf, bytesLeft, WritesBytes, PutsBytes}
+use Rattle.lines.proofs.Tests.{picked, passed, by-test}
 use Rattle.lines.proofs.ByteWords.{words-length}
 use Rattle.lines.proofs.Puts.{within-line, handed, handed-words}
 
@@ -141,3 +144,27 @@ past-bytes form bytes place r m h k =
     within-bytes form bytes place r m h
     ∙ passed _ _ (le-ltb most (length (wordsIn bytes)) (omega arith))
     ∙ picked _ _ (lt-ltb (length (wordsIn bytes)) place (omega arith))
+
+-- ---- the answer by numbers alone
+
+made-room : (line : List ℕ) (place : ℕ) (m : Written) → roomOfMade (length line) place m ≡ roomFor line place m
+made-room line place (M.Four a b c d) = refl
+made-room line place (M.Seven a b c d e f g) = refl
+made-room line place (M.Refused q) = refl
+
+pub answer-tells : (form : AltitudeForm) (bytes : List ℕ) (place : ℕ) (r : Report) → answerOf (length bytes) place (written form r) ≡ writeBytes form bytes place r
+unfolding answerOf writeBytes writeAt
+answer-tells form bytes place r =
+    by-test (ltb mostBytes (length bytes)) (λ t. picked _ _ t ∙ sym (picked _ _ t))
+    (λ t.
+    let m : length bytes ≤ mostBytes = ltb-false _ _ t in
+    let e = words-length bytes in
+    let w = wordsIn bytes in
+    let few : length w ≤ most = omega arith in
+    passed _ _ t
+    ∙ ap
+    (λ (x : Wrote). pick (eqb (length bytes % 2) 1) (W.Refused OddByteCount place) x)
+    (ap (λ (k : ℕ). pick (ltb k place) (W.Refused PlaceBeyondLine place) (roomOfMade k place (written form r))) (sym e)
+    ∙ ap (λ (x : Wrote). pick (ltb (length w) place) (W.Refused PlaceBeyondLine place) x) (made-room w place (written form r))
+    ∙ sym (passed _ _ (le-ltb most (length w) few)))
+    ∙ sym (passed _ _ t))

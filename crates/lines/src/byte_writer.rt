@@ -6,7 +6,7 @@ ghost use Prim.Native.Nat.{_+_, _*_, _/_, _≤_, _<_};
 ghost use lib.ListN.{length, take, drop};
 ghost use Rattle.reports.specs.Altitude.{signMagnitude};
 ghost use Rattle.words.specs.Word.{idle};
-ghost use Rattle.lines.specs.ByteWriting.{bytesOf, WritesBytes, PutsBytes};
+ghost use Rattle.lines.specs.ByteWriting.{bytesOf, roomOf, answerOf, writeBytes, WritesBytes, PutsBytes};
 use crate::Wrote;
 use crate::bytes::MOST_BYTES;
 use refusals::LineRefusal;
@@ -42,6 +42,45 @@ fn put_spaced(bytes: &mut [u8], place: usize, ws: [u16; 8], n: usize) -> Wrote
     let next = place + n + 1;
     put_pairs(&mut bytes[at..], ws, n + 1);
     Wrote::Next(next)
+}
+
+// The place behind n words and an idle word, or number 10.
+fn room(size: usize, place: usize, n: usize) -> Wrote
+    requires { ⌜ (place ≤ size) × (n < 8) ⌝ }
+    ensures { λ w. ⌜ w ≡ roomOf size place n ⌝ }
+{
+    if size - place <= n {
+        return Wrote::Refused(LineRefusal::NoRoom, place);
+    }
+    Wrote::Next(place + n + 1)
+}
+
+// The answer to so many bytes, a place and what a report was made into.
+fn answer_to(size: usize, place: usize, made: Written) -> Wrote
+    ensures { λ w. ⌜ w ≡ answerOf size place made ⌝ }
+{
+    if MOST_BYTES < size {
+        return Wrote::Refused(LineRefusal::LineTooLong, place);
+    }
+    if size % 2 == 1 {
+        return Wrote::Refused(LineRefusal::OddByteCount, place);
+    }
+    if size / 2 < place {
+        return Wrote::Refused(LineRefusal::PlaceBeyondLine, place);
+    }
+    match made {
+        Written::Four(_, _, _, _) => room(size / 2, place, 4),
+        Written::Seven(_, _, _, _, _, _, _) => room(size / 2, place, 7),
+        Written::Refused(why) => Wrote::Refused(why, place),
+    }
+}
+
+// What `write` answers to the same arguments; nothing is written.
+pub fn answer(bytes: &[u8], place: usize, report: Report) -> Wrote
+    ensures { λ w. ⌜ w ≡ writeBytes signMagnitude (now (bytes .entry)) place report ⌝ }
+{
+    let made = writing::words_of(report);
+    answer_to(bytes.len(), place, made)
 }
 
 // A report's words and one idle word, from a place on; places count words.
