@@ -1,0 +1,144 @@
+-- The claims of specs/Claims.antt. Assumes nothing.
+use Prim.Native.Nat.{ℕ, zero, suc, _+_, _-_, _*_, _/_, _%_}
+use mathlib.Core.Path.{_≡_, refl, sym, ap, _∙_}
+use mathlib.Core.Bool.{Bool, true, false, cond, not, _&&_}
+use mathlib.Core.List.{List, [], _∷_}
+use mathlib.Core.Logic.{_⊎_, inl, inr}
+use native.Mathlib.Omega.{arith}
+use lib.Dec.{eqb}
+use lib.IntN.{ℤ}
+use lib.ListN.{length, getD}
+use borrow.Author.Tests.{eq-eqb, ne-eqb, eqb-true}
+use Rattle.bits.specs.Bits.{Bytes}
+use Rattle.pairs.specs.declared.Found.{Found}
+use Rattle.pairs.specs.declared.Found.the-variants.{Value, Missing}
+use Rattle.pairs.specs.Pairs.{Pair, pairsIn, findIn}
+use Rattle.fields.specs.declared.Direction.{Direction}
+use Rattle.fields.specs.declared.Place.{Place}
+use Rattle.fields.specs.declared.Place.the-variants.{At, Nowhere}
+use Rattle.fields.specs.declared.Field.{Field}
+use Rattle.fields.specs.declared.Field.the-variants as F
+use Rattle.fields.specs.declared.Record.{Record}
+use Rattle.fields.specs.declared.Record.the-variants.{Single, Relay}
+use Rattle.fields.specs.declared.Answer.{Answer}
+use Rattle.fields.specs.declared.Answer.the-variants.{Accepted}
+use Rattle.fields.specs.Table.{table, rows, rowAt, widths, widthsAt, rules, rulesAt, placeFrom, placeOf, byPlace, hasFault, countIn, sizeIn}
+use Rattle.fields.specs.Records.{numbersOf}
+use Rattle.fields.specs.Reading.{answerOf, readField, listed, listedBy, textOf}
+use Rattle.fields.specs.Writing.{fieldIn, numbersIn, headFits, fitAll, takesAt, writtenAt, writtenOf, bitsIn}
+use Rattle.fields.proofs.Claims.{fields-mean}
+use Rattle.field_host.specs.Items.{itemsOf, fieldItems}
+use Rattle.field_host.specs.Reading.{innerOf, entriesOf}
+use Rattle.field_host.specs.Writing.{fieldGiven, relayBy, recordGiven, sameFound, agree, fits, unfit, checkedAt, given}
+use Rattle.field_host.specs.Claims.{Holds, OwnItems, NothingPassedOver, UnfitRefused, EntriesListed}
+use Rattle.field_host.proofs.Count.{Covers, within, nothing-else, both, agree-at, record-apart}
+use Rattle.field_host.proofs.Own.{placeNo, place-of, no-sensor, made}
+
+-- ---- a record's own items
+
+same-self : (x : Found) → sameFound x x ≡ true
+same-self (Value n) = eq-eqb n n refl
+same-self Missing = refl
+
+agree-all : (ps qs : List Pair) → ((n : ℕ) → findIn n ps ≡ findIn n qs) → (n k : ℕ) → agree ps qs n k ≡ true
+unfolding agree
+agree-all ps qs h n zero = refl
+agree-all ps qs h n (suc k) = rw (h n, same-self (findIn n qs)) (agree-all ps qs h (n + 1) k)
+
+-- a relay's items but the sensor are those of the field inside
+inside : (x : ℕ) (f : Field) (n : ℕ) → (n ≡ 237 → ⊥) → findIn n (itemsOf (Relay x f)) ≡ findIn n (fieldItems f)
+unfolding findIn
+inside x f n z = rw (ne-eqb 237 n (λ e. z (sym e))) refl
+
+-- what is made of them
+made-of : (r : Record) (ps : List Pair) → ((n : ℕ) → findIn n ps ≡ findIn n (itemsOf r)) → recordGiven ps (placeNo (fieldIn r)) ≡ r
+unfolding findIn
+made-of (Single f) ps h = ap (λ (x : Found). relayBy x (fieldGiven ps (placeNo f))) (h 237 ∙ no-sensor f) ∙ ap Single (made f ps (λ n z. h n))
+made-of (Relay x f) ps h =
+    ap (λ (y : Found). relayBy y (fieldGiven ps (placeNo f))) (h 237) ∙ ap (Relay x) (made f ps (λ n z. h n ∙ inside x f n z))
+
+pub own-items : OwnItems
+unfolding given checkedAt fits
+own-items r s l h m =
+    let ps = pairsIn s in
+    let e = made-of r ps (h .each) in
+    rw (eq-eqb _ _ m, eq-eqb _ _ (h .whole), place-of (fieldIn r), e, eq-eqb (innerOf r) (innerOf r) refl, eq-eqb _ _ (h .many), agree-all ps (itemsOf r) (h .each) 201 37) refl
+
+-- ---- what is made of what is given
+
+-- a record that it fits
+held : (t : ℕ) (s : List ℕ) (r : Record) → length s % 16 ≡ 0 → fits t (pairsIn s) r ≡ true → Holds s r × (innerOf r ≡ t)
+unfolding fits
+held t s r w e =
+    let ps = pairsIn s in
+    let qs = itemsOf r in
+    let a = both (eqb (innerOf r) t) (eqb (length ps) (length qs) && agree ps qs 201 37) e in
+    let b = both (eqb (length ps) (length qs)) (agree ps qs 201 37) (a .1) in
+    let m = eqb-true (length ps) (length qs) (b .0) in
+    let c : Covers ps qs = λ n v f. let i = within qs (record-apart r) n v f in agree-at ps qs 201 37 (b .1) n (i .0) (omega arith) ∙ f in
+    (record { whole = w; many = m; each = nothing-else qs ps (record-apart r) c m }, eqb-true (innerOf r) t (a .0))
+
+module _ (t : ℕ) (s l : List ℕ) where
+  abbrev Wanted : Record → Type 0
+  Wanted r = (r ≡ unfit) ⊎ (Holds s r × (innerOf r ≡ t) × (length l ≡ 240))
+
+  chosen : (r : Record) (b : Bool) → fits t (pairsIn s) r ≡ b → length s % 16 ≡ 0 → length l ≡ 240 → Wanted (cond b r unfit)
+  chosen r true e w m = let h = held t s r w e in inr (h .0, h .1, m)
+  chosen r false e w m = inl refl
+
+  placed : (p : Place) → length s % 16 ≡ 0 → length l ≡ 240 → Wanted (byPlace unfit (checkedAt t (pairsIn s)) p)
+  unfolding checkedAt
+  placed Nowhere w m = inl refl
+  placed (At i) w m = chosen (recordGiven (pairsIn s) i) (fits t (pairsIn s) (recordGiven (pairsIn s) i)) refl w m
+
+  counted-off : (b : Bool) → eqb (length s % 16) 0 ≡ b → length l ≡ 240 → Wanted (cond b (byPlace unfit (checkedAt t (pairsIn s)) (placeOf t)) unfit)
+  counted-off true e m = placed (placeOf t) (eqb-true _ _ e) m
+  counted-off false e m = inl refl
+
+pub nothing-passed-over : NothingPassedOver
+unfolding given
+nothing-passed-over t s l = go (eqb (length l) 240) refl
+  where
+    go : (b : Bool) → eqb (length l) 240 ≡ b → (given t s l ≡ unfit) ⊎ (Holds s (given t s l) × (innerOf (given t s l) ≡ t) × (length l ≡ 240))
+    go true e = rw e (counted-off t s l (eqb (length s % 16) 0) refl (eqb-true _ _ e))
+    go false e = rw e (inl refl)
+
+-- ---- what is no record
+
+pub unfit-refused : UnfitRefused
+unfolding writtenOf writtenAt takesAt headFits fitAll hasFault rulesAt rules widthsAt widths placeFrom rows table
+unfit-refused l t s = refl
+
+-- ---- how many entries
+
+module _ (n : ℕ) where
+  -- of a record with so many bits
+  counted : (f : Field) → n ≡ bitsIn (Single f) → entriesOf (innerOf (Single f)) n ≡ byPlace 0 (λ i. listed i (numbersIn (Single f))) (placeOf (innerOf (Single f)))
+  unfolding bitsIn sizeIn countIn listedBy rowAt placeFrom rows table
+  counted (F.TacticalUplink a b c d e) h = refl
+  counted (F.ElmUplink a b c d f) h = refl
+  counted (F.DownlinkRequest a b c d e) h = refl
+  counted (F.IdRequest a b) h = refl
+  counted (F.CapabilityRequest a b) h = refl
+  counted (F.Cancellation a b c d) h = refl
+  counted (F.Test a) h = refl
+  counted (F.AltimeterCorrection b) h = omega arith
+  counted (F.AtcFailure a) h = refl
+  counted (F.SensorFailure a c) h = refl
+  counted (F.DabsControlState a b c) h = omega arith
+  counted (F.AtcrbsControlState a b) h = omega arith
+  counted (F.RejectionNotice a b c) h = refl
+  counted (F.DeliveryNotice a b c) h = refl
+  counted (F.TacticalDownlink a b) h = refl
+  counted (F.ElmDownlink a c) h = refl
+  counted (F.Utility a c) h = refl
+  counted (F.Capability a b c d) h = refl
+  counted (F.IdCode a c) h = refl
+  counted (F.TestResponse a) h = refl
+  counted (F.ControllerAlert a b c d e f g h i j) k = refl
+
+pub entries-listed : EntriesListed
+unfolding readField
+entries-listed s n w f b e =
+    let r : readField s n w ≡ record { answer = Accepted (Single f); list = readField s n w .list } = ap (λ (a : Answer). record { answer = a; list = readField s n w .list }) e in
+    counted n f (fields-mean s n w (Single f) (readField s n w .list) (textOf s n w) b .0 (r, refl) .1)
