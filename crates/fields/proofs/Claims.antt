@@ -1,16 +1,16 @@
 -- The claims of specs/Claims.antt, from the laws.
 -- Assumes nothing.
-use Prim.Native.Nat.{ℕ, _+_, _/_, _≤_, _<_}
+use Prim.Native.Nat.{ℕ, _+_, _/_}
 use mathlib.Core.Path.{_≡_, refl, sym, ap, _∙_}
 use mathlib.Core.Bool.{Bool, true, false, cond}
-use mathlib.Core.List.{List, [], _∷_}
-use mathlib.Core.Logic.{_↔_, _⊎_, inl, inr}
+use mathlib.Core.List.{List}
+use mathlib.Core.Logic.{_↔_}
 use native.Mathlib.Omega.{arith}
 use lib.IntN.{ℤ}
 use lib.Dec.{ltb}
 use lib.ListN.{length, getD, drop, replicate, length-replicate}
 use borrow.Author.Tests.{lt-ltb, le-ltb, ltb-true}
-use Rattle.bits.specs.Bits.{bitAt, bitsOf, Bytes}
+use Rattle.bits.specs.Bits.{Bytes}
 use Rattle.refusals.specs.declared.FieldRefusal.{FieldRefusal}
 use Rattle.refusals.specs.declared.FieldRefusal.the-variants.{NotWritable, NoRoom}
 use Rattle.fields.specs.declared.Place.{Place}
@@ -20,12 +20,10 @@ use Rattle.fields.specs.declared.Answer.{Answer}
 use Rattle.fields.specs.declared.Answer.the-variants.{Accepted, Refused}
 use Rattle.fields.specs.declared.Written.{Written}
 use Rattle.fields.specs.declared.Written.the-variants as W
-use Rattle.fields.specs.Table.{table, rows, rowAt, placeFrom, placeOf, widths, widthsAt, rules, rulesAt, valuesOf, hasFault, countIn, sizeIn}
-use Rattle.fields.specs.Records.{fieldAt}
-use Rattle.fields.specs.Lists.{entryOf, anyUnused, entriesIn}
-use Rattle.fields.specs.Reading.{Test, fromSensor, sameWay, countOutOfRange, wrongByteCount, bitAfterCount, typeNotCarried, unknownType, wrongDirection, notRelayed, sizedBy, wrongBitCount, spareBitSet, blockCount, valueNotInUse, opens, firstOf, readTests, recordOf, answerOf, listedBy, listIn, startOf, listOf, textIn, textPlace, readField, textOf}
+use Rattle.fields.specs.Table.{rowAt, placeOf}
+use Rattle.fields.specs.Reading.{readTests, recordOf, answerOf, startOf, listOf, textIn, textPlace, readField, textOf}
 use Rattle.fields.specs.Writing.{fieldIn, numbersIn, wayIn, bytesIn, takesAt, takes, bitsAt, bitsIn, writtenAt, writtenOf, leftAt, leftOf, putField}
-use Rattle.fields.specs.Claims.{Given, NoneGiven, RefusedExactly, AcceptedExactly, NotWritableExactly, NoRoomExactly, WrittenExactly, RefusedUntouched, C10, C11, C12, PartsRead, PartsWrite, RecordBack, NumbersBack, WrittenReads, WrittenBytes, FieldsMean}
+use Rattle.fields.specs.Claims.{NoneGiven, RefusedExactly, AcceptedExactly, NotWritableExactly, NoRoomExactly, WrittenExactly, RefusedUntouched, PartsRead, PartsWrite, RecordBack, NumbersBack, WrittenReads, WrittenBytes, FieldsMean}
 use Rattle.fields.specs.declared.Direction.{Direction}
 use Rattle.fields.specs.declared.Found.{Found}
 use Rattle.fields.proofs.Forth.{place, place-is, way-is, head-is, takes-is, bits-is, bytes-is, way-same, entries-length, drop-bytes}
@@ -104,20 +102,6 @@ written-exactly r l t s h k =
 
 pub refused-untouched : RefusedUntouched
 refused-untouched r l t s x h = left-is r l t s x h
-
--- ---- worked cases
-
-pub c10 : C10
-unfolding bitAt bitsOf table rows rowAt placeFrom widths widthsAt rules rulesAt valuesOf hasFault countIn sizeIn fieldAt entryOf anyUnused entriesIn fromSensor sameWay countOutOfRange wrongByteCount bitAfterCount typeNotCarried unknownType wrongDirection notRelayed sizedBy wrongBitCount spareBitSet blockCount valueNotInUse opens answerOf listedBy listIn readField
-c10 = refl
-
-pub c11 : C11
-unfolding bitAt bitsOf table rows rowAt placeFrom widths widthsAt rules rulesAt valuesOf hasFault countIn sizeIn fieldAt entryOf anyUnused entriesIn fromSensor sameWay countOutOfRange wrongByteCount bitAfterCount typeNotCarried unknownType wrongDirection notRelayed sizedBy wrongBitCount spareBitSet blockCount valueNotInUse opens answerOf
-c11 = refl
-
-pub c12 : C12
-unfolding bitAt bitsOf table rows rowAt placeFrom widths widthsAt rules rulesAt valuesOf hasFault countIn sizeIn fieldAt entryOf anyUnused entriesIn fromSensor sameWay countOutOfRange wrongByteCount bitAfterCount typeNotCarried unknownType wrongDirection notRelayed sizedBy wrongBitCount spareBitSet blockCount valueNotInUse opens answerOf listedBy listIn readField
-c12 = refl
 
 -- ---- demand 2, its three parts
 

@@ -4,18 +4,15 @@ use mathlib.Core.Path.{_≡_}
 use mathlib.Core.Bool.{true, false}
 use mathlib.Core.List.{List, [], _∷_}
 use mathlib.Core.Logic.{_↔_, _⊎_}
-use lib.IntN.{ℤ, pos, negsuc}
+use lib.IntN.{ℤ}
 use lib.ListN.{length, getD, replicate}
 use Rattle.bits.specs.Bits.{bitsOf, Bytes}
 use Rattle.refusals.specs.declared.FieldRefusal.{FieldRefusal}
-use Rattle.refusals.specs.declared.FieldRefusal.the-variants.{ValueNotInUse, NotWritable, NoRoom}
+use Rattle.refusals.specs.declared.FieldRefusal.the-variants.{NotWritable, NoRoom}
 use Rattle.fields.specs.declared.Direction.{Direction}
-use Rattle.fields.specs.declared.Direction.the-variants.{ToSensor, FromSensor}
 use Rattle.fields.specs.declared.Place.the-variants.{At, Nowhere}
 use Rattle.fields.specs.declared.Field.{Field}
-use Rattle.fields.specs.declared.Field.the-variants.{TacticalUplink, AltimeterCorrection}
 use Rattle.fields.specs.declared.Record.{Record}
-use Rattle.fields.specs.declared.Record.the-variants.{Single, Relay}
 use Rattle.fields.specs.declared.Answer.the-variants.{Accepted, Refused}
 use Rattle.fields.specs.declared.Written.the-variants as W
 use Rattle.fields.specs.Table.{placeOf, rowAt, rulesAt, valuesOf, hasFault}
@@ -61,24 +58,6 @@ WrittenExactly =
 -- a refused write leaves the bytes as they were
 abbrev pub RefusedUntouched : Type 0
 RefusedUntouched = (r : Record) (l : List ℤ) (t s : List ℕ) (x : FieldRefusal) → writtenOf r l t s ≡ W.Refused x → leftOf r l t s ≡ s
-
--- ---- worked cases
-
--- C10 bytes 9B 01 12 83, 32 bits, to the sensor: +12, -3
-abbrev pub C10 : Type 0
-C10 =
-    readField (0x9B ∷ 0x01 ∷ 0x12 ∷ 0x83 ∷ []) 32 ToSensor
-    ≡ record { answer = Accepted (Single (AltimeterCorrection 1)); list = pos 12 ∷ negsuc 2 ∷ replicate 28 (pos 0) }
-
--- C11 the same with 80 last: 28
-abbrev pub C11 : Type 0
-C11 = answerOf (0x9B ∷ 0x01 ∷ 0x12 ∷ 0x80 ∷ []) 32 ToSensor ≡ Refused ValueNotInUse
-
--- C12 21 A1 B2 C3 5B and seven zeros, 96 bits, to the sensor: number 5, urgent, EXP 3
-abbrev pub C12 : Type 0
-C12 =
-    readField (0x21 ∷ 0xA1 ∷ 0xB2 ∷ 0xC3 ∷ 0x5B ∷ replicate 7 0) 96 ToSensor
-    ≡ record { answer = Accepted (Single (TacticalUplink 0xA1B2C3 5 1 3 0)); list = replicate 30 (pos 0) }
 
 -- ---- demand 2, its three parts
 

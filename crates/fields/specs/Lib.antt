@@ -1,5 +1,4 @@
 pub mod Table
-pub mod Printed
 pub mod Records
 pub mod Lists
 pub mod Reading
