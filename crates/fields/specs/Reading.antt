@@ -149,7 +149,7 @@ abbrev pub firstOf : {X : Type 0} → (FieldRefusal → X) → X → List Test �
 firstOf refused x [] = x
 firstOf refused x (t ∷ ts) = cond (t .holds) (refused (t .refusal)) (firstOf refused x ts)
 
--- the record of a field that begins behind the first a bits, which has a row
+-- the record of a field that begins behind the first a bits, which has a row; where it has none, 23 or 24 answers, and this is not asked
 abbrev pub recordIn : List ℕ → ℕ → Field
 recordIn s a = byPlace (fieldOf 0 (valuesAt s a 0)) (λ i. fieldOf i (valuesAt s a i)) (placeOf (typeOf s a))
 

@@ -1,8 +1,6 @@
 -- A record from the values of its parts, the type code left out, and the parts' values of a record, the type code first. Definitions only.
-use Prim.Native.Nat.{ℕ, _/_, _%_}
+use Prim.Native.Nat.{ℕ}
 use mathlib.Core.List.{List, [], _∷_}
-use mathlib.Core.Bool.{Bool}
-use lib.Dec.{eqb}
 use lib.ListN.{getD}
 use Rattle.fields.specs.declared.Field.{Field}
 use Rattle.fields.specs.declared.Field.the-variants as F
@@ -66,19 +64,3 @@ numbersOf (F.Capability a b c d) = eleven 0x44 a b c d 0 0 0 0 0 0
 numbersOf (F.IdCode a c) = eleven 0x45 a 0 c 0 0 0 0 0 0 0
 numbersOf (F.TestResponse a) = eleven 0x62 a 0 0 0 0 0 0 0 0 0
 numbersOf (F.ControllerAlert a b c d e f g h i j) = eleven 0x83 a b c d e f g h i j
-
--- ---- what 24 bits mean (document 004, 5.3.3.1.24, 5.3.3.2.9 and 5.3.3.2.10)
-
--- an ATCRBS identifier: the code is its first twelve bits, the file number its last
-abbrev pub codeOf : ℕ → ℕ
-codeOf x = x / 4096
-
-abbrev pub fileOf : ℕ → ℕ
-fileOf x = x % 4096
-
--- CS: the first bit is one for a controlled aircraft, the second for a DABS aircraft, whose ACID is its address; else it is an identifier
-abbrev pub isControlled : ℕ → Bool
-isControlled cs = eqb (cs / 2 % 2) 1
-
-abbrev pub isDabs : ℕ → Bool
-isDabs cs = eqb (cs % 2) 1

@@ -58,7 +58,7 @@ pub record Known : Type 0 where
   pub row : Row
   pub parts : List Part
 
--- no part is counted
+-- no part is counted: the place behind the last of eleven parts, where every value counts as 0
 abbrev none : ℕ
 none = 11
 

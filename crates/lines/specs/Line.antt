@@ -7,7 +7,6 @@ use lib.Dec.{eqb, ltb}
 use lib.ListN.{length, drop}
 use Rattle.refusals.specs.declared.LineRefusal.{LineRefusal}
 use Rattle.refusals.specs.declared.LineRefusal.the-variants.{LineTooLong, PlaceBeyondLine}
-use Rattle.refusals.specs.Numbers.{lineNumber}
 use Rattle.words.specs.Tests.{pick}
 use Rattle.words.specs.Word.{idle}
 use Rattle.reports.specs.declared.RunAnswer.{RunAnswer}
@@ -43,12 +42,6 @@ whatOf (A.Refused q o) = W.Refused q
 -- a run of n words that got this answer, with its first word at a place: a refusal names the word at its offset, a report its first word
 abbrev pub placed : ℕ → ℕ → RunAnswer → Outcome
 placed first n a = outcomeOf (whatOf a) first (first + n) (first + answerOffset a)
-
--- the paper's number, 0 for a report and for the end
-abbrev pub whatNumber : What → ℕ
-whatNumber (W.Accepted r) = 0
-whatNumber (W.Refused q) = lineNumber q
-whatNumber W.End = 0
 
 abbrev pub isReport : What → Bool
 isReport (W.Accepted r) = true
@@ -105,6 +98,6 @@ unfoldable pub calls : (List ℕ → RunAnswer) → ℕ → List ℕ → ℕ →
 calls answer zero line place = []
 calls answer (suc k) line place = let o = readBy answer line place in o ∷ pick (isEnd (o .what)) [] (calls answer k line (o .after))
 
--- a line read from its start: as many calls as it has words, and one, which CallsEnough (Claims.antt) shows to be enough
+-- a line of at most `most` words read from its start: as many calls as it has words, and one, which CallsEnough (Claims.antt) shows to be enough
 abbrev pub outcomes : (List ℕ → RunAnswer) → List ℕ → List Outcome
 outcomes answer line = calls answer (suc (length line)) line 0

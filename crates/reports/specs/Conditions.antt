@@ -73,7 +73,8 @@ spareSet ws = not (eqb (zeros ws) 0)
 abbrev pub minusZero : AltitudeForm → List ℕ → Bool
 minusZero form ws = all (isSeven ws ∷ not (bit ws 12) ∷ bit ws 6 ∷ form .refused (bits ws 79 90) ∷ [])
 
--- a run has one of the layouts: good words of a known form, as many as it has, with nothing in them that it does not have
+-- a run has one of the layouts: good words of a known form, as many as it has, with nothing in them that it does not have. LayoutIsWords
+-- (Claims.antt) says the same the other way: they are the words of a record that fits
 pub record HasLayout (form : AltitudeForm) (ws : List ℕ) : Type 0 where
   pub good : AllGood ws
   pub known : unknownForm ws ≡ false

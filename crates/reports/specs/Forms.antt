@@ -13,6 +13,7 @@ isFour ws = eqb (bits ws 2 3) 0b00
 abbrev pub isSeven : List ℕ → Bool
 isSeven ws = eqb (bits ws 2 3) 0b11
 
+-- how many words they ask for (where they are 01 or 10, refusal 5 stands before any count)
 abbrev pub wordCount : List ℕ → ℕ
 wordCount ws = pick (isSeven ws) 7 4
 

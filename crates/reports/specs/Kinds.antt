@@ -1,4 +1,5 @@
--- The lister's name of a report, and the number by which a C program knows it. The document gives none: these are ours, above every refusal's.
+-- The lister's name of a report, and the number by which a C program knows it. The document gives no numbers: these are ours, above every
+-- refusal's.
 -- Definitions only.
 use Prim.Native.Nat.{ℕ}
 use Rattle.reports.specs.declared.Height.{Height}

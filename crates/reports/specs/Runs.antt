@@ -3,7 +3,6 @@ use Prim.Native.Nat.{ℕ}
 use mathlib.Core.Bool.{Bool, not}
 use mathlib.Core.List.{List, [], _∷_}
 use lib.Dec.{eqb, ltb}
-use Rattle.refusals.specs.Numbers.{lineNumber}
 use Rattle.refusals.specs.declared.LineRefusal.{LineRefusal}
 use Rattle.refusals.specs.declared.LineRefusal.the-variants.{WordTooWide, EvenWord, UnknownForm, WrongLength, UnassignedRadar, SpareBitSet, MinusZero}
 use Rattle.words.specs.Tests.{pick}
@@ -58,11 +57,6 @@ abbrev pub readRun : AltitudeForm → List ℕ → RunAnswer
 readRun form ws = firstHit (tableOf form ws) (Accepted (reportOf form ws))
 
 -- ---- what an answer says
-
--- the paper's number, 0 for a report
-abbrev pub answerNumber : RunAnswer → ℕ
-answerNumber (Accepted r) = 0
-answerNumber (Refused q o) = lineNumber q
 
 -- the offset of the word that is named, the first for a report
 abbrev pub answerOffset : RunAnswer → ℕ
