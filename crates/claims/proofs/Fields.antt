@@ -1,0 +1,64 @@
+-- Link data fields: the writer's two refusals as the document's table has them, what it is to have a layout, and a record written out again
+-- into any lent bytes. Assumes nothing.
+use Prim.Native.Nat.{ℕ, _+_, _-_, _*_, _/_, _≤_, _<_}
+use mathlib.Core.Path.{_≡_, refl, sym, ap, _∙_}
+use mathlib.Core.Bool.{Bool, true, false, not}
+use mathlib.Core.List.{List, [], _∷_, _++_}
+use mathlib.Core.Logic.{_↔_, _⊎_, inl, inr, ⊎-elim}
+use native.Mathlib.Omega.{arith}
+use lib.Dec.{ltb}
+use lib.IntN.{ℤ}
+use lib.ListN.{length, drop, replicate}
+use borrow.Author.Tests.{ltb-true, ltb-false}
+use Rattle.bits.specs.Bits.{Bytes}
+use Rattle.refusals.specs.declared.FieldRefusal.{FieldRefusal}
+use Rattle.refusals.specs.declared.FieldRefusal.the-variants.{NotWritable, NoRoom}
+use Rattle.fields.specs.declared.Direction.{Direction}
+use Rattle.fields.specs.declared.Record.{Record}
+use Rattle.fields.specs.declared.Found.{Found}
+use Rattle.fields.specs.declared.Answer.the-variants.{Accepted}
+use Rattle.fields.specs.declared.Written.{Written}
+use Rattle.fields.specs.declared.Written.the-variants as F
+use Rattle.fields.specs.Claims.{Given}
+use Rattle.fields.specs.Reading.{Test, answerOf, listOf, readField, textOf}
+use Rattle.fields.specs.Writing.{takes, bitsIn, wayIn, bytesIn, writtenOf, leftOf}
+use Rattle.fields.proofs.Claims.{not-writable-exactly, no-room-exactly, written-exactly, fields-mean}
+use Rattle.claims.specs.Demands.{WritesField, writerTests, HasFieldLayout}
+
+-- ---- 30 and 31
+
+pub writing-refuses : (r : Record) (l : List ℤ) (t s : List ℕ) (q : FieldRefusal) → (writtenOf r l t s ≡ F.Refused q) ↔ Given q (writerTests r l t s)
+writing-refuses r l t s q = go (takes r l t) (ltb (length s) ((bitsIn r + 7) / 8)) refl refl
+  where
+    go : (a b : Bool) → takes r l t ≡ a → ltb (length s) ((bitsIn r + 7) / 8) ≡ b → (writtenOf r l t s ≡ F.Refused q) ↔ Given q (writerTests r l t s)
+    go false b e h =
+        let w = not-writable-exactly r l t s .1 e in
+        rw e (λ k. inl (refl, (let j : F.Refused NotWritable ≡ F.Refused q = sym w ∙ k in cc)), ⊎-elim (λ k. w ∙ ap F.Refused (k .1)) (λ k. absurd (let j = k .0 in let z : _≡_ {A = ℕ} 0 1 = cc in omega arith)))
+    go true true e h =
+        let w = no-room-exactly r l t s .1 (e, ltb-true _ _ h) in
+        rw (e, h) (λ k. inr (refl, inl (refl, (let j : F.Refused NoRoom ≡ F.Refused q = sym w ∙ k in cc))), ⊎-elim (λ k. absurd (let j = k .0 in let z : _≡_ {A = ℕ} 0 1 = cc in omega arith)) (λ k. ⊎-elim (λ i. w ∙ ap F.Refused (i .1)) (λ i. absurd (i .1)) (k .1)))
+    go true false e h =
+        let w = written-exactly r l t s e (let m : (bitsIn r + 7) / 8 ≤ length s = ltb-false _ _ h in omega arith) in
+        rw (e, h) (λ k. absurd (let j = sym w ∙ k in let z : _≡_ {A = ℕ} 0 1 = cc in omega arith), ⊎-elim (λ k. absurd (let j = k .0 in let z : _≡_ {A = ℕ} 0 1 = cc in omega arith)) (λ k. ⊎-elim (λ i. absurd (let j = i .0 in let z : _≡_ {A = ℕ} 0 1 = cc in omega arith)) (λ i. absurd (i .1)) (k .1)))
+
+-- ---- layouts
+
+-- what is read of an accepted field, whole
+whole : (s : List ℕ) (n : ℕ) (w : Direction) (r : Record) → answerOf s n w ≡ Accepted r → readField s n w ≡ record { answer = Accepted r; list = readField s n w .list }
+unfolding readField
+whole s n w r e = λ i. record { answer = e i; list = listOf s (answerOf s n w) }
+
+pub has-layout : (s : List ℕ) (n : ℕ) (w : Direction) (r : Record) → Bytes s → (answerOf s n w ≡ Accepted r) ↔ HasFieldLayout s n w r
+unfolding readField
+has-layout s n w r b = (
+  λ e. let m = fields-mean s n w r (readField s n w .list) (textOf s n w) b .0 (whole s n w r e, refl) in
+      (readField s n w .list, textOf s n w, m .0, m .1, m .2, m .3, m .4, m .5),
+  λ h. ap (λ (f : Found). f .answer) (fields-mean s n w r (h .0) (h .1) b .1 (h .2, h .3, h .4, h .5, h .6, h .7) .0),
+)
+
+-- ---- written out again
+
+pub again : (s : List ℕ) (n : ℕ) (w : Direction) (r : Record) → Bytes s → answerOf s n w ≡ Accepted r
+    → (b : List ℕ) → Bytes b → length s ≤ length b
+    → WritesField r (readField s n w .list) (textOf s n w) b (F.Bits n) (s ++ drop (length s) b)
+again s n w r b e t c m = ?
