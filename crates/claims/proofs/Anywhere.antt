@@ -156,4 +156,35 @@ module _ (i : ℕ) (r : Record) (l : List ℤ) (t : List ℕ) (low : i < 21) (k 
         putBits-other (putAll b 0 ws us) n (fillOf n) 0 p (inr (omega arith)) ∙ all-stay b 0 ws us p (omega arith)
 
     pub put-anywhere : out ≡ own ++ drop size b
-    put-anywhere = ?
+    put-anywhere =
+        ext-getD 0 out (own ++ drop size b) (length-out ∙ sym (length-append own (drop size b) ∙ omega (arith, length-own, length-drop size b))) each
+      where
+        each : (j : ℕ) → j < length out → getD out j 0 ≡ getD (own ++ drop size b) j 0
+        each j h =
+            by-test (ltb j size)
+            (λ e. let q = ltb-true j size e in
+            same-byte out own j bytes-out bytes-own (λ x g. front (j * 8 + x) (omega arith))
+            ∙ sym (List·getD-append own (drop size b) 0 j (omega (arith, length-own))))
+            (λ e. let q = ltb-false j size e in
+            let at : length own + (j - size) ≡ j = omega (arith, length-own) in
+            let from : size + (j - size) ≡ j = omega arith in
+            same-byte out b j bytes-out bytes (λ x g. behind (j * 8 + x) (omega arith))
+            ∙ ap (λ (y : ℕ). getD b y 0) (sym from) ∙ sym (getD-drop size b (j - size) 0)
+            ∙ sym (getD-append-add own (drop size b) (j - size) 0) ∙ ap (λ (y : ℕ). getD (own ++ drop size b) y 0) at)
+
+-- what a call that is not refused leaves: the field's bytes, and those behind as they were
+pub left-anywhere : (r : Record) (l : List ℤ) (t b : List ℕ) → takes r l t ≡ true → Bytes b → (bitsIn r + 7) / 8 ≤ length b → leftOf r l t b ≡ bytesIn r l t ++ drop ((bitsIn r + 7) / 8) b
+unfolding takes leftOf leftAt bytesIn bitsIn
+left-anywhere r l t b h c m =
+    let i = placeIn (fieldIn r) in
+    let at : placeOf (getD (numbersIn r) 0 0) ≡ At i = place-back (fieldIn r) in
+    let k : takesAt i r l (length t) ≡ true = rw at at h in
+    let n : (bitsAt i r + 7) / 8 ≤ length b = rw at at m in
+    rw (at, k, le-ltb (length b) ((bitsAt i r + 7) / 8) n) (put-anywhere i r l t (place-low (fieldIn r)) (taken i r l (length t) k) b c n)
+
+pub bytes-length : (r : Record) (l : List ℤ) (t : List ℕ) → length (bytesIn r l t) ≡ (bitsIn r + 7) / 8
+unfolding bytesIn bitsIn putField
+bytes-length r l t =
+    let i = placeIn (fieldIn r) in
+    let at : placeOf (getD (numbersIn r) 0 0) ≡ At i = place-back (fieldIn r) in
+    rw at (length-putBits _ _ _ _ ∙ length-putAll _ 0 _ _ ∙ length-replicate ((bitsAt i r + 7) / 8) 0)

@@ -23,6 +23,7 @@ use Rattle.fields.specs.Claims.{Given}
 use Rattle.fields.specs.Reading.{Test, answerOf, listOf, readField, textOf}
 use Rattle.fields.specs.Writing.{takes, bitsIn, wayIn, bytesIn, writtenOf, leftOf}
 use Rattle.fields.proofs.Claims.{not-writable-exactly, no-room-exactly, written-exactly, fields-mean}
+use Rattle.claims.proofs.Anywhere.{left-anywhere, bytes-length}
 use Rattle.claims.specs.Demands.{WritesField, writerTests, HasFieldLayout}
 
 -- ---- 30 and 31
@@ -61,4 +62,15 @@ has-layout s n w r b = (
 pub again : (s : List ℕ) (n : ℕ) (w : Direction) (r : Record) → Bytes s → answerOf s n w ≡ Accepted r
     → (b : List ℕ) → Bytes b → length s ≤ length b
     → WritesField r (readField s n w .list) (textOf s n w) b (F.Bits n) (s ++ drop (length s) b)
-again s n w r b e t c m = ?
+again s n w r b e x c m =
+    let l = readField s n w .list in
+    let t = textOf s n w in
+    let k = fields-mean s n w r l t b .0 (whole s n w r e, refl) in
+    let size : length s ≡ (bitsIn r + 7) / 8 = ap length (k .0) ∙ bytes-length r l t in
+    let room : (bitsIn r + 7) / 8 ≤ length x = omega arith in
+    record {
+      answers = ap F.Bits (k .1) ∙ sym (written-exactly r l t x (k .3) (omega arith));
+      leaves =
+          (λ j. k .0 j ++ drop (size j) x)
+          ∙ sym (left-anywhere r l t x (k .3) c room);
+    }
