@@ -2,8 +2,8 @@
 -- were. Shown bit by bit. Assumes nothing.
 use Prim.Native.Nat.{ℕ, zero, suc, _+_, _-_, _*_, _/_, _%_, _≤_, _<_}
 use mathlib.Core.Path.{_≡_, refl, sym, ap, _∙_}
-use mathlib.Core.Bool.{Bool, true, false}
-use mathlib.Core.List.{List, [], _∷_, _++_}
+use mathlib.Core.Bool.{true}
+use mathlib.Core.List.{List, _∷_, _++_}
 use mathlib.Core.Logic.{inl, inr}
 use native.Mathlib.Omega.{arith}
 use lib.Dec.{ltb}
@@ -11,14 +11,13 @@ use lib.IntN.{ℤ}
 use lib.ListN.{length, getD, drop, replicate, length-replicate, length-append, length-drop, List·getD-append}
 use lib.Seq.{ext-getD, getD-append-add, getD-drop}
 use borrow.Author.Tests.{ltb-true, ltb-false, le-ltb}
-use Rattle.bits.specs.Bits.{bitAt, bitsOf, putBit, putBits, Bytes}
+use Rattle.bits.specs.Bits.{bitAt, putBit, putBits, Bytes}
 use Rattle.bits.proofs.Laws.{putBit-same, putBits-other, length-putBit, length-putBits, putBits-bytes, bitsOf-same, byte-bits}
 use Rattle.lines.proofs.Tests.{by-test}
 use Rattle.fields.specs.declared.Place.the-variants.{At}
 use Rattle.fields.specs.declared.Record.{Record}
 use Rattle.fields.specs.declared.Record.the-variants.{Single, Relay}
 use Rattle.fields.specs.Table.{placeOf, rowAt, widthsAt, sizeIn}
-use Rattle.fields.specs.Lists.{entriesBits}
 use Rattle.fields.specs.Reading.{listed}
 use Rattle.fields.specs.Writing.{fieldIn, numbersIn, headBits, headWidths, headValues, bitsAt, bitsIn, widthsIn, valuesIn, putAll, sumOf, fillOf, putField, takesAt, takes, leftAt, leftOf, bytesIn}
 use Rattle.fields.proofs.Puts.{length-putAll, listFits-room, entriesBits-length}

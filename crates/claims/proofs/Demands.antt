@@ -1,7 +1,7 @@
 -- The demands, each sentence from the law below it. Assumes nothing.
-use Prim.Native.Nat.{ℕ, _+_, _-_, _/_, _≤_}
+use Prim.Native.Nat.{ℕ, _+_}
 use mathlib.Core.Path.{_≡_, refl, sym, ap, _∙_}
-use mathlib.Core.List.{List, [], _∷_, _++_}
+use mathlib.Core.List.{List, _∷_, _++_}
 use lib.ListN.{length}
 use Rattle.refusals.proofs.Claims as refusals
 use Rattle.words.proofs.Claims as words
@@ -27,8 +27,8 @@ use Rattle.lines.proofs.Written as written
 use Rattle.fields.proofs.Claims as fields
 use Rattle.claims.specs.Demands.{TakeEveryInputAndEnd, OneNumberedRefusal, GivenExactly, LeavesUntouched, MeanWhatIsPrinted, AcceptedExactly, WrittenAgain, ReadAgain, EqualLinesEqualLists, ReadingGivesTheList, OneOutcomeEach, reportsIn, Demands}
 use Rattle.claims.proofs.Twelve.{twelve}
-use Rattle.claims.proofs.Ends.{end-exactly}
-use Rattle.claims.proofs.Fields.{writing-refuses, has-layout, again}
+use Rattle.claims.proofs.Places.{end-exactly, report-words, read-written, read-written-bytes}
+use Rattle.claims.proofs.Fields.{writing-refuses, has-layout, again, read-left}
 
 -- ---- demand 1
 
@@ -90,10 +90,16 @@ accepted = record {
 }
 
 written-again : WrittenAgain
-written-again = record { runs = demand2.written-again; fields = again }
+written-again = record { runs = demand2.written-again; on-a-line = report-words; fields = again }
 
 read-again : ReadAgain
-read-again = record { runs = demand2.read-back; runs-taken = demand2.takes-what-fits; fields = fields.written-reads }
+read-again = record {
+  runs = demand2.read-back;
+  runs-taken = demand2.takes-what-fits;
+  on-a-line = read-written;
+  in-bytes = read-written-bytes;
+  fields = read-left;
+}
 
 -- ---- demand 3
 

@@ -1,14 +1,15 @@
 -- Link data fields: the writer's two refusals as the document's table has them, what it is to have a layout, and a record written out again
 -- into any lent bytes. Assumes nothing.
-use Prim.Native.Nat.{ℕ, _+_, _-_, _*_, _/_, _≤_, _<_}
+use Prim.Native.Nat.{ℕ, _+_, _/_, _≤_}
 use mathlib.Core.Path.{_≡_, refl, sym, ap, _∙_}
-use mathlib.Core.Bool.{Bool, true, false, not}
-use mathlib.Core.List.{List, [], _∷_, _++_}
-use mathlib.Core.Logic.{_↔_, _⊎_, inl, inr, ⊎-elim}
+use mathlib.Core.Bool.{Bool, true, false}
+use mathlib.Core.List.{List, _++_}
+use mathlib.Core.Logic.{_↔_, inl, inr, ⊎-elim}
 use native.Mathlib.Omega.{arith}
 use lib.Dec.{ltb}
 use lib.IntN.{ℤ}
-use lib.ListN.{length, drop, replicate}
+use lib.ListN.{length, take, drop}
+use lib.Seq.{take-at}
 use borrow.Author.Tests.{ltb-true, ltb-false}
 use Rattle.bits.specs.Bits.{Bytes}
 use Rattle.refusals.specs.declared.FieldRefusal.{FieldRefusal}
@@ -17,12 +18,11 @@ use Rattle.fields.specs.declared.Direction.{Direction}
 use Rattle.fields.specs.declared.Record.{Record}
 use Rattle.fields.specs.declared.Found.{Found}
 use Rattle.fields.specs.declared.Answer.the-variants.{Accepted}
-use Rattle.fields.specs.declared.Written.{Written}
 use Rattle.fields.specs.declared.Written.the-variants as F
 use Rattle.fields.specs.Claims.{Given}
-use Rattle.fields.specs.Reading.{Test, answerOf, listOf, readField, textOf}
-use Rattle.fields.specs.Writing.{takes, bitsIn, wayIn, bytesIn, writtenOf, leftOf}
-use Rattle.fields.proofs.Claims.{not-writable-exactly, no-room-exactly, written-exactly, fields-mean}
+use Rattle.fields.specs.Reading.{answerOf, listOf, readField, textOf}
+use Rattle.fields.specs.Writing.{takes, bitsIn, wayIn, bytesIn, writtenOf}
+use Rattle.fields.proofs.Claims.{not-writable-exactly, no-room-exactly, written-exactly, written-reads, fields-mean}
 use Rattle.claims.proofs.Anywhere.{left-anywhere, bytes-length}
 use Rattle.claims.specs.Demands.{WritesField, writerTests, HasFieldLayout}
 
@@ -74,3 +74,26 @@ again s n w r b e x c m =
           (λ j. k .0 j ++ drop (size j) x)
           ∙ sym (left-anywhere r l t x (k .3) c room);
     }
+
+-- ---- written and read
+
+-- a call that answers a bit count was given a record that the writer takes, and room; the count is the record's
+written-so : (r : Record) (l : List ℤ) (t b : List ℕ) (n : ℕ) → writtenOf r l t b ≡ F.Bits n → (takes r l t ≡ true) × ((bitsIn r + 7) / 8 ≤ length b) × (n ≡ bitsIn r)
+written-so r l t b n e = go (takes r l t) (ltb (length b) ((bitsIn r + 7) / 8)) refl refl
+  where
+    go : (x y : Bool) → takes r l t ≡ x → ltb (length b) ((bitsIn r + 7) / 8) ≡ y → (takes r l t ≡ true) × ((bitsIn r + 7) / 8 ≤ length b) × (n ≡ bitsIn r)
+    go false y h k = let w = not-writable-exactly r l t b .1 h in let z : _≡_ {A = ℕ} 0 1 = cc in absurd (omega arith)
+    go true true h k = let w = no-room-exactly r l t b .1 (h, ltb-true _ _ k) in let z : _≡_ {A = ℕ} 0 1 = cc in absurd (omega arith)
+    go true false h k =
+        let m : (bitsIn r + 7) / 8 ≤ length b = ltb-false _ _ k in
+        let w = written-exactly r l t b h (omega arith) in
+        (h, m, (cc))
+
+pub read-left : (r : Record) (l : List ℤ) (t b : List ℕ) (n : ℕ) (exit : List ℕ) → length l ≡ 30 → Bytes t → Bytes b → WritesField r l t b (F.Bits n) exit
+    → (readField (take ((n + 7) / 8) exit) n (wayIn r) ≡ record { answer = Accepted r; list = l }) × (textOf (take ((n + 7) / 8) exit) n (wayIn r) ≡ t)
+read-left r l t b n exit room bt bb w =
+    let k = written-so r l t b n (sym (w .answers)) in
+    let size = (bitsIn r + 7) / 8 in
+    let own : take ((n + 7) / 8) exit ≡ bytesIn r l t =
+    (λ i. take ((k .2 i + 7) / 8) ((w .leaves ∙ left-anywhere r l t b (k .0) bb (k .1)) i)) ∙ take-at (bytesIn r l t) (drop size b) size (bytes-length r l t) in
+    rw (own, k .2) (written-reads r l t (k .0) room bt)

@@ -1,5 +1,5 @@
 pub mod Twelve
-pub mod Ends
+pub mod Places
 pub mod Anywhere
 pub mod Fields
 pub mod Demands

@@ -3,12 +3,12 @@
 -- them; proofs/Demands.antt proves it as one value. Statements only, with what they need to be said.
 use Prim.Native.Nat.{ℕ, _+_, _-_, _/_, _≤_}
 use mathlib.Core.Path.{_≡_}
-use mathlib.Core.Bool.{Bool, true, not}
-use mathlib.Core.List.{List, [], _∷_, _++_}
+use mathlib.Core.Bool.{true, not}
+use mathlib.Core.List.{List, _∷_, _++_}
 use mathlib.Core.Logic.{_↔_}
 use lib.Dec.{ltb}
 use lib.IntN.{ℤ}
-use lib.ListN.{length, drop, replicate}
+use lib.ListN.{length, take, drop, replicate}
 use Rattle.refusals.specs.Claims as refusals
 use Rattle.refusals.specs.declared.LineRefusal.{LineRefusal}
 use Rattle.refusals.specs.declared.FieldRefusal.{FieldRefusal}
@@ -20,14 +20,15 @@ use Rattle.bits.specs.Bits.{Bytes}
 use Rattle.reports.specs.Claims as reports
 use Rattle.reports.specs.declared.Report.{Report}
 use Rattle.reports.specs.Altitude.{signMagnitude}
+use Rattle.reports.specs.Layouts.{wordsOf}
 use Rattle.reports.specs.Runs.{readRun}
 use Rattle.lines.specs.Claims as lines
 use Rattle.lines.specs.declared.What.{What}
 use Rattle.lines.specs.declared.What.the-variants as W
 use Rattle.lines.specs.declared.Outcome.{Outcome}
-use Rattle.lines.specs.declared.Wrote.{Wrote}
 use Rattle.lines.specs.declared.Wrote.the-variants as P
-use Rattle.lines.specs.Line.{most, readAt, outcomes}
+use Rattle.lines.specs.Line.{most, outcomeOf, readAt, outcomes}
+use Rattle.lines.specs.Bytes.{readBytes}
 use Rattle.lines.specs.Spaced.{Spaced, lineOf, reportsOf, AllFit, Apart}
 use Rattle.lines.specs.Writing.{Writes}
 use Rattle.lines.specs.ByteWriting.{WritesBytes}
@@ -128,19 +129,31 @@ pub record AcceptedExactly : Type 0 where
   pub fields : fields.AcceptedExactly
   pub fields-by-bytes : (s : List ℕ) (n : ℕ) (w : Direction) (r : Record) → Bytes s → (answerOf s n w ≡ Accepted r) ↔ HasFieldLayout s n w r
 
--- "its record written out again gives the same bits": the words of the run; and the bytes of the field, into any lent bytes that have room,
--- of which those behind stay
+-- the words of a line from a place up to another
+abbrev pub between : ℕ → ℕ → List ℕ → List ℕ
+between first after line = take (after - first) (drop first line)
+
+-- "its record written out again gives the same bits": a report has the words of the run that it was read from, there on the line; and the
+-- writer puts a field's bytes into any lent bytes that have room, of which those behind stay
 pub record WrittenAgain : Type 0 where
   pub runs : reports.WrittenAgain
+  pub on-a-line : (line : List ℕ) (place : ℕ) (r : Report) → readAt signMagnitude line place .what ≡ W.Accepted r
+      → wordsOf signMagnitude r ≡ between (readAt signMagnitude line place .first) (readAt signMagnitude line place .after) line
   pub fields : (s : List ℕ) (n : ℕ) (w : Direction) (r : Record) → Bytes s → answerOf s n w ≡ Accepted r
       → (b : List ℕ) → Bytes b → length s ≤ length b
       → WritesField r (readField s n w .list) (textOf s n w) b (F.Bits n) (s ++ drop (length s) b)
 
--- "and, of those the writer takes, a record written and read gives the same record": a report, and a record with its list and its text
+-- "and, of those the writer takes, a record written and read gives the same record": a report read at the place where it was written, of
+-- words and of bytes; and a record with its list and its text. A list has thirty numbers, and a text is bytes
 pub record ReadAgain : Type 0 where
   pub runs : reports.ReadBack
   pub runs-taken : reports.TakesWhatFits
-  pub fields : fields.WrittenReads
+  pub on-a-line : (line : List ℕ) (place : ℕ) (r : Report) (next : ℕ) (exit : List ℕ) → Writes signMagnitude line place r (P.Next next) exit
+      → readAt signMagnitude exit place ≡ outcomeOf (W.Accepted r) place (next - 1) place
+  pub in-bytes : (bytes : List ℕ) (place : ℕ) (r : Report) (next : ℕ) (exit : List ℕ) → WritesBytes signMagnitude bytes place r (P.Next next) exit
+      → readBytes signMagnitude exit place ≡ outcomeOf (W.Accepted r) place (next - 1) place
+  pub fields : (r : Record) (l : List ℤ) (t b : List ℕ) (n : ℕ) (exit : List ℕ) → length l ≡ 30 → Bytes t → Bytes b → WritesField r l t b (F.Bits n) exit
+      → (readField (take ((n + 7) / 8) exit) n (wayIn r) ≡ record { answer = Accepted r; list = l }) × (textOf (take ((n + 7) / 8) exit) n (wayIn r) ≡ t)
 
 -- ---- demand 3
 

@@ -3,7 +3,7 @@
 use Prim.Native.Nat.{ℕ, _*_, _/_}
 use mathlib.Core.Path.{_≡_}
 use mathlib.Core.Bool.{true, false}
-use mathlib.Core.List.{List, [], _∷_, _++_, map}
+use mathlib.Core.List.{List, _∷_, _++_, map}
 use lib.IntN.{ℤ, pos, negℤ}
 use lib.ListN.{replicate}
 use Rattle.refusals.specs.Numbers.{lineNumber, fieldNumber}
@@ -28,7 +28,7 @@ use Rattle.fields.specs.declared.Record.{Record}
 use Rattle.fields.specs.declared.Record.the-variants.{Single}
 use Rattle.fields.specs.declared.Answer.{Answer}
 use Rattle.fields.specs.declared.Answer.the-variants as A
-use Rattle.fields.specs.Reading.{answerOf, readField, textOf}
+use Rattle.fields.specs.Reading.{readField, textOf}
 
 -- ---- what a row says
 
