@@ -1,7 +1,7 @@
 -- The demands, each sentence from the law below it. Assumes nothing.
 use Prim.Native.Nat.{ℕ, _+_}
 use mathlib.Core.Path.{_≡_, refl, sym, ap, _∙_}
-use mathlib.Core.List.{List, _∷_, _++_}
+use mathlib.Core.List.{List, [], _∷_, _++_}
 use lib.ListN.{length}
 use Rattle.refusals.proofs.Claims as refusals
 use Rattle.words.proofs.Claims as words
