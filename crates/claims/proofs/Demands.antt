@@ -78,6 +78,7 @@ meaning = record {
   layouts = words.laid-out;
   fields = fields.fields-mean;
   weights = measures.weights-as-printed;
+  exact = measures.exact-is-one;
   twelve = twelve;
 }
 

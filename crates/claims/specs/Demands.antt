@@ -1,6 +1,7 @@
--- The demands 1 to 3 of the person that this converter is built for, sentence by sentence, in their order: the sentence stands above, in
--- their words, and the definition below it says it of the written definitions and claims of the crates below. Demands, at the end, gathers
--- them; proofs/Demands.antt proves it as one value. Statements only, with what they need to be said.
+-- Demands 1 to 3 of the person that this converter is built for, sentence by sentence, in their order. The sentence stands above in their
+-- words; the definition under it says it, by the written definitions and claims of the crates below, of document 01's form of the altitude
+-- (signMagnitude) or of every form and every answer to a run. Demands, at the end, gathers them, and proofs/Demands.antt proves it as one
+-- value. Statements only, with what they need to be said.
 use Prim.Native.Nat.{ℕ, _+_, _-_, _/_, _≤_}
 use mathlib.Core.Path.{_≡_}
 use mathlib.Core.Bool.{true, not}
@@ -54,10 +55,11 @@ pub record WritesField (r : Record) (l : List ℤ) (t s : List ℕ) (answer : Wr
   pub leaves : exit ≡ leftOf r l t s
 
 -- "The reader and the writer take every input there is, of every length, damaged or not, and end. Nobody has to test a line before handing
--- it in." That a call ends, and asks for nothing, is the checker's: no public function has a `requires`, and each is proved to return. They
--- are wide::read, bytes::read, writer::write and byte_writer::write of lines, reading::read, reading::text and writing::write of fields. A
--- reader's promise is an equation with a definition that answers every input, and a writer's allows one answer and one buffer.
--- That a line is done within the calls that document 01 counts is said of any answer to a run
+-- it in." That a call asks for nothing and returns is no claim here: the checker holds every function to it, and no public one has a
+-- `requires`. They are wide::read, bytes::read, writer::write and byte_writer::write of lines, and reading::read, reading::text and
+-- writing::write of fields. A reader's promise is an equation with a definition that answers every input; a writer's allows one answer and
+-- one buffer at exit (words, bytes, fields). Every outcome but the end goes on (onward), and a line of n words is done within (n + 1) / 2
+-- rounded down, plus one, calls (enough)
 pub record TakeEveryInputAndEnd : Type 0 where
   pub words : (line : List ℕ) (place : ℕ) (r : Report) → AllowsOne (Writes signMagnitude line place r)
   pub bytes : (bytes : List ℕ) (place : ℕ) (r : Report) → AllowsOne (WritesBytes signMagnitude bytes place r)
@@ -70,7 +72,7 @@ abbrev pub OnlyIdleLeft : List ℕ → ℕ → Type 0
 OnlyIdleLeft line place = (length line ≤ most) × (place ≤ length line) × (drop place line ≡ replicate (length line - place) idle)
 
 -- "What can't be accepted gets one numbered refusal": a place has a report, a refusal or the end, and the end is told exactly where only
--- idle words are left, so nothing else is passed over; a number names one refusal, and 0 names none
+-- idle words are left, so no word is passed over without a name; a number names one refusal, and 0 names none
 pub record OneNumberedRefusal : Type 0 where
   pub end : (line : List ℕ) (place : ℕ) → (readAt signMagnitude line place .what ≡ W.End) ↔ OnlyIdleLeft line place
   pub line-numbers : refusals.LineNumbersDiffer
@@ -93,27 +95,32 @@ pub record GivenExactly : Type 0 where
   pub writing-words : lines.WriterRefuses
   pub writing-bytes : lines.ByteWriterRefuses
   pub reading-fields : fields.RefusedExactly
-  pub writing-fields : (r : Record) (l : List ℤ) (t s : List ℕ) (q : FieldRefusal) → (writtenOf r l t s ≡ F.Refused q) ↔ fields.Given q (writerTests r l t s)
+  pub writing-fields : (r : Record) (l : List ℤ) (t s : List ℕ) (q : FieldRefusal)
+      → (writtenOf r l t s ≡ F.Refused q) ↔ fields.Given q (writerTests r l t s)
 
 -- "and a refusal leaves the lent buffers untouched": those lent to a writer, by its promise. Those lent to a reader are lent for reading
 -- alone (`&[T]`), which the language holds it to
 pub record LeavesUntouched : Type 0 where
-  pub words : (line : List ℕ) (place : ℕ) (r : Report) (q : LineRefusal) (p : ℕ) (exit : List ℕ) → Writes signMagnitude line place r (P.Refused q p) exit → exit ≡ line
-  pub bytes : (bytes : List ℕ) (place : ℕ) (r : Report) (q : LineRefusal) (p : ℕ) (exit : List ℕ) → WritesBytes signMagnitude bytes place r (P.Refused q p) exit → exit ≡ bytes
-  pub fields : (r : Record) (l : List ℤ) (t s : List ℕ) (q : FieldRefusal) (exit : List ℕ) → WritesField r l t s (F.Refused q) exit → exit ≡ s
+  pub words : (line : List ℕ) (place : ℕ) (r : Report) (q : LineRefusal) (p : ℕ) (exit : List ℕ)
+      → Writes signMagnitude line place r (P.Refused q p) exit → exit ≡ line
+  pub bytes : (bytes : List ℕ) (place : ℕ) (r : Report) (q : LineRefusal) (p : ℕ) (exit : List ℕ)
+      → WritesBytes signMagnitude bytes place r (P.Refused q p) exit → exit ≡ bytes
+  pub fields : (r : Record) (l : List ℤ) (t s : List ℕ) (q : FieldRefusal) (exit : List ℕ)
+      → WritesField r l t s (F.Refused q) exit → exit ≡ s
 
 -- ---- demand 2
 
 -- "Reports and link data fields mean what FAA-RD-80-14, with its errata and the readings written in document 01, says they mean." What they
 -- mean is defined twice, by bit numbers as the tables print it and by the widths of what is written, and the two are one: a run is read as a
 -- report exactly when its words are the report's, and a field as a record exactly when its bytes are the record's. The weights of counts are
--- the printed ones, and the worked cases hold
+-- the printed ones, what is exact is one float, and the worked cases hold
 pub record MeanWhatIsPrinted : Type 0 where
   pub runs : reports.Demand2
   pub form : reports.DocumentForm
   pub layouts : words.LaidOut
   pub fields : fields.FieldsMean
   pub weights : measures.WeightsAsPrinted
+  pub exact : measures.ExactIsOne
   pub twelve : Twelve
 
 -- a field's bytes, count and direction are those of a record, a list and a text that the writer takes
@@ -148,12 +155,16 @@ pub record WrittenAgain : Type 0 where
 pub record ReadAgain : Type 0 where
   pub runs : reports.ReadBack
   pub runs-taken : reports.TakesWhatFits
-  pub on-a-line : (line : List ℕ) (place : ℕ) (r : Report) (next : ℕ) (exit : List ℕ) → Writes signMagnitude line place r (P.Next next) exit
+  pub on-a-line : (line : List ℕ) (place : ℕ) (r : Report) (next : ℕ) (exit : List ℕ)
+      → Writes signMagnitude line place r (P.Next next) exit
       → readAt signMagnitude exit place ≡ outcomeOf (W.Accepted r) place (next - 1) place
-  pub in-bytes : (bytes : List ℕ) (place : ℕ) (r : Report) (next : ℕ) (exit : List ℕ) → WritesBytes signMagnitude bytes place r (P.Next next) exit
+  pub in-bytes : (bytes : List ℕ) (place : ℕ) (r : Report) (next : ℕ) (exit : List ℕ)
+      → WritesBytes signMagnitude bytes place r (P.Next next) exit
       → readBytes signMagnitude exit place ≡ outcomeOf (W.Accepted r) place (next - 1) place
-  pub fields : (r : Record) (l : List ℤ) (t b : List ℕ) (n : ℕ) (exit : List ℕ) → length l ≡ 30 → Bytes t → Bytes b → WritesField r l t b (F.Bits n) exit
-      → (readField (take ((n + 7) / 8) exit) n (wayIn r) ≡ record { answer = Accepted r; list = l }) × (textOf (take ((n + 7) / 8) exit) n (wayIn r) ≡ t)
+  pub fields : (r : Record) (l : List ℤ) (t b : List ℕ) (n : ℕ) (exit : List ℕ) → length l ≡ 30 → Bytes t → Bytes b
+      → WritesField r l t b (F.Bits n) exit
+      → (readField (take ((n + 7) / 8) exit) n (wayIn r) ≡ record { answer = Accepted r; list = l })
+      × (textOf (take ((n + 7) / 8) exit) n (wayIn r) ≡ t)
 
 -- ---- demand 3
 
@@ -177,7 +188,8 @@ reportsIn (o ∷ os) = among (o .what) (reportsIn os)
 pub record ReadingGivesTheList : Type 0 where
   pub outcomes-are : lines.ReadsBack
   pub reader : lines.DocumentReturns
-  pub list : (ss : List Spaced) (tail : ℕ) → AllFit signMagnitude ss → Apart ss → length (lineOf signMagnitude ss tail) ≤ most → reportsIn (outcomes (readRun signMagnitude) (lineOf signMagnitude ss tail)) ≡ reportsOf ss
+  pub list : (ss : List Spaced) (tail : ℕ) → AllFit signMagnitude ss → Apart ss → length (lineOf signMagnitude ss tail) ≤ most
+      → reportsIn (outcomes (readRun signMagnitude) (lineOf signMagnitude ss tail)) ≡ reportsOf ss
 
 -- "On any line of that length or less, read from its start, each unbroken stretch of non-idle words gets exactly one outcome, in order: the
 -- one those words get alone, places moved along": of the stretches, and what they are
