@@ -22,10 +22,11 @@ use Rattle.lines.proofs.Refused as refused
 use Rattle.lines.proofs.Outcomes as outcomes
 use Rattle.lines.proofs.Stretched.{runs-are}
 use Rattle.lines.proofs.Parts as parts
+use Rattle.lines.proofs.Totals as totals
 use Rattle.lines.proofs.Back as lists
 use Rattle.lines.proofs.Written as written
 use Rattle.fields.proofs.Claims as fields
-use Rattle.claims.specs.Demands.{TakeEveryInputAndEnd, OneNumberedRefusal, GivenExactly, LeavesUntouched, MeanWhatIsPrinted, AcceptedExactly, WrittenAgain, ReadAgain, EqualLinesEqualLists, ReadingGivesTheList, OneOutcomeEach, reportsIn, Demands}
+use Rattle.claims.specs.Demands.{TakeEveryInputAndEnd, OneNumberedRefusal, NoSkipWithoutAName, GivenExactly, LeavesUntouched, MeanWhatIsPrinted, AcceptedExactly, WrittenAgain, ReadAgain, EqualLinesEqualLists, ReadingGivesTheList, OneOutcomeEach, reportsIn, Demands}
 use Rattle.claims.proofs.Twelve.{twelve}
 use Rattle.claims.proofs.Places.{end-exactly, report-words, read-written, read-written-bytes}
 use Rattle.claims.proofs.Fields.{writing-refuses, has-layout, again, read-left}
@@ -49,6 +50,9 @@ one-refusal = record {
   apart = refusals.numbers-apart;
   none-is-0 = refusals.no-number-is-zero;
 }
+
+no-skip : NoSkipWithoutAName
+no-skip = record { words-add = totals.totals-add; words-counted = totals.totals-counted }
 
 given-exactly : GivenExactly
 given-exactly = record {
@@ -133,6 +137,7 @@ pub demands : Demands
 demands = record {
   take-every-input = take-every-input;
   one-refusal = one-refusal;
+  no-skip = no-skip;
   given-exactly = given-exactly;
   untouched = untouched;
   meaning = meaning;

@@ -80,6 +80,12 @@ pub record OneNumberedRefusal : Type 0 where
   pub apart : refusals.NumbersApart
   pub none-is-0 : refusals.NoNumberIsZero
 
+-- "A skip without a name is the fault I want designed out": every word of a line is idle, in a report or in a refused run, and the words of
+-- the outcomes, as a line is read, are all of those that are not idle
+pub record NoSkipWithoutAName : Type 0 where
+  pub words-add : lines.TotalsAdd
+  pub words-counted : lines.TotalsCounted
+
 -- the writer of fields, as the document's table has it: 30, then 31
 abbrev pub writerTests : Record → List ℤ → List ℕ → List ℕ → List Test
 writerTests r l t s =
@@ -206,6 +212,7 @@ OutsideStays = lines.Replaced
 pub record Demands : Type 0 where
   pub take-every-input : TakeEveryInputAndEnd
   pub one-refusal : OneNumberedRefusal
+  pub no-skip : NoSkipWithoutAName
   pub given-exactly : GivenExactly
   pub untouched : LeavesUntouched
   pub meaning : MeanWhatIsPrinted

@@ -92,7 +92,30 @@ c1 = 868 ∷ 1281 ∷ 2048 ∷ 647 ∷ []
 abbrev c2 : ℕ → ℕ → List ℕ
 c2 beginning ending = beginning ∷ 1281 ∷ 256 ∷ 7 ∷ 5175 ∷ 1414 ∷ ending ∷ []
 
--- a DABS report of C2's range, azimuth, time and address, FAA and primary, with nothing else set but its height
+-- what is answered of a line that is one run of n words: that, of the run from place 0 on, whose first word is named; and then the end
+abbrev one : ℕ → Said → Told
+one n said = calls (call said 0 n 0 ∷ call end n n n ∷ [])
+
+-- 40 nmi, a quarter of the circle, three counts of 1/8 s
+abbrev values : Counted
+values = counts (40 * 1024) (90 * 1024) (3 * 1024 / 8)
+
+-- FAA, and C1's range, azimuth, run length and time; nothing else is set
+abbrev search : Report
+search =
+    R.Search (record {
+      test = false;
+      faa = true;
+      af = false;
+      range = record { 0 = 320 };
+      azimuth = record { 0 = 1024 };
+      aims = false;
+      code = 0;
+      run = record { 0 = 5 };
+      time = record { 0 = 3 };
+    })
+
+-- primary, FAA, and C2's range, azimuth, time and address; nothing else is set but the height
 abbrev dabs : Height → Report
 dabs h =
     R.Dabs (record {
@@ -112,10 +135,6 @@ dabs h =
       height = h;
     })
 
--- 40 nmi, a quarter of the circle, three counts of 1/8 s
-abbrev values : Counted
-values = counts (40 * 1024) (90 * 1024) (3 * 1024 / 8)
-
 abbrev zeros : ℕ → List ℤ
 zeros n = replicate n (pos 0)
 
@@ -125,48 +144,32 @@ row g t = record { given = g; told = t }
 abbrev pub table : List Row
 table =
     -- C1 868 1281 2048 647: Search, FAA, 40 nmi, azimuth 1024, run length 5, time 3
-    row (line c1)
-    (calls
-    (call
-    (report Search
-    (R.Search (record {
-      test = false;
-      faa = true;
-      af = false;
-      range = record { 0 = 320 };
-      azimuth = record { 0 = 1024 };
-      aims = false;
-      code = 0;
-      run = record { 0 = 5 };
-      time = record { 0 = 3 };
-    }))
-    values)
-    0 4 0
-    ∷ call end 4 4 4
-    ∷ []))
+    row (line c1) (one 4 (report Search search values))
     -- C2 3973 1281 256 7 5175 1414 4102: DABS, primary, A1B2C3 hex, 40 nmi, azimuth 2048, time 3, -300 ft
-    ∷ row (line (c2 3973 4102)) (calls (call (report Dabs (dabs (Altitude (negℤ (pos 3)))) values) 0 7 0 ∷ call end 7 7 7 ∷ []))
+    ∷ row (line (c2 3973 4102)) (one 7 (report Dabs (dabs (Altitude (negℤ (pos 3)))) values))
     -- C3 C2 ending 4096: 9
-    ∷ row (line (c2 3973 4096)) (calls (call (refused 9) 0 7 0 ∷ call end 7 7 7 ∷ []))
+    ∷ row (line (c2 3973 4096)) (one 7 (refused 9))
     -- C4 C2 beginning 3974, ending 4: 7; ending 8: DABS-CD
-    ∷ row (line (c2 3974 4)) (calls (call (refused 7) 0 7 0 ∷ call end 7 7 7 ∷ []))
-    ∷ row (line (c2 3974 8)) (calls (call (report DabsCd (dabs (Cd true (record { 0 = 0 }))) values) 0 7 0 ∷ call end 7 7 7 ∷ []))
+    ∷ row (line (c2 3974 4)) (one 7 (refused 7))
+    ∷ row (line (c2 3974 8)) (one 7 (report DabsCd (dabs (Cd true (record { 0 = 0 }))) values))
     -- C5 C1 twice, no idle: 6
-    ∷ row (line (c1 ++ c1)) (calls (call (refused 6) 0 8 0 ∷ call end 8 8 8 ∷ []))
+    ∷ row (line (c1 ++ c1)) (one 8 (refused 6))
     -- C6 0: 4
-    ∷ row (line (0 ∷ [])) (calls (call (refused 4) 0 1 0 ∷ call end 1 1 1 ∷ []))
+    ∷ row (line (0 ∷ [])) (one 1 (refused 4))
     -- C7 8192: 3
-    ∷ row (line (8192 ∷ [])) (calls (call (refused 3) 0 1 0 ∷ call end 1 1 1 ∷ []))
+    ∷ row (line (8192 ∷ [])) (one 1 (refused 3))
     -- C8 1024: 5
-    ∷ row (line (1024 ∷ [])) (calls (call (refused 5) 0 1 0 ∷ call end 1 1 1 ∷ []))
+    ∷ row (line (1024 ∷ [])) (one 1 (refused 5))
     -- C9 577: 5
-    ∷ row (line (577 ∷ [])) (calls (call (refused 5) 0 1 0 ∷ call end 1 1 1 ∷ []))
+    ∷ row (line (577 ∷ [])) (one 1 (refused 5))
     -- C10 bytes 9B 01 12 83, 32 bits, to the sensor: +12, -3
-    ∷ row (field (0x9B ∷ 0x01 ∷ 0x12 ∷ 0x83 ∷ []) 32 ToSensor) (message (Single (AltimeterCorrection 1)) (pos 12 ∷ negℤ (pos 3) ∷ zeros 28) [])
+    ∷ row (field (0x9B ∷ 0x01 ∷ 0x12 ∷ 0x83 ∷ []) 32 ToSensor)
+    (message (Single (AltimeterCorrection 1)) (pos 12 ∷ negℤ (pos 3) ∷ zeros 28) [])
     -- C11 the same with 80 last: 28
     ∷ row (field (0x9B ∷ 0x01 ∷ 0x12 ∷ 0x80 ∷ []) 32 ToSensor) (refusal 28 (zeros 30) [])
-    -- C12 21 A1 B2 C3 5B and seven zeros, 96 bits: number 5, urgent, EXP 3 (21 travels to the sensor)
-    ∷ row (field (0x21 ∷ 0xA1 ∷ 0xB2 ∷ 0xC3 ∷ 0x5B ∷ replicate 7 0x00) 96 ToSensor) (message (Single (TacticalUplink 0xA1B2C3 5 1 3 0)) (zeros 30) [])
+    -- C12 21 A1 B2 C3 5B and seven zeros, 96 bits: number 5, urgent, EXP 3 (21 travels to the sensor; its text is zero)
+    ∷ row (field (0x21 ∷ 0xA1 ∷ 0xB2 ∷ 0xC3 ∷ 0x5B ∷ replicate 7 0x00) 96 ToSensor)
+    (message (Single (TacticalUplink 0xA1B2C3 5 1 3 0)) (zeros 30) [])
     ∷ []
 
 -- ---- the claim
