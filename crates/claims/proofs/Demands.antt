@@ -28,6 +28,7 @@ use Rattle.lines.proofs.Written as written
 use Rattle.fields.proofs.Claims as fields
 use Rattle.claims.specs.Demands.{TakeEveryInputAndEnd, OneNumberedRefusal, NoSkipWithoutAName, GivenExactly, LeavesUntouched, MeanWhatIsPrinted, AcceptedExactly, WrittenAgain, ReadAgain, EqualLinesEqualLists, ReadingGivesTheList, OneOutcomeEach, reportsIn, Demands}
 use Rattle.claims.proofs.Twelve.{twelve}
+use Rattle.claims.proofs.Printed.{as-printed}
 use Rattle.claims.proofs.Places.{end-exactly, report-words, read-written, read-written-bytes}
 use Rattle.claims.proofs.Fields.{writing-refuses, has-layout, again, read-left}
 
@@ -81,6 +82,7 @@ meaning = record {
   form = reports.document-form;
   layouts = words.laid-out;
   fields = fields.fields-mean;
+  fields-by-bits = as-printed;
   weights = measures.weights-as-printed;
   exact = measures.exact-is-one;
   twelve = twelve;

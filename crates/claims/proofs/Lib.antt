@@ -1,4 +1,5 @@
 pub mod Twelve
+pub mod Printed
 pub mod Places
 pub mod Anywhere
 pub mod Fields

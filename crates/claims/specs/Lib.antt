@@ -1,2 +1,3 @@
 pub mod Twelve
+pub mod Fields
 pub mod Demands
