@@ -10,7 +10,7 @@ use Rattle.fields.specs.declared.Field.{Field}
 use Rattle.fields.specs.Table.{table, rows, rowAt, placeFrom, placeOf, byPlace, widths, widthsAt, valuesOf, countIn, sizeIn}
 use Rattle.fields.specs.Records.{fieldOf, fieldAt}
 use Rattle.fields.specs.Reading.{valuesAt, typeOf}
-use Rattle.claims.specs.Fields.{Row, printed, AllMeant, AsPrinted}
+use Rattle.claims.specs.Printed.{Row, printed, AllMeant, AsPrinted}
 
 -- what the table says of a field of a type
 record Made : Type 0 where

@@ -42,7 +42,7 @@ use Rattle.fields.specs.declared.Written.the-variants as F
 use Rattle.fields.specs.Reading.{Test, answerOf, readField, textOf}
 use Rattle.fields.specs.Writing.{takes, bitsIn, wayIn, bytesIn, writtenOf, leftOf}
 use Rattle.claims.specs.Twelve.{Twelve}
-use Rattle.claims.specs.Fields.{AsPrinted}
+use Rattle.claims.specs.Printed.{AsPrinted}
 
 -- ---- demand 1
 
@@ -119,9 +119,9 @@ pub record LeavesUntouched : Type 0 where
 
 -- "Reports and link data fields mean what FAA-RD-80-14, with its errata and the readings written in document 01, says they mean." What they
 -- mean is defined twice, by bit numbers as the tables print it and by the widths of what is written, and the two are one: a run is read as a
--- report exactly when its words are the report's, and a field as a record exactly when its bytes are the record's. What a field's bits are
--- called is held against document 01's own bit numbers (Fields.antt; those of reports are in reports/specs/Records.antt). The weights of counts are
--- the printed ones, what is exact is one float, and the worked cases hold
+-- report exactly when its words are the report's, and a field as a record exactly when its bytes are the record's. The bit numbers of reports
+-- stand in reports/specs/Records.antt, those of fields in Printed.antt. The weights of counts are the printed ones, what is exact is one
+-- float, and the worked cases hold
 pub record MeanWhatIsPrinted : Type 0 where
   pub runs : reports.Demand2
   pub form : reports.DocumentForm

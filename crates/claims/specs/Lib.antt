@@ -1,3 +1,3 @@
 pub mod Twelve
-pub mod Fields
+pub mod Printed
 pub mod Demands
