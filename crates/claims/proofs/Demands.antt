@@ -10,6 +10,9 @@ use Rattle.reports.specs.declared.Report.{Report}
 use Rattle.reports.specs.Altitude.{signMagnitude}
 use Rattle.reports.specs.Layouts.{wordsOf}
 use Rattle.reports.specs.Runs.{readRun}
+use Rattle.reports.specs.Values.{Counted, counts, none, Yields}
+use Rattle.reports.specs.declared.values.Values.{Values}
+use Rattle.reports.specs.declared.values.Values.the-variants as Y
 use Rattle.reports.proofs.Claims as reports
 use Rattle.reports.proofs.Demand2 as demand2
 use Rattle.reports.proofs.Refusals as runs
@@ -26,7 +29,7 @@ use Rattle.lines.proofs.Totals as totals
 use Rattle.lines.proofs.Back as lists
 use Rattle.lines.proofs.Written as written
 use Rattle.fields.proofs.Claims as fields
-use Rattle.claims.specs.Demands.{TakeEveryInputAndEnd, OneNumberedRefusal, NoSkipWithoutAName, GivenExactly, LeavesUntouched, MeanWhatIsPrinted, AcceptedExactly, WrittenAgain, ReadAgain, EqualLinesEqualLists, ReadingGivesTheList, OneOutcomeEach, reportsIn, Demands}
+use Rattle.claims.specs.Demands.{TakeEveryInputAndEnd, OneNumberedRefusal, NoSkipWithoutAName, GivenExactly, LeavesUntouched, MeanWhatIsPrinted, AcceptedExactly, WrittenAgain, ReadAgain, EqualLinesEqualLists, ReadingGivesTheList, OneOutcomeEach, Doubles, reportsIn, Demands}
 use Rattle.claims.proofs.Twelve.{twelve}
 use Rattle.claims.proofs.Printed.{as-printed}
 use Rattle.claims.proofs.Places.{end-exactly, report-words, read-written, read-written-bytes}
@@ -76,6 +79,19 @@ untouched = record {
 
 -- ---- demand 2
 
+one-value : (c : Counted) (x y : Values) → Doubles x → Doubles y → Yields c x → Yields c y → x ≡ y
+one-value (counts r a t) (Y.Measured m) (Y.Measured n) d e p q =
+    λ i. Y.Measured (record {
+      range = measures.exact-is-one r (m .range) (n .range) (d .0) (e .0) (p .range) (q .range) i;
+      azimuth = measures.exact-is-one a (m .azimuth) (n .azimuth) (d .1) (e .1) (p .azimuth) (q .azimuth) i;
+      time = measures.exact-is-one t (m .time) (n .time) (d .2) (e .2) (p .time) (q .time) i;
+    })
+one-value (counts r a t) (Y.Measured m) Y.Nothing d e p q = absurd q
+one-value (counts r a t) Y.Nothing y d e p q = absurd p
+one-value none (Y.Measured m) y d e p q = absurd p
+one-value none Y.Nothing (Y.Measured n) d e p q = absurd q
+one-value none Y.Nothing Y.Nothing d e p q = refl
+
 meaning : MeanWhatIsPrinted
 meaning = record {
   runs = demand2.demand-2;
@@ -84,7 +100,7 @@ meaning = record {
   fields = fields.fields-mean;
   fields-by-bits = as-printed;
   weights = measures.weights-as-printed;
-  exact = measures.exact-is-one;
+  values = one-value;
   twelve = twelve;
 }
 

@@ -7,7 +7,8 @@ use mathlib.Core.Path.{_≡_}
 use mathlib.Core.Bool.{true, not}
 use mathlib.Core.List.{List, [], _∷_, _++_}
 use mathlib.Core.Logic.{_↔_}
-use lib.Dec.{ltb}
+use lib.Dec.{T, ltb}
+use lib.Ieee.{binary64, fits}
 use lib.IntN.{ℤ}
 use lib.ListN.{length, take, drop, replicate}
 use Rattle.refusals.specs.Claims as refusals
@@ -23,6 +24,9 @@ use Rattle.reports.specs.declared.Report.{Report}
 use Rattle.reports.specs.Altitude.{signMagnitude}
 use Rattle.reports.specs.Layouts.{wordsOf}
 use Rattle.reports.specs.Runs.{readRun}
+use Rattle.reports.specs.Values.{Counted, Yields}
+use Rattle.reports.specs.declared.values.Values.{Values}
+use Rattle.reports.specs.declared.values.Values.the-variants as Y
 use Rattle.lines.specs.Claims as lines
 use Rattle.lines.specs.declared.What.{What}
 use Rattle.lines.specs.declared.What.the-variants as W
@@ -117,11 +121,16 @@ pub record LeavesUntouched : Type 0 where
 
 -- ---- demand 2
 
+-- the floats of a report's values are doubles, as `f64` has them
+abbrev pub Doubles : Values → Type 0
+Doubles (Y.Measured m) = T (fits binary64 (m .range)) × T (fits binary64 (m .azimuth)) × T (fits binary64 (m .time))
+Doubles Y.Nothing = Unit {0}
+
 -- "Reports and link data fields mean what FAA-RD-80-14, with its errata and the readings written in document 01, says they mean." What they
 -- mean is defined twice, by bit numbers as the tables print it and by the widths of what is written, and the two are one: a run is read as a
 -- report exactly when its words are the report's, and a field as a record exactly when its bytes are the record's. The bit numbers of reports
--- stand in reports/specs/Records.antt, those of fields in Printed.antt. The weights of counts are the printed ones, what is exact is one
--- float, and the worked cases hold
+-- stand in reports/specs/Records.antt, those of fields in Printed.antt. The weights of counts are the printed ones, a report's counts
+-- have one range, azimuth and time in doubles, and the worked cases hold
 pub record MeanWhatIsPrinted : Type 0 where
   pub runs : reports.Demand2
   pub form : reports.DocumentForm
@@ -129,7 +138,7 @@ pub record MeanWhatIsPrinted : Type 0 where
   pub fields : fields.FieldsMean
   pub fields-by-bits : AsPrinted
   pub weights : measures.WeightsAsPrinted
-  pub exact : measures.ExactIsOne
+  pub values : (c : Counted) (x y : Values) → Doubles x → Doubles y → Yields c x → Yields c y → x ≡ y
   pub twelve : Twelve
 
 -- a field's bytes, count and direction are those of a record, a list and a text that the writer takes

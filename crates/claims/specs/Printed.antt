@@ -1,6 +1,7 @@
 -- What a link data field's bits mean, by document 01's own bit numbers ("Link data fields"): a row for each type but the relay, held against
--- what the table of types, which goes by widths, says of its way, its length and its record. Bits that no part of the record has are zero in
--- every field that is accepted (FieldsMean of fields). Definitions only; proofs/Printed.antt proves the claim at the end by computing it.
+-- what the table of types, which goes by widths, says of its way, its length and its record. Bits that are in no part of the record, of the
+-- list and of the text are zero in every field that is accepted (FieldsMean of fields). Definitions only; proofs/Printed.antt proves the
+-- claim at the end by computing it.
 use Prim.Native.Nat.{ℕ, _+_, _*_}
 use mathlib.Core.Path.{_≡_}
 use mathlib.Core.List.{List, [], _∷_}
