@@ -31,7 +31,7 @@ use Rattle.lines.proofs.Written as written
 use Rattle.fields.proofs.Claims as fields
 use Rattle.claims.specs.Demands.{TakeEveryInputAndEnd, OneNumberedRefusal, NoSkipWithoutAName, GivenExactly, LeavesUntouched, MeanWhatIsPrinted, AcceptedExactly, WrittenAgain, ReadAgain, EqualLinesEqualLists, ReadingGivesTheList, OneOutcomeEach, Doubles, reportsIn, Demands}
 use Rattle.claims.proofs.Twelve.{twelve}
-use Rattle.claims.proofs.Printed.{as-printed}
+use Rattle.claims.proofs.Printed.{as-printed, entries-as-printed}
 use Rattle.claims.proofs.Places.{end-exactly, report-words, read-written, read-written-bytes}
 use Rattle.claims.proofs.Fields.{writing-refuses, has-layout, again, read-left}
 
@@ -99,6 +99,7 @@ meaning = record {
   layouts = words.laid-out;
   fields = fields.fields-mean;
   fields-by-bits = as-printed;
+  lists-by-bits = entries-as-printed;
   weights = measures.weights-as-printed;
   values = one-value;
   twelve = twelve;

@@ -46,7 +46,7 @@ use Rattle.fields.specs.declared.Written.the-variants as F
 use Rattle.fields.specs.Reading.{Test, answerOf, readField, textOf}
 use Rattle.fields.specs.Writing.{takes, bitsIn, wayIn, bytesIn, writtenOf, leftOf}
 use Rattle.claims.specs.Twelve.{Twelve}
-use Rattle.claims.specs.Printed.{AsPrinted}
+use Rattle.claims.specs.Printed.{AsPrinted, EntriesAsPrinted}
 
 -- ---- demand 1
 
@@ -137,6 +137,7 @@ pub record MeanWhatIsPrinted : Type 0 where
   pub layouts : words.LaidOut
   pub fields : fields.FieldsMean
   pub fields-by-bits : AsPrinted
+  pub lists-by-bits : (s : List ℕ) (k : ℕ) → EntriesAsPrinted s k
   pub weights : measures.WeightsAsPrinted
   pub values : (c : Counted) (x y : Values) → Doubles x → Doubles y → Yields c x → Yields c y → x ≡ y
   pub twelve : Twelve

@@ -2,16 +2,19 @@
 -- what the table of types, which goes by widths, says of its way, its length and its record. Bits that are in no part of the record, of the
 -- list and of the text are zero in every field that is accepted (FieldsMean of fields). Definitions only; proofs/Printed.antt proves the
 -- claim at the end by computing it.
-use Prim.Native.Nat.{ℕ, _+_, _*_}
+use Prim.Native.Nat.{ℕ, _+_, _*_, _<_}
 use mathlib.Core.Path.{_≡_}
 use mathlib.Core.List.{List, [], _∷_}
+use lib.IntN.{pos}
+use lib.ListN.{getD}
 use Rattle.bits.specs.Bits.{bits}
 use Rattle.fields.specs.declared.Direction.{Direction}
 use Rattle.fields.specs.declared.Direction.the-variants.{ToSensor, FromSensor}
 use Rattle.fields.specs.declared.Field.{Field}
 use Rattle.fields.specs.declared.Field.the-variants.{TacticalUplink, ElmUplink, DownlinkRequest, IdRequest, CapabilityRequest, Cancellation, Test, AltimeterCorrection, AtcFailure, SensorFailure, DabsControlState, AtcrbsControlState, RejectionNotice, DeliveryNotice, TacticalDownlink, ElmDownlink, Utility, Capability, IdCode, TestResponse, ControllerAlert}
 use Rattle.fields.specs.Table.{placeOf, byPlace, rowAt, sizeIn}
-use Rattle.fields.specs.Reading.{typeOf, valuesAt, recordIn}
+use Rattle.fields.specs.Lists.{blockOf}
+use Rattle.fields.specs.Reading.{typeOf, valuesAt, recordIn, listIn}
 
 -- a type, the way it travels, how many bits a field of it has, and its record
 pub record Row : Type 0 where
@@ -90,3 +93,10 @@ AllMeant s before (x ∷ rows) =
 -- a field alone, and one inside a relay, behind its type and sensor
 abbrev pub AsPrinted : Type 0
 AsPrinted = (s : List ℕ) → AllMeant s 0 (printed (λ a b. bits s a b)) × AllMeant s 16 (printed (λ a b. bits s (16 + a) (16 + b)))
+
+-- the list beside the record, entry k of it counted from 0: an altimeter block has 8 bits, an address or an identifier 24, and the first
+-- stands at bit 17. (No type that is relayed has a list.)
+pub record EntriesAsPrinted (s : List ℕ) (k : ℕ) : Type 0 where
+  pub blocks : typeOf s 0 ≡ 0x9B → k < 1 + bits s 13 16 → getD (listIn s) k (pos 0) ≡ blockOf (bits s (17 + 8 * k) (24 + 8 * k))
+  pub addresses : typeOf s 0 ≡ 0x9A → k < bits s 9 11 + bits s 12 14 + bits s 15 16 → getD (listIn s) k (pos 0) ≡ pos (bits s (17 + 24 * k) (40 + 24 * k))
+  pub identifiers : typeOf s 0 ≡ 0x96 → k < bits s 9 12 + bits s 13 16 → getD (listIn s) k (pos 0) ≡ pos (bits s (17 + 24 * k) (40 + 24 * k))
