@@ -28,19 +28,34 @@ use Rattle.claims.specs.Demands.{WritesField, writerTests, HasFieldLayou
 
 -- ---- 30 and 31
 
-pub writing-refuses : (r : Record) (l : List ℤ) (t s : List ℕ) (q : FieldRefusal) → (writtenOf r l t s ≡ F.Refused q) ↔ Given q (writerTests r l t s)
+differ : true ≡ false → ⊥
+differ e = let z : _≡_ {A = ℕ} 0 1 = cc in omega arith
+
+same-refusal : {p q : FieldRefusal} → F.Refused p ≡ F.Refused q → p ≡ q
+same-refusal e = cc
+
+pub writing-refuses : (r : Record) (l : List ℤ) (t s : List ℕ) (q : FieldRefusal)
+    → (writtenOf r l t s ≡ F.Refused q) ↔ Given q (writerTests r l t s)
 writing-refuses r l t s q = go (takes r l t) (ltb (length s) ((bitsIn r + 7) / 8)) refl refl
   where
-    go : (a b : Bool) → takes r l t ≡ a → ltb (length s) ((bitsIn r + 7) / 8) ≡ b → (writtenOf r l t s ≡ F.Refused q) ↔ Given q (writerTests r l t s)
+    go : (a b : Bool) → takes r l t ≡ a → ltb (length s) ((bitsIn r + 7) / 8) ≡ b
+        → (writtenOf r l t s ≡ F.Refused q) ↔ Given q (writerTests r l t s)
     go false b e h =
         let w = not-writable-exactly r l t s .1 e in
-        rw e (λ k. inl (refl, (let j : F.Refused NotWritable ≡ F.Refused q = sym w ∙ k in cc)), ⊎-elim (λ k. w ∙ ap F.Refused (k .1)) (λ k. absurd (let j = k .0 in let z : _≡_ {A = ℕ} 0 1 = cc in omega arith)))
+        rw e (λ k. inl (refl, same-refusal (sym w ∙ k)), ⊎-elim (λ k. w ∙ ap F.Refused (k .1)) (λ k. absurd (differ (k .0))))
     go true true e h =
         let w = no-room-exactly r l t s .1 (e, ltb-true _ _ h) in
-        rw (e, h) (λ k. inr (refl, inl (refl, (let j : F.Refused NoRoom ≡ F.Refused q = sym w ∙ k in cc))), ⊎-elim (λ k. absurd (let j = k .0 in let z : _≡_ {A = ℕ} 0 1 = cc in omega arith)) (λ k. ⊎-elim (λ i. w ∙ ap F.Refused (i .1)) (λ i. absurd (i .1)) (k .1)))
+        rw (e, h) (
+          λ k. inr (refl, inl (refl, same-refusal (sym w ∙ k))),
+          ⊎-elim (λ k. absurd (differ (sym (k .0)))) (λ k. ⊎-elim (λ i. w ∙ ap F.Refused (i .1)) (λ i. absurd (i .1)) (k .1)),
+        )
     go true false e h =
-        let w = written-exactly r l t s e (let m : (bitsIn r + 7) / 8 ≤ length s = ltb-false _ _ h in omega arith) in
-        rw (e, h) (λ k. absurd (let j = sym w ∙ k in let z : _≡_ {A = ℕ} 0 1 = cc in omega arith), ⊎-elim (λ k. absurd (let j = k .0 in let z : _≡_ {A = ℕ} 0 1 = cc in omega arith)) (λ k. ⊎-elim (λ i. absurd (let j = i .0 in let z : _≡_ {A = ℕ} 0 1 = cc in omega arith)) (λ i. absurd (i .1)) (k .1)))
+        let m : (bitsIn r + 7) / 8 ≤ length s = ltb-false _ _ h in
+        let w = written-exactly r l t s e (omega arith) in
+        rw (e, h) (
+          λ k. absurd (let z : _≡_ {A = ℕ} 0 1 = cc in omega arith),
+          ⊎-elim (λ k. absurd (differ (sym (k .0)))) (λ k. ⊎-elim (λ i. absurd (differ (sym (i .0)))) (λ i. absurd (i .1)) (k .1)),
+        )
 
 -- ---- layouts
 

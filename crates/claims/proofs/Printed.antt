@@ -1,4 +1,5 @@
--- Every type's record by document 01's bit numbers is the one that the table of types makes, computed over all rows at once. Assumes nothing.
+-- Every type's way, length and record by document 01's bit numbers are those that the table of types makes, computed over all rows at once; and
+-- the entries of a list stand where the document has them. Assumes nothing.
 use Prim.Native.Nat.{ℕ, zero, suc, _+_, _-_, _*_, _<_}
 use native.Mathlib.Nat.{add-zero, zero-add, mul-zero, mul-suc}
 use native.Mathlib.Omega.{arith}

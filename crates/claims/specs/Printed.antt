@@ -98,5 +98,6 @@ AsPrinted = (s : List ℕ) → AllMeant s 0 (printed (λ a b. bits s a b)) × Al
 -- stands at bit 17. (No type that is relayed has a list.)
 pub record EntriesAsPrinted (s : List ℕ) (k : ℕ) : Type 0 where
   pub blocks : typeOf s 0 ≡ 0x9B → k < 1 + bits s 13 16 → getD (listIn s) k (pos 0) ≡ blockOf (bits s (17 + 8 * k) (24 + 8 * k))
-  pub addresses : typeOf s 0 ≡ 0x9A → k < bits s 9 11 + bits s 12 14 + bits s 15 16 → getD (listIn s) k (pos 0) ≡ pos (bits s (17 + 24 * k) (40 + 24 * k))
+  pub addresses : typeOf s 0 ≡ 0x9A → k < bits s 9 11 + bits s 12 14 + bits s 15 16
+      → getD (listIn s) k (pos 0) ≡ pos (bits s (17 + 24 * k) (40 + 24 * k))
   pub identifiers : typeOf s 0 ≡ 0x96 → k < bits s 9 12 + bits s 13 16 → getD (listIn s) k (pos 0) ≡ pos (bits s (17 + 24 * k) (40 + 24 * k))
