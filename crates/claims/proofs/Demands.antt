@@ -1,0 +1,170 @@
+-- The demands, each sentence from the law below it. Assumes nothing.
+use Prim.Native.Nat.{ℕ, _+_}
+use mathlib.Core.Path.{_≡_, refl, sym, ap, _∙_}
+use mathlib.Core.List.{List, [], _∷_, _++_}
+use lib.ListN.{length}
+use Rattle.refusals.proofs.Claims as refusals
+use Rattle.words.proofs.Claims as words
+use Rattle.measures.proofs.Claims as measures
+use Rattle.reports.specs.declared.Report.{Report}
+use Rattle.reports.specs.Altitude.{signMagnitude}
+use Rattle.reports.specs.Layouts.{wordsOf}
+use Rattle.reports.specs.Runs.{readRun}
+use Rattle.reports.specs.Values.{Counted, counts, none, Yields}
+use Rattle.reports.specs.declared.values.Values.{Values}
+use Rattle.reports.specs.declared.values.Values.the-variants as Y
+use Rattle.reports.proofs.Claims as reports
+use Rattle.reports.proofs.Demand2 as demand2
+use Rattle.reports.proofs.Refusals as runs
+use Rattle.lines.specs.declared.Wrote.{Wrote}
+use Rattle.lines.specs.Line.{endOf}
+use Rattle.lines.specs.Spaced.{Spaced, lineOf, reportsOf, back}
+use Rattle.lines.specs.Writing.{leftBy}
+use Rattle.lines.specs.ByteWriting.{bytesLeft}
+use Rattle.lines.proofs.Refused as refused
+use Rattle.lines.proofs.Outcomes as outcomes
+use Rattle.lines.proofs.Stretched.{runs-are}
+use Rattle.lines.proofs.Parts as parts
+use Rattle.lines.proofs.Totals as totals
+use Rattle.lines.proofs.Back as lists
+use Rattle.lines.proofs.Written as written
+use Rattle.fields.proofs.Claims as fields
+use Rattle.claims.specs.Demands.{TakeEveryInputAndEnd, OneNumberedRefusal, NoSkipWithoutAName, GivenExactly, LeavesUntouched, MeanWhatIsPrinted, AcceptedExactly, WrittenAgain, ReadAgain, EqualLinesEqualLists, ReadingGivesTheList, OneOutcomeEach, Doubles, reportsIn, Demands}
+use Rattle.claims.proofs.Twelve.{twelve}
+use Rattle.claims.proofs.Printed.{as-printed, entries-as-printed}
+use Rattle.claims.proofs.Places.{end-exactly, report-words, read-written, read-written-bytes}
+use Rattle.claims.proofs.Fields.{writing-refuses, has-layout, again, read-left}
+
+-- ---- demand 1
+
+take-every-input : TakeEveryInputAndEnd
+take-every-input = record {
+  words = λ line place r. (_, _, record { answers = refl; leaves = refl }, λ b left w. (w .answers, w .leaves));
+  bytes = λ bytes place r. (_, _, record { answers = refl; leaves = refl }, λ b left w. (w .answers, w .leaves));
+  fields = λ r l t s. (_, _, record { answers = refl; leaves = refl }, λ b left w. (w .answers, w .leaves));
+  onward = outcomes.onward;
+  enough = outcomes.calls-enough;
+}
+
+one-refusal : OneNumberedRefusal
+one-refusal = record {
+  end = end-exactly;
+  line-numbers = refusals.line-numbers-differ;
+  field-numbers = refusals.field-numbers-differ;
+  apart = refusals.numbers-apart;
+  none-is-0 = refusals.no-number-is-zero;
+}
+
+no-skip : NoSkipWithoutAName
+no-skip = record { words-add = totals.totals-add; words-counted = totals.totals-counted }
+
+given-exactly : GivenExactly
+given-exactly = record {
+  reading-words = refused.reader-refuses;
+  reading-bytes = refused.byte-reader-refuses;
+  writing-words = refused.writer-refuses;
+  writing-bytes = refused.byte-writer-refuses;
+  reading-fields = fields.refused-exactly;
+  writing-fields = writing-refuses;
+}
+
+untouched : LeavesUntouched
+untouched = record {
+  words = λ line place r q p exit w.
+      w .leaves ∙ ap (λ (x : Wrote). leftBy x line place (wordsOf signMagnitude r)) (sym (w .answers));
+  bytes = λ bytes place r q p exit w.
+      w .leaves ∙ ap (λ (x : Wrote). bytesLeft x bytes place (wordsOf signMagnitude r)) (sym (w .answers));
+  fields = λ r l t s q exit w. w .leaves ∙ fields.refused-untouched r l t s q (sym (w .answers));
+}
+
+-- ---- demand 2
+
+one-value : (c : Counted) (x y : Values) → Doubles x → Doubles y → Yields c x → Yields c y → x ≡ y
+one-value (counts r a t) (Y.Measured m) (Y.Measured n) d e p q =
+    λ i. Y.Measured (record {
+      range = measures.exact-is-one r (m .range) (n .range) (d .0) (e .0) (p .range) (q .range) i;
+      azimuth = measures.exact-is-one a (m .azimuth) (n .azimuth) (d .1) (e .1) (p .azimuth) (q .azimuth) i;
+      time = measures.exact-is-one t (m .time) (n .time) (d .2) (e .2) (p .time) (q .time) i;
+    })
+one-value (counts r a t) (Y.Measured m) Y.Nothing d e p q = absurd q
+one-value (counts r a t) Y.Nothing y d e p q = absurd p
+one-value none (Y.Measured m) y d e p q = absurd p
+one-value none Y.Nothing (Y.Measured n) d e p q = absurd q
+one-value none Y.Nothing Y.Nothing d e p q = refl
+
+meaning : MeanWhatIsPrinted
+meaning = record {
+  runs = demand2.demand-2;
+  form = reports.document-form;
+  layouts = words.laid-out;
+  fields = fields.fields-mean;
+  fields-by-bits = as-printed;
+  lists-by-bits = entries-as-printed;
+  weights = measures.weights-as-printed;
+  values = one-value;
+  twelve = twelve;
+}
+
+accepted : AcceptedExactly
+accepted = record {
+  runs = runs.accepted-exactly;
+  runs-by-words = demand2.layout-is-words;
+  fields = fields.accepted-exactly;
+  fields-by-bytes = has-layout;
+}
+
+written-again : WrittenAgain
+written-again = record { runs = demand2.written-again; on-a-line = report-words; fields = again }
+
+read-again : ReadAgain
+read-again = record {
+  runs = demand2.read-back;
+  runs-taken = demand2.takes-what-fits;
+  on-a-line = read-written;
+  in-bytes = read-written-bytes;
+  fields = read-left;
+}
+
+-- ---- demand 3
+
+equal-lists : EqualLinesEqualLists
+equal-lists = record { lists = lists.equal-lists; written = written.written-so }
+
+-- the reports among the outcomes of a list that reads back
+reports-back : (p : ℕ) (ss : List Spaced) (n : ℕ) → reportsIn (back signMagnitude p ss ++ (endOf n ∷ [])) ≡ reportsOf ss
+unfolding back
+reports-back p [] n = refl
+reports-back p (s ∷ ss) n =
+    ap (λ (rs : List Report). s .report ∷ rs) (reports-back (p + s .ahead + length (wordsOf signMagnitude (s .report))) ss n)
+
+list-back : ReadingGivesTheList
+list-back = record {
+  outcomes-are = lists.reads-back;
+  reader = lists.document-returns;
+  list = λ ss tail f a m.
+      ap reportsIn
+      (lists.reads-back (readRun signMagnitude) signMagnitude (lists.document-returns signMagnitude reports.document-form) ss tail f a m)
+      ∙ reports-back 0 ss (length (lineOf signMagnitude ss tail));
+}
+
+one-each : OneOutcomeEach
+one-each = record { outcomes-are = outcomes.one-each; stretches = runs-are }
+
+-- ---- all of them
+
+pub demands : Demands
+demands = record {
+  take-every-input = take-every-input;
+  one-refusal = one-refusal;
+  no-skip = no-skip;
+  given-exactly = given-exactly;
+  untouched = untouched;
+  meaning = meaning;
+  accepted = accepted;
+  written-again = written-again;
+  read-again = read-again;
+  equal-lists = equal-lists;
+  list-back = list-back;
+  one-each = one-each;
+  replaced = parts.replaced;
+}

@@ -1,0 +1,114 @@
+-- Link data fields: the writer's two refusals as the document's table has them, what it is to have a layout, and a record written out again
+-- into any lent bytes. Assumes nothing.
+use Prim.Native.Nat.{ℕ, _+_, _/_, _≤_}
+use mathlib.Core.Path.{_≡_, refl, sym, ap, _∙_}
+use mathlib.Core.Bool.{Bool, true, false}
+use mathlib.Core.List.{List, _++_}
+use mathlib.Core.Logic.{_↔_, inl, inr, ⊎-elim}
+use native.Mathlib.Omega.{arith}
+use lib.Dec.{ltb}
+use lib.IntN.{ℤ}
+use lib.ListN.{length, take, drop}
+use lib.Seq.{take-at}
+use borrow.Author.Tests.{ltb-true, ltb-false}
+use Rattle.bits.specs.Bits.{Bytes}
+use Rattle.refusals.specs.declared.FieldRefusal.{FieldRefusal}
+use Rattle.refusals.specs.declared.FieldRefusal.the-variants.{NotWritable, NoRoom}
+use Rattle.fields.specs.declared.Direction.{Direction}
+use Rattle.fields.specs.declared.Record.{Record}
+use Rattle.fields.specs.declared.Found.{Found}
+use Rattle.fields.specs.declared.Answer.the-variants.{Accepted}
+use Rattle.fields.specs.declared.Written.the-variants as F
+use Rattle.fields.specs.Claims.{Given}
+use Rattle.fields.specs.Reading.{answerOf, listOf, readField, textOf}
+use Rattle.fields.specs.Writing.{takes, bitsIn, wayIn, bytesIn, writtenOf}
+use Rattle.fields.proofs.Claims.{not-writable-exactly, no-room-exactly, written-exactly, written-reads, fields-mean}
+use Rattle.claims.proofs.Anywhere.{left-anywhere, bytes-length}
+use Rattle.claims.specs.Demands.{WritesField, writerTests, HasFieldLayout}
+
+-- ---- 30 and 31
+
+differ : true ≡ false → ⊥
+differ e = let z : _≡_ {A = ℕ} 0 1 = cc in omega arith
+
+same-refusal : {p q : FieldRefusal} → F.Refused p ≡ F.Refused q → p ≡ q
+same-refusal e = cc
+
+pub writing-refuses : (r : Record) (l : List ℤ) (t s : List ℕ) (q : FieldRefusal)
+    → (writtenOf r l t s ≡ F.Refused q) ↔ Given q (writerTests r l t s)
+writing-refuses r l t s q = go (takes r l t) (ltb (length s) ((bitsIn r + 7) / 8)) refl refl
+  where
+    go : (a b : Bool) → takes r l t ≡ a → ltb (length s) ((bitsIn r + 7) / 8) ≡ b
+        → (writtenOf r l t s ≡ F.Refused q) ↔ Given q (writerTests r l t s)
+    go false b e h =
+        let w = not-writable-exactly r l t s .1 e in
+        rw e (λ k. inl (refl, same-refusal (sym w ∙ k)), ⊎-elim (λ k. w ∙ ap F.Refused (k .1)) (λ k. absurd (differ (k .0))))
+    go true true e h =
+        let w = no-room-exactly r l t s .1 (e, ltb-true _ _ h) in
+        rw (e, h) (
+          λ k. inr (refl, inl (refl, same-refusal (sym w ∙ k))),
+          ⊎-elim (λ k. absurd (differ (sym (k .0)))) (λ k. ⊎-elim (λ i. w ∙ ap F.Refused (i .1)) (λ i. absurd (i .1)) (k .1)),
+        )
+    go true false e h =
+        let m : (bitsIn r + 7) / 8 ≤ length s = ltb-false _ _ h in
+        let w = written-exactly r l t s e (omega arith) in
+        rw (e, h) (
+          λ k. absurd (let z : _≡_ {A = ℕ} 0 1 = cc in omega arith),
+          ⊎-elim (λ k. absurd (differ (sym (k .0)))) (λ k. ⊎-elim (λ i. absurd (differ (sym (i .0)))) (λ i. absurd (i .1)) (k .1)),
+        )
+
+-- ---- layouts
+
+-- what is read of an accepted field, whole
+whole : (s : List ℕ) (n : ℕ) (w : Direction) (r : Record) → answerOf s n w ≡ Accepted r → readField s n w ≡ record { answer = Accepted r; list = readField s n w .list }
+unfolding readField
+whole s n w r e = λ i. record { answer = e i; list = listOf s (answerOf s n w) }
+
+pub has-layout : (s : List ℕ) (n : ℕ) (w : Direction) (r : Record) → Bytes s → (answerOf s n w ≡ Accepted r) ↔ HasFieldLayout s n w r
+unfolding readField
+has-layout s n w r b = (
+  λ e. let m = fields-mean s n w r (readField s n w .list) (textOf s n w) b .0 (whole s n w r e, refl) in
+      (readField s n w .list, textOf s n w, m .0, m .1, m .2, m .3, m .4, m .5),
+  λ h. ap (λ (f : Found). f .answer) (fields-mean s n w r (h .0) (h .1) b .1 (h .2, h .3, h .4, h .5, h .6, h .7) .0),
+)
+
+-- ---- written out again
+
+pub again : (s : List ℕ) (n : ℕ) (w : Direction) (r : Record) → Bytes s → answerOf s n w ≡ Accepted r
+    → (b : List ℕ) → Bytes b → length s ≤ length b
+    → WritesField r (readField s n w .list) (textOf s n w) b (F.Bits n) (s ++ drop (length s) b)
+again s n w r b e x c m =
+    let l = readField s n w .list in
+    let t = textOf s n w in
+    let k = fields-mean s n w r l t b .0 (whole s n w r e, refl) in
+    let size : length s ≡ (bitsIn r + 7) / 8 = ap length (k .0) ∙ bytes-length r l t in
+    let room : (bitsIn r + 7) / 8 ≤ length x = omega arith in
+    record {
+      answers = ap F.Bits (k .1) ∙ sym (written-exactly r l t x (k .3) (omega arith));
+      leaves =
+          (λ j. k .0 j ++ drop (size j) x)
+          ∙ sym (left-anywhere r l t x (k .3) c room);
+    }
+
+-- ---- written and read
+
+-- a call that answers a bit count was given a record that the writer takes, and room; the count is the record's
+written-so : (r : Record) (l : List ℤ) (t b : List ℕ) (n : ℕ) → writtenOf r l t b ≡ F.Bits n → (takes r l t ≡ true) × ((bitsIn r + 7) / 8 ≤ length b) × (n ≡ bitsIn r)
+written-so r l t b n e = go (takes r l t) (ltb (length b) ((bitsIn r + 7) / 8)) refl refl
+  where
+    go : (x y : Bool) → takes r l t ≡ x → ltb (length b) ((bitsIn r + 7) / 8) ≡ y → (takes r l t ≡ true) × ((bitsIn r + 7) / 8 ≤ length b) × (n ≡ bitsIn r)
+    go false y h k = let w = not-writable-exactly r l t b .1 h in let z : _≡_ {A = ℕ} 0 1 = cc in absurd (omega arith)
+    go true true h k = let w = no-room-exactly r l t b .1 (h, ltb-true _ _ k) in let z : _≡_ {A = ℕ} 0 1 = cc in absurd (omega arith)
+    go true false h k =
+        let m : (bitsIn r + 7) / 8 ≤ length b = ltb-false _ _ k in
+        let w = written-exactly r l t b h (omega arith) in
+        (h, m, (cc))
+
+pub read-left : (r : Record) (l : List ℤ) (t b : List ℕ) (n : ℕ) (exit : List ℕ) → length l ≡ 30 → Bytes t → Bytes b → WritesField r l t b (F.Bits n) exit
+    → (readField (take ((n + 7) / 8) exit) n (wayIn r) ≡ record { answer = Accepted r; list = l }) × (textOf (take ((n + 7) / 8) exit) n (wayIn r) ≡ t)
+read-left r l t b n exit room bt bb w =
+    let k = written-so r l t b n (sym (w .answers)) in
+    let size = (bitsIn r + 7) / 8 in
+    let own : take ((n + 7) / 8) exit ≡ bytesIn r l t =
+    (λ i. take ((k .2 i + 7) / 8) ((w .leaves ∙ left-anywhere r l t b (k .0) bb (k .1)) i)) ∙ take-at (bytesIn r l t) (drop size b) size (bytes-length r l t) in
+    rw (own, k .2) (written-reads r l t (k .0) room bt)

@@ -1,0 +1,6 @@
+pub mod Twelve
+pub mod Printed
+pub mod Places
+pub mod Anywhere
+pub mod Fields
+pub mod Demands

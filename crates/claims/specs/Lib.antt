@@ -1,0 +1,3 @@
+pub mod Twelve
+pub mod Printed
+pub mod Demands

@@ -1,0 +1,103 @@
+-- What a link data field's bits mean, by document 01's own bit numbers ("Link data fields"): a row for each type but the relay, held against
+-- what the table of types, which goes by widths, says of its way, its length and its record. Bits that are in no part of the record, of the
+-- list and of the text are zero in every field that is accepted (FieldsMean of fields). Definitions only; proofs/Printed.antt proves the
+-- claim at the end by computing it.
+use Prim.Native.Nat.{ℕ, _+_, _*_, _<_}
+use mathlib.Core.Path.{_≡_}
+use mathlib.Core.List.{List, [], _∷_}
+use lib.IntN.{pos}
+use lib.ListN.{getD}
+use Rattle.bits.specs.Bits.{bits}
+use Rattle.fields.specs.declared.Direction.{Direction}
+use Rattle.fields.specs.declared.Direction.the-variants.{ToSensor, FromSensor}
+use Rattle.fields.specs.declared.Field.{Field}
+use Rattle.fields.specs.declared.Field.the-variants.{TacticalUplink, ElmUplink, DownlinkRequest, IdRequest, CapabilityRequest, Cancellation, Test, AltimeterCorrection, AtcFailure, SensorFailure, DabsControlState, AtcrbsControlState, RejectionNotice, DeliveryNotice, TacticalDownlink, ElmDownlink, Utility, Capability, IdCode, TestResponse, ControllerAlert}
+use Rattle.fields.specs.Table.{placeOf, byPlace, rowAt, sizeIn}
+use Rattle.fields.specs.Lists.{blockOf}
+use Rattle.fields.specs.Reading.{typeOf, valuesAt, recordIn, listIn}
+
+-- a type, the way it travels, how many bits a field of it has, and its record
+pub record Row : Type 0 where
+  pub code : ℕ
+  pub way : Direction
+  pub total : ℕ
+  pub means : Field
+
+abbrev to : ℕ → ℕ → Field → Row
+to c n f = record { code = c; way = ToSensor; total = n; means = f }
+
+abbrev from : ℕ → ℕ → Field → Row
+from c n f = record { code = c; way = FromSensor; total = n; means = f }
+
+-- every type, where `at a b` are the bits a to b of the field, as document 01 numbers them; a record's parts stand in the order of its
+-- declaration
+abbrev pub printed : (ℕ → ℕ → ℕ) → List Row
+printed at =
+    -- to the sensor: 21 tactical (address 9-32, number 33-36, P 37, EXP 38-40, text 41-96) 96
+    to 0x21 96 (TacticalUplink (at 9 32) (at 33 36) (at 37 37) (at 38 40) (at 41 96))
+    -- 22 ELM (the same to 40, spare 41-44, Length 45-48, text) 48+80(L+1)
+    ∷ to 0x22 (48 + 80 * (1 + at 45 48)) (ElmUplink (at 9 32) (at 33 36) (at 37 37) (at 38 40) (at 45 48))
+    -- 23 request (to 40, MSRC 41-44, spare) 48
+    ∷ to 0x23 48 (DownlinkRequest (at 9 32) (at 33 36) (at 37 37) (at 38 40) (at 41 44))
+    -- 24 and 02 (address, number, spare) 40
+    ∷ to 0x24 40 (IdRequest (at 9 32) (at 33 36))
+    ∷ to 0x02 40 (CapabilityRequest (at 9 32) (at 33 36))
+    -- 25 cancellation (address, number, referenced number 37-40, referenced type 41-48, any) 48
+    ∷ to 0x25 48 (Cancellation (at 9 32) (at 33 36) (at 37 40) (at 41 48))
+    -- 61 test 56
+    ∷ to 0x61 56 (Test (at 9 56))
+    -- 9B altimeter (spare 9-12, N 13-16, blocks) 16+8(N+1)
+    ∷ to 0x9B (16 + 8 * (1 + at 13 16)) (AltimeterCorrection (at 13 16))
+    -- 99 (state 9-10, spare) 16
+    ∷ to 0x99 16 (AtcFailure (at 9 10))
+    -- 65 (SID 9-12, spare, SSTAT 15-16, spare) 24
+    ∷ to 0x65 24 (SensorFailure (at 9 12) (at 15 16))
+    -- 9A (IP 9-11, IS 12-14, IU 15-16, addresses) 16+24(IP+IS+IU)
+    ∷ to 0x9A (16 + 24 * (at 9 11 + at 12 14 + at 15 16)) (DabsControlState (at 9 11) (at 12 14) (at 15 16))
+    -- 96 (ICA 9-12, IUA 13-16, identifiers) 16+24(ICA+IUA)
+    ∷ to 0x96 (16 + 24 * (at 9 12 + at 13 16)) (AtcrbsControlState (at 9 12) (at 13 16))
+    -- from the sensor: 31 (address, referenced number 33-36, QUAL 37-39, spare) 40
+    ∷ from 0x31 40 (RejectionNotice (at 9 32) (at 33 36) (at 37 39))
+    -- 32 (the same to 36, DI at 37, spare) 40
+    ∷ from 0x32 40 (DeliveryNotice (at 9 32) (at 33 36) (at 37 37))
+    -- 41 tactical (address, text) 88
+    ∷ from 0x41 88 (TacticalDownlink (at 9 32) (at 33 88))
+    -- 42 ELM (address, spare 33-36, Length 37-40, text) 40+80(L+1)
+    ∷ from 0x42 (40 + 80 * (1 + at 37 40)) (ElmDownlink (at 9 32) (at 37 40))
+    -- 43 (address, spare 33-34, UM) 40
+    ∷ from 0x43 40 (Utility (at 9 32) (at 35 40))
+    -- 44 (address, CA 33-35, ACA 36-41, ECA 42-93, spare) 96
+    ∷ from 0x44 96 (Capability (at 9 32) (at 33 35) (at 36 41) (at 42 93))
+    -- 45 (address, spare 33-36, code 37-48) 48
+    ∷ from 0x45 48 (IdCode (at 9 32) (at 37 48))
+    -- 62 test response 56
+    ∷ from 0x62 56 (TestResponse (at 9 56))
+    -- 83 alert (ACID 9-32 and 33-56, then twice CS 2, advisory 11, DEL 3, then V1, V2) 90
+    ∷ from 0x83 90
+    (ControllerAlert (at 9 32) (at 33 56) (at 57 58) (at 59 69) (at 70 72) (at 73 74) (at 75 85) (at 86 88) (at 89 89) (at 90 90))
+    ∷ []
+
+-- a field that begins behind the first so many bits and has the row's type: the way that the table has for it, the bits that it must have
+-- and its record are the row's
+abbrev pub wayAt : List ℕ → ℕ → Direction
+wayAt s before = byPlace ToSensor (λ i. rowAt i .way) (placeOf (typeOf s before))
+
+abbrev pub totalAt : List ℕ → ℕ → ℕ
+totalAt s before = byPlace 0 (λ i. sizeIn (rowAt i) (valuesAt s before i)) (placeOf (typeOf s before))
+
+abbrev pub AllMeant : List ℕ → ℕ → List Row → Type 0
+AllMeant s before [] = Unit {0}
+AllMeant s before (x ∷ rows) =
+    (typeOf s before ≡ x .code → (wayAt s before ≡ x .way) × (totalAt s before ≡ x .total) × (recordIn s before ≡ x .means)) × AllMeant s before rows
+
+-- a field alone, and one inside a relay, behind its type and sensor
+abbrev pub AsPrinted : Type 0
+AsPrinted = (s : List ℕ) → AllMeant s 0 (printed (λ a b. bits s a b)) × AllMeant s 16 (printed (λ a b. bits s (16 + a) (16 + b)))
+
+-- the list beside the record, entry k of it counted from 0: an altimeter block has 8 bits, an address or an identifier 24, and the first
+-- stands at bit 17. (No type that is relayed has a list.)
+pub record EntriesAsPrinted (s : List ℕ) (k : ℕ) : Type 0 where
+  pub blocks : typeOf s 0 ≡ 0x9B → k < 1 + bits s 13 16 → getD (listIn s) k (pos 0) ≡ blockOf (bits s (17 + 8 * k) (24 + 8 * k))
+  pub addresses : typeOf s 0 ≡ 0x9A → k < bits s 9 11 + bits s 12 14 + bits s 15 16
+      → getD (listIn s) k (pos 0) ≡ pos (bits s (17 + 24 * k) (40 + 24 * k))
+  pub identifiers : typeOf s 0 ≡ 0x96 → k < bits s 9 12 + bits s 13 16 → getD (listIn s) k (pos 0) ≡ pos (bits s (17 + 24 * k) (40 + 24 * k))
