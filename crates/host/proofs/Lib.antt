@@ -3,3 +3,5 @@ pub mod Signed
 pub mod Sizes
 pub mod Builds
 pub mod Writes
+pub mod Back
+pub mod Claims

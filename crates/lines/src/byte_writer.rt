@@ -30,14 +30,11 @@ fn put_pairs(part: &mut [u8], ws: [u16; 8], n: usize)
     }
 }
 
-// The first n of these words and the idle word behind them, from a place on, or number 10.
+// The first n of these words and the idle word behind them, from a place on that has room for them.
 fn put_spaced(bytes: &mut [u8], place: usize, ws: [u16; 8], n: usize) -> Wrote
-    requires { ⌜ (place ≤ length (now bytes) / 2) × (n < 8) × (take (n + 1) ws ≡ take n ws ++ (idle ∷ [])) ⌝ }
+    requires { ⌜ (place + n < length (now bytes) / 2) × (n < 8) × (take (n + 1) ws ≡ take n ws ++ (idle ∷ [])) ⌝ }
     ensures { λ w. ⌜ PutsBytes (now (bytes .entry)) place (take n ws) w (now (bytes .exit)) ⌝ }
 {
-    if bytes.len() / 2 - place <= n {
-        return Wrote::Refused(LineRefusal::NoRoom, place);
-    }
     let at = place * 2;
     let next = place + n + 1;
     put_pairs(&mut bytes[at..], ws, n + 1);
@@ -55,7 +52,7 @@ fn room(size: usize, place: usize, n: usize) -> Wrote
     Wrote::Next(place + n + 1)
 }
 
-// The answer to so many bytes, a place and what a report was made into.
+// The answer to so many bytes, a place and what a report was made into: all that is tested before a word is written.
 fn answer_to(size: usize, place: usize, made: Written) -> Wrote
     ensures { λ w. ⌜ w ≡ answerOf size place made ⌝ }
 {
@@ -87,17 +84,11 @@ pub fn answer(bytes: &[u8], place: usize, report: Report) -> Wrote
 pub fn write(bytes: &mut [u8], place: usize, report: Report) -> Wrote
     ensures { λ w. ⌜ WritesBytes signMagnitude (now (bytes .entry)) place report w (now (bytes .exit)) ⌝ }
 {
-    let size = bytes.len();
-    if MOST_BYTES < size {
-        return Wrote::Refused(LineRefusal::LineTooLong, place);
-    }
-    if size % 2 == 1 {
-        return Wrote::Refused(LineRefusal::OddByteCount, place);
-    }
-    if size / 2 < place {
-        return Wrote::Refused(LineRefusal::PlaceBeyondLine, place);
-    }
     let made = writing::words_of(report);
+    let told = answer_to(bytes.len(), place, made);
+    if let Wrote::Refused(why, at) = told {
+        return Wrote::Refused(why, at);
+    }
     match made {
         Written::Four(a, b, c, d) => put_spaced(bytes, place, [a, b, c, d, IDLE, 0, 0, 0], 4),
         Written::Seven(a, b, c, d, e, f, g) => {
