@@ -1,0 +1,348 @@
+/*
+ * driver.c: answers cases with the Siamrung library, so that a program in another language can compare every answer with its own
+ * (tests/independent). It relies on siamrung.h alone and knows nothing of reports or fields: it asks and passes on.
+ *
+ * Input: cases, one behind the other, until the end. Every number has its high byte first. "bytes" is a length of four bytes and as many
+ * bytes; "numbers" is a count of four bytes and as many numbers of eight.
+ *   'L' bytes, step (4), numbers: a line; the places to look at beside the walk
+ *   'W' bytes, count (4), count times: place (8), kind (4), items (bytes): a line, and the reports to write into it
+ *   'F' bytes, count (8), from_sensor (4), ask (1), numbers: a field; the indices to ask beside 0 to 31
+ *   'G' bytes, type (4), items (bytes), list (bytes), text (bytes): a field to write
+ * Output: answers, each with its length (4) before it. The first is a head: the version (4) and the size of a size_t (4). Then follows one
+ * for each case: the numbers that the calls gave, four bytes for a uint32_t, eight for the others, one for siamrung_has and
+ * siamrung_field_has (255 for any number but 0 and 1), and the bytes after each writing. It ends with one byte: 1 if nothing that is only
+ * read was changed.
+ *
+ * Every slice is malloc'ed to its exact length, so that valgrind sees an access outside; an empty slice is passed as NULL.
+ */
+#include "siamrung.h"
+
+#include <stdio.h>
+#include <stdlib.h>
+#include <string.h>
+
+#define ITEMS 41
+#define FIRST_FIELD_ITEM 200
+/* also asked: numbers of no item that are equal to one in their low bits */
+#define NO_ITEMS 4
+static const uint32_t no_items[NO_ITEMS] = {68, 265, 457, 0x80000004};
+
+#define LAST_INDEX 31
+/* where there is no report, items are asked this many times more seldom */
+#define SELDOM 8
+
+/* ---- the slices of a case, each with a copy */
+
+struct slice {
+    uint8_t *bytes;
+    uint8_t *copy;
+    size_t length;
+};
+
+static void fail(const char *why)
+{
+    fprintf(stderr, "driver: %s\n", why);
+    exit(2);
+}
+
+static void *take(size_t length)
+{
+    void *space = malloc(length);
+    if (space == NULL) {
+        fail("no memory");
+    }
+    return space;
+}
+
+static void get(uint8_t *bytes, size_t length)
+{
+    if (fread(bytes, 1, length, stdin) != length) {
+        fail("input ends inside a case");
+    }
+}
+
+static uint64_t get_number(size_t width)
+{
+    uint8_t bytes[8];
+    uint64_t number = 0;
+    size_t i;
+    get(bytes, width);
+    for (i = 0; i < width; i++) {
+        number = number * 256 + bytes[i];
+    }
+    return number;
+}
+
+static struct slice get_slice(void)
+{
+    struct slice slice = {NULL, NULL, 0};
+    slice.length = (size_t)get_number(4);
+    if (slice.length > 0) {
+        slice.bytes = take(slice.length);
+        slice.copy = take(slice.length);
+        get(slice.bytes, slice.length);
+        memcpy(slice.copy, slice.bytes, slice.length);
+    }
+    return slice;
+}
+
+static int same(const struct slice *slice)
+{
+    return slice->length == 0 || memcmp(slice->bytes, slice->copy, slice->length) == 0;
+}
+
+static void drop(struct slice *slice)
+{
+    free(slice->bytes);
+    free(slice->copy);
+}
+
+/* ---- the answer of a case, gathered whole so that its length can stand before it */
+
+static uint8_t *answer;
+static size_t answer_length;
+static size_t answer_room;
+
+static void put(const uint8_t *bytes, size_t length)
+{
+    if (length == 0) {
+        return;
+    }
+    if (answer_room - answer_length < length) {
+        answer_room = 2 * (answer_room + length);
+        answer = realloc(answer, answer_room);
+        if (answer == NULL) {
+            fail("no memory");
+        }
+    }
+    memcpy(answer + answer_length, bytes, length);
+    answer_length += length;
+}
+
+static void put_number(uint64_t number, size_t width)
+{
+    uint8_t bytes[8];
+    size_t i;
+    for (i = 0; i < width; i++) {
+        bytes[width - 1 - i] = (uint8_t)(number % 256);
+        number /= 256;
+    }
+    put(bytes, width);
+}
+
+static void put_yes(uint32_t number)
+{
+    put_number(number <= 1 ? number : 255, 1);
+}
+
+static void put_double(double value)
+{
+    uint64_t number;
+    memcpy(&number, &value, sizeof number);
+    put_number(number, 8);
+}
+
+/* flushed at once: the other side may wait for this answer before it sends more */
+static void send_answer(void)
+{
+    size_t length = answer_length;
+    put_number(length, 4);
+    if (fwrite(answer + length, 1, 4, stdout) != 4 || fwrite(answer, 1, length, stdout) != length || fflush(stdout) != 0) {
+        fail("output not taken");
+    }
+    answer_length = 0;
+}
+
+/* ---- a line */
+
+static void put_items(const struct slice *line, size_t place)
+{
+    uint32_t i;
+    for (i = 0; i < ITEMS + NO_ITEMS; i++) {
+        uint32_t item = i < ITEMS ? i : no_items[i - ITEMS];
+        put_yes(siamrung_has(line->bytes, line->length, place, item));
+        put_number((uint64_t)siamrung_item(line->bytes, line->length, place, item), 8);
+    }
+}
+
+/* All answers about one place; gives siamrung_after, and sets end where the line is finished. */
+static size_t look(const struct slice *line, size_t place, uint64_t turn, uint64_t step, int *end)
+{
+    uint32_t kind = siamrung_kind(line->bytes, line->length, place);
+    size_t after = siamrung_after(line->bytes, line->length, place);
+    int report = kind != SIAMRUNG_KIND_REFUSED && kind != SIAMRUNG_KIND_END;
+    int asked = turn % (report ? step : SELDOM * step) == 0;
+    put_number(kind, 4);
+    put_number(siamrung_refusal(line->bytes, line->length, place), 4);
+    put_number(siamrung_first(line->bytes, line->length, place), 8);
+    put_number(after, 8);
+    put_number(siamrung_named(line->bytes, line->length, place), 8);
+    put_number(siamrung_has_values(line->bytes, line->length, place), 4);
+    put_double(siamrung_nmi(line->bytes, line->length, place));
+    put_double(siamrung_degrees(line->bytes, line->length, place));
+    put_double(siamrung_seconds(line->bytes, line->length, place));
+    put_number(asked ? 1 : 0, 1);
+    if (asked) {
+        put_items(line, place);
+    }
+    *end = kind == SIAMRUNG_KIND_END || after == place;
+    return after;
+}
+
+static void answer_line(void)
+{
+    struct slice line = get_slice();
+    uint64_t step = get_number(4);
+    uint64_t places = get_number(4);
+    uint64_t turn = 0;
+    size_t place = 0;
+    int end = 0;
+    /* a library that never ends is stopped here: no line has more places to look at */
+    while (!end && turn <= line.length / 2 + 1) {
+        place = look(&line, place, turn, step, &end);
+        turn++;
+    }
+    for (turn = 0; turn < places; turn++) {
+        look(&line, (size_t)get_number(8), turn, 1, &end);
+    }
+    put_number(same(&line) ? 1 : 0, 1);
+    drop(&line);
+}
+
+static int write_one(struct slice *line)
+{
+    size_t place = (size_t)get_number(8);
+    uint32_t kind = (uint32_t)get_number(4);
+    struct slice items = get_slice();
+    int unchanged;
+    if (line->length > 0) {
+        memcpy(line->copy, line->bytes, line->length);
+    }
+    put_number(siamrung_write_refusal(line->bytes, line->length, place, kind, items.bytes, items.length), 4);
+    unchanged = same(line);
+    put_number(siamrung_write(line->bytes, line->length, place, kind, items.bytes, items.length), 8);
+    put_number(siamrung_write_refusal(line->bytes, line->length, place, kind, items.bytes, items.length), 4);
+    put(line->bytes, line->length);
+    unchanged = unchanged && same(&items);
+    drop(&items);
+    return unchanged;
+}
+
+static void answer_write(void)
+{
+    struct slice line = get_slice();
+    uint64_t writes = get_number(4);
+    int unchanged = 1;
+    for (; writes > 0; writes--) {
+        unchanged = write_one(&line) && unchanged;
+    }
+    put_number(unchanged ? 1 : 0, 1);
+    drop(&line);
+}
+
+/* ---- a link data field */
+
+static void put_field_items(const struct slice *field, size_t count, uint32_t from_sensor, uint64_t indices)
+{
+    uint32_t i;
+    size_t index;
+    for (i = 0; i < ITEMS + NO_ITEMS; i++) {
+        uint32_t item = i < ITEMS ? FIRST_FIELD_ITEM + i : no_items[i - ITEMS];
+        put_yes(siamrung_field_has(field->bytes, field->length, count, from_sensor, item));
+        put_number(siamrung_field_item(field->bytes, field->length, count, from_sensor, item), 8);
+    }
+    for (index = 0; index <= LAST_INDEX; index++) {
+        put_number((uint64_t)siamrung_field_entry(field->bytes, field->length, count, from_sensor, index), 8);
+    }
+    for (; indices > 0; indices--) {
+        index = (size_t)get_number(8);
+        put_number((uint64_t)siamrung_field_entry(field->bytes, field->length, count, from_sensor, index), 8);
+    }
+}
+
+static void answer_field(void)
+{
+    struct slice field = get_slice();
+    size_t count = (size_t)get_number(8);
+    uint32_t from_sensor = (uint32_t)get_number(4);
+    int asked = get_number(1) != 0;
+    uint64_t indices = get_number(4);
+    uint32_t refusal = siamrung_field_refusal(field.bytes, field.length, count, from_sensor);
+    put_number(refusal, 4);
+    put_number(siamrung_field_type(field.bytes, field.length, count, from_sensor), 4);
+    put_number(siamrung_field_inner_type(field.bytes, field.length, count, from_sensor), 4);
+    put_number(siamrung_field_entries(field.bytes, field.length, count, from_sensor), 8);
+    put_number(siamrung_field_text_place(field.bytes, field.length, count, from_sensor), 8);
+    put_number(siamrung_field_text_length(field.bytes, field.length, count, from_sensor), 8);
+    asked = asked || refusal == 0;
+    put_number(asked ? 1 : 0, 1);
+    if (asked) {
+        put_field_items(&field, count, from_sensor, indices);
+    } else {
+        for (; indices > 0; indices--) {
+            get_number(8);
+        }
+    }
+    put_number(same(&field) ? 1 : 0, 1);
+    drop(&field);
+}
+
+static void answer_field_write(void)
+{
+    struct slice field = get_slice();
+    uint32_t type = (uint32_t)get_number(4);
+    struct slice items = get_slice();
+    struct slice list = get_slice();
+    struct slice text = get_slice();
+    int unchanged;
+    put_number(siamrung_field_write_refusal(field.bytes, field.length, type, items.bytes, items.length, list.bytes, list.length, text.bytes,
+                                            text.length), 4);
+    unchanged = same(&field);
+    put_number(siamrung_field_write(field.bytes, field.length, type, items.bytes, items.length, list.bytes, list.length, text.bytes,
+                                    text.length), 8);
+    put_number(siamrung_field_write_refusal(field.bytes, field.length, type, items.bytes, items.length, list.bytes, list.length, text.bytes,
+                                            text.length), 4);
+    put(field.bytes, field.length);
+    unchanged = unchanged && same(&items) && same(&list) && same(&text);
+    put_number(unchanged ? 1 : 0, 1);
+    drop(&field);
+    drop(&items);
+    drop(&list);
+    drop(&text);
+}
+
+/* ---- the whole */
+
+static void answer_case(int tag)
+{
+    switch (tag) {
+    case 'L':
+        answer_line();
+        break;
+    case 'W':
+        answer_write();
+        break;
+    case 'F':
+        answer_field();
+        break;
+    case 'G':
+        answer_field_write();
+        break;
+    default:
+        fail("no such case");
+    }
+}
+
+int main(void)
+{
+    int tag;
+    put_number(siamrung_version(), 4);
+    put_number(sizeof(size_t), 4);
+    send_answer();
+    while ((tag = getchar()) != EOF) {
+        answer_case(tag);
+        send_answer();
+    }
+    free(answer);
+    return 0;
+}

@@ -1,0 +1,254 @@
+//! A case: what is handed to the library through driver.c, how it is sent, and what should come back.
+//!
+//! The form of the messages is told in driver.c; the two files keep step.
+
+use crate::answer::{hex, Answer};
+use crate::field::{self, Field, Given};
+use crate::layout::Layout;
+use crate::line::{self, Look};
+use crate::report;
+use crate::totals::Totals;
+
+/// The layouts of reports and fields.
+pub struct Tables {
+    pub reports: Vec<Layout>,
+    pub fields: Vec<Field>,
+}
+
+impl Tables {
+    pub fn new() -> Tables {
+        Tables { reports: report::layouts(), fields: field::fields() }
+    }
+}
+
+pub struct Write {
+    pub place: u64,
+    pub kind: u32,
+    pub items: Vec<u8>,
+}
+
+pub enum Case {
+    /// A line is walked, and then looked at from the places. Items are asked of every step-th report.
+    Line { bytes: Vec<u8>, step: u32, places: Vec<u64> },
+    /// Reports are written into a line one after the other.
+    Write { bytes: Vec<u8>, writes: Vec<Write> },
+    /// A field is read. Items are asked where it is accepted or ask is set; entries 0 to 31 and those at the indices.
+    Field { bytes: Vec<u8>, count: u64, from_sensor: u32, ask: bool, indices: Vec<u64> },
+    /// A field is written.
+    FieldWrite { bytes: Vec<u8>, kind: u32, items: Vec<u8>, list: Vec<u8>, text: Vec<u8> },
+}
+
+const ITEMS: std::ops::RangeInclusive<u32> = 0..=40;
+const FIELD_ITEMS: std::ops::RangeInclusive<u32> = 200..=240;
+/// Also asked: numbers of no item that are equal to one in their low bits.
+const NO_ITEMS: [u32; 4] = [68, 265, 457, 0x8000_0004];
+const LAST_INDEX: u64 = 31;
+/// Where there is no report, items are asked this many times more seldom.
+const SELDOM: u64 = 8;
+
+fn put_bytes(message: &mut Vec<u8>, bytes: &[u8]) {
+    message.extend_from_slice(&(bytes.len() as u32).to_be_bytes());
+    message.extend_from_slice(bytes);
+}
+
+fn put_numbers(message: &mut Vec<u8>, numbers: &[u64]) {
+    message.extend_from_slice(&(numbers.len() as u32).to_be_bytes());
+    for number in numbers {
+        message.extend_from_slice(&number.to_be_bytes());
+    }
+}
+
+impl Case {
+    /// The message to the driver.
+    pub fn message(&self) -> Vec<u8> {
+        let mut message = vec![self.tag()];
+        match self {
+            Case::Line { bytes, step, places } => {
+                put_bytes(&mut message, bytes);
+                message.extend_from_slice(&step.to_be_bytes());
+                put_numbers(&mut message, places);
+            }
+            Case::Write { bytes, writes } => {
+                put_bytes(&mut message, bytes);
+                message.extend_from_slice(&(writes.len() as u32).to_be_bytes());
+                for write in writes {
+                    message.extend_from_slice(&write.place.to_be_bytes());
+                    message.extend_from_slice(&write.kind.to_be_bytes());
+                    put_bytes(&mut message, &write.items);
+                }
+            }
+            Case::Field { bytes, count, from_sensor, ask, indices } => {
+                put_bytes(&mut message, bytes);
+                message.extend_from_slice(&count.to_be_bytes());
+                message.extend_from_slice(&from_sensor.to_be_bytes());
+                message.push(u8::from(*ask));
+                put_numbers(&mut message, indices);
+            }
+            Case::FieldWrite { bytes, kind, items, list, text } => {
+                put_bytes(&mut message, bytes);
+                message.extend_from_slice(&kind.to_be_bytes());
+                put_bytes(&mut message, items);
+                put_bytes(&mut message, list);
+                put_bytes(&mut message, text);
+            }
+        }
+        message
+    }
+
+    fn tag(&self) -> u8 {
+        match self {
+            Case::Line { .. } => b'L',
+            Case::Write { .. } => b'W',
+            Case::Field { .. } => b'F',
+            Case::FieldWrite { .. } => b'G',
+        }
+    }
+
+    /// What should come back; counts what is met on the way.
+    pub fn expect(&self, tables: &Tables, totals: &mut Totals, naming: bool) -> Answer {
+        let mut answer = Answer::new(naming);
+        match self {
+            Case::Line { bytes, step, places } => expect_line(tables, &mut answer, totals, bytes, *step, places),
+            Case::Write { bytes, writes } => expect_writes(tables, &mut answer, totals, bytes, writes),
+            Case::Field { bytes, count, from_sensor, ask, indices } => {
+                let read = field::read(&tables.fields, bytes, *count, *from_sensor != 0);
+                totals.field(&read);
+                expect_field(&mut answer, bytes.len(), &read, *ask, indices);
+            }
+            Case::FieldWrite { bytes, kind, items, list, text } => {
+                let given = Given { kind: *kind, items, list, text };
+                expect_field_write(tables, &mut answer, totals, bytes, &given);
+            }
+        }
+        answer.u8("bytes that are only read stay (1)", 0, 0, 1);
+        answer
+    }
+
+    /// The words of a line from a place on, as numbers, since a long line in hexadecimal is hard to count through.
+    pub fn near(&self, place: u64) -> String {
+        match self {
+            Case::Line { bytes, .. } => {
+                let words = line::words(bytes);
+                let from = words.len().min(place as usize);
+                let to = words.len().min(from + 24);
+                format!("\nwords from place {}: {:?}", from, &words[from..to])
+            }
+            _ => String::new(),
+        }
+    }
+
+    /// The case in words, for a difference.
+    pub fn shown(&self) -> String {
+        match self {
+            Case::Line { bytes, places, .. } => format!("line, {} bytes {}; places {:?}", bytes.len(), hex(bytes), places),
+            Case::Write { bytes, writes } => {
+                let one = |write: &Write| format!("; at place {} kind {} items {}", write.place, write.kind, hex(&write.items));
+                let all: String = writes.iter().map(one).collect();
+                format!("writing into {} bytes {}{}", bytes.len(), hex(bytes), all)
+            }
+            Case::Field { bytes, count, from_sensor, .. } => {
+                format!("field, {} bytes {}, {} bits, from_sensor {}", bytes.len(), hex(bytes), count, from_sensor)
+            }
+            Case::FieldWrite { bytes, kind, items, list, text } => {
+                let slices = format!("items {} list {} text {}", hex(items), hex(list), hex(text));
+                format!("writing a field of type {:02X} into {} bytes {}: {}", kind, bytes.len(), hex(bytes), slices)
+            }
+        }
+    }
+}
+
+/// The walk from place 0, stopped at the end of the line or where a place gives itself back; then the other places.
+fn expect_line(tables: &Tables, answer: &mut Answer, totals: &mut Totals, bytes: &[u8], step: u32, places: &[u64]) {
+    let words = line::words(bytes);
+    totals.line(bytes.len());
+    let mut place = 0;
+    let mut turn = 0;
+    loop {
+        let look = line::look(&tables.reports, bytes.len(), &words, place);
+        expect_look(answer, &look, place, turn, u64::from(step));
+        totals.look(&look, true);
+        if look.kind == line::END || look.after == place {
+            break;
+        }
+        place = look.after;
+        turn += 1;
+    }
+    for (turn, &place) in places.iter().enumerate() {
+        let look = line::look(&tables.reports, bytes.len(), &words, place);
+        expect_look(answer, &look, place, turn as u64, 1);
+        totals.look(&look, false);
+    }
+}
+
+fn expect_look(answer: &mut Answer, look: &Look, place: u64, turn: u64, step: u64) {
+    answer.u32("siamrung_kind", place, look.kind);
+    answer.u32("siamrung_refusal", place, look.refusal);
+    answer.u64("siamrung_first", place, 0, look.first);
+    answer.u64("siamrung_after", place, 0, look.after);
+    answer.u64("siamrung_named", place, 0, look.named);
+    let values = look.report.as_ref().and_then(|report| report.values());
+    answer.u32("siamrung_has_values", place, u32::from(values.is_some()));
+    let (nmi, degrees, seconds) = values.unwrap_or((0, 0, 0));
+    answer.u64("siamrung_nmi", place, 0, nmi);
+    answer.u64("siamrung_degrees", place, 0, degrees);
+    answer.u64("siamrung_seconds", place, 0, seconds);
+    let every = if look.report.is_some() { step } else { SELDOM * step };
+    let asked = turn % every == 0;
+    answer.u8("items asked", place, 0, u8::from(asked));
+    if !asked {
+        return;
+    }
+    for number in ITEMS.chain(NO_ITEMS) {
+        let item = look.report.as_ref().and_then(|report| report.item(number));
+        answer.u8("siamrung_has", place, u64::from(number), u8::from(item.is_some()));
+        answer.u64("siamrung_item", place, u64::from(number), item.unwrap_or(0) as u64);
+    }
+}
+
+fn expect_writes(tables: &Tables, answer: &mut Answer, totals: &mut Totals, bytes: &[u8], writes: &[Write]) {
+    let mut now = bytes.to_vec();
+    for write in writes {
+        let (refusal, after) = line::write(&tables.reports, &mut now, write.place, write.kind, &write.items);
+        totals.write(refusal);
+        answer.u32("siamrung_write_refusal before", write.place, refusal);
+        answer.u64("siamrung_write", write.place, 0, after);
+        answer.u32("siamrung_write_refusal after", write.place, refusal);
+        answer.all("bytes after siamrung_write", &now);
+    }
+}
+
+fn expect_field(answer: &mut Answer, length: usize, read: &Result<field::Record, u32>, ask: bool, indices: &[u64]) {
+    let record = read.as_ref().ok();
+    answer.u32("siamrung_field_refusal", 0, read.as_ref().err().copied().unwrap_or(0));
+    answer.u32("siamrung_field_type", 0, record.map_or(0, |r| r.kind));
+    answer.u32("siamrung_field_inner_type", 0, record.map_or(0, |r| r.inner));
+    let entries: &[i64] = record.map_or(&[], |r| &r.entries);
+    answer.u64("siamrung_field_entries", 0, 0, entries.len() as u64);
+    let (place, text) = record.and_then(|r| r.text).unwrap_or((length, 0));
+    answer.u64("siamrung_field_text_place", 0, 0, place as u64);
+    answer.u64("siamrung_field_text_length", 0, 0, text as u64);
+    let asked = ask || record.is_some();
+    answer.u8("items asked", 0, 0, u8::from(asked));
+    if !asked {
+        return;
+    }
+    for number in FIELD_ITEMS.chain(NO_ITEMS) {
+        let item = record.and_then(|r| r.items.iter().find(|item| item.0 == number));
+        answer.u8("siamrung_field_has", 0, u64::from(number), u8::from(item.is_some()));
+        answer.u64("siamrung_field_item", 0, u64::from(number), item.map_or(0, |item| item.1 as u64));
+    }
+    for index in (0..=LAST_INDEX).chain(indices.iter().copied()) {
+        let entry = if index < entries.len() as u64 { entries[index as usize] } else { 0 };
+        answer.u64("siamrung_field_entry", 0, index, entry as u64);
+    }
+}
+
+fn expect_field_write(tables: &Tables, answer: &mut Answer, totals: &mut Totals, bytes: &[u8], given: &Given) {
+    let mut now = bytes.to_vec();
+    let (refusal, bits) = field::write(&tables.fields, &mut now, given);
+    totals.field_write(refusal);
+    answer.u32("siamrung_field_write_refusal before", 0, refusal);
+    answer.u64("siamrung_field_write", 0, 0, bits);
+    answer.u32("siamrung_field_write_refusal after", 0, refusal);
+    answer.all("bytes after siamrung_field_write", &now);
+}

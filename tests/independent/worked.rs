@@ -1,0 +1,87 @@
+//! The worked cases of document 01 (C1 to C12, the lister's example, the flipped bit of "Three easy errors"), run on this program itself:
+//! before it judges the library it has to agree with the paper.
+
+use crate::case::Tables;
+use crate::field;
+use crate::line;
+use crate::line_cases::valid_items;
+use crate::report;
+use crate::rng::Rng;
+
+const C2: [u16; 7] = [3973, 1281, 256, 7, 5175, 1414, 4102];
+
+fn look(tables: &Tables, words: &[u16], place: u64) -> line::Look {
+    line::look(&tables.reports, 2 * words.len(), words, place)
+}
+
+fn refusal(tables: &Tables, words: &[u16]) -> u32 {
+    look(tables, words, 0).refusal
+}
+
+fn items(tables: &Tables, words: &[u16], numbers: &[u32]) -> Vec<i64> {
+    let report = look(tables, words, 0).report.expect("a report");
+    numbers.iter().map(|&number| report.item(number).expect("an item")).collect()
+}
+
+fn reports(tables: &Tables) {
+    let c1 = [868, 1281, 2048, 647];
+    assert_eq!(look(tables, &c1, 0).kind, 101);
+    assert_eq!(items(tables, &c1, &[1, 2, 5, 7, 6]), [0, 1, 1024, 5, 3]);
+    let values = look(tables, &c1, 0).report.and_then(|report| report.values());
+    assert_eq!(values, Some((40f64.to_bits(), 90f64.to_bits(), 0.375f64.to_bits())));
+    assert_eq!(look(tables, &C2, 0).kind, 106);
+    assert_eq!(items(tables, &C2, &[16, 25, 4, 5, 6, 31]), [1, 0xA1B2C3, 40 * 128, 2048, 3, -3]);
+    let ending = |first: u16, last: u16| [first, 1281, 256, 7, 5175, 1414, last];
+    assert_eq!(refusal(tables, &ending(3973, 4096)), 9);
+    assert_eq!(refusal(tables, &ending(3974, 4)), 7);
+    assert_eq!(look(tables, &ending(3974, 8), 0).kind, 107);
+    assert_eq!(refusal(tables, &[c1, c1].concat()), 6);
+    let single: Vec<u32> = [0, 8192, 1024, 577].iter().map(|&word| refusal(tables, &[word])).collect();
+    assert_eq!(single, [4, 3, 5, 5]);
+}
+
+fn runs(tables: &Tables) {
+    let line = [1023, 868, 1281, 2048, 647, 1023, 1023, 3973, 1281, 256, 7, 5175, 1414, 4096];
+    let (first, second, end) = (look(tables, &line, 0), look(tables, &line, 5), look(tables, &line, 14));
+    assert_eq!((first.kind, first.first, first.after), (101, 1, 5));
+    assert_eq!((second.refusal, second.first, second.after, second.named), (9, 7, 14, 7));
+    assert_eq!((end.kind, end.first, end.after), (line::END, 14, 14));
+    let whole = [3333, 1281, 1022, 868, 1281, 2048, 647];
+    assert_eq!(look(tables, &whole, 0).kind, 110);
+    let split = [3333, 1281, 1023, 868, 1281, 2048, 647];
+    assert_eq!((refusal(tables, &split), look(tables, &split, 2).kind), (6, 101));
+}
+
+fn fields(tables: &Tables) {
+    let read = |bytes: &[u8], count: u64| field::read(&tables.fields, bytes, count, false);
+    let c10 = read(&[0x9B, 0x01, 0x12, 0x83], 32).unwrap_or_else(|refusal| panic!("C10 got {}", refusal));
+    assert_eq!(c10.entries, [12, -3]);
+    assert_eq!(read(&[0x9B, 0x01, 0x12, 0x80], 32).err(), Some(28));
+    let c12 = read(&[0x21, 0xA1, 0xB2, 0xC3, 0x5B, 0, 0, 0, 0, 0, 0, 0], 96).unwrap_or_else(|refusal| panic!("C12 got {}", refusal));
+    let wanted = [(201, 0xA1B2C3), (202, 5), (203, 1), (204, 3), (205, 0)];
+    assert_eq!(c12.items, wanted);
+}
+
+/// Of every layout, some records written and read give the same items, and written again the same words.
+fn both_ways(tables: &Tables) {
+    let rng = &mut Rng::new(0, 0, 0);
+    for (index, layout) in tables.reports.iter().enumerate() {
+        for _ in 0..40 {
+            let items = valid_items(rng, layout);
+            let words = report::write(&tables.reports, layout.number, &items).expect("valid values are written");
+            let read = look(tables, &words, 0).report.expect("what is written is read");
+            let again: Vec<(u64, u64)> = read.items.iter().map(|&(number, value)| (u64::from(number), value as u64)).collect();
+            assert_eq!((read.layout, &again), (index, &items));
+            assert_eq!(report::write(&tables.reports, layout.number, &again), Some(words));
+        }
+    }
+}
+
+/// Stops the program where it disagrees with document 01.
+pub fn check(tables: &Tables) {
+    assert_eq!((tables.reports.len(), tables.fields.len()), (17, 21));
+    reports(tables);
+    runs(tables);
+    fields(tables);
+    both_ways(tables);
+}
