@@ -26,9 +26,12 @@ use Rattle.fields.proofs.Claims.{fields-mean}
 use Rattle.field_host.specs.Items.{itemsOf, fieldItems}
 use Rattle.field_host.specs.Reading.{innerOf, entriesOf}
 use Rattle.field_host.specs.Writing.{fieldGiven, relayBy, recordGiven, sameFound, agree, fits, unfit, checkedAt, given}
-use Rattle.field_host.specs.Claims.{Holds, OwnItems, NothingPassedOver, UnfitRefused, EntriesListed}
+use Rattle.field_host.specs.Claims.{ItemsByName, Holds, OwnItems, NothingPassedOver, UnfitRefused, EntriesListed}
 use Rattle.field_host.proofs.Count.{Covers, within, nothing-else, both, agree-at, record-apart}
-use Rattle.field_host.proofs.Own.{placeNo, place-of, no-sensor, made}
+use Rattle.field_host.proofs.Own.{by-name, placeNo, place-of, no-sensor, made}
+
+pub items-by-name : ItemsByName
+items-by-name = by-name
 
 -- ---- a record's own items
 
