@@ -1,19 +1,16 @@
 -- The claims of specs/Claims.antt. Assumes nothing.
-use Prim.Native.Nat.{ℕ, zero, suc, _+_, _-_, _*_, _/_, _%_}
+use Prim.Native.Nat.{ℕ, zero, suc, _+_, _-_, _%_}
 use mathlib.Core.Path.{_≡_, refl, sym, ap, _∙_}
-use mathlib.Core.Bool.{Bool, true, false, cond, not, _&&_}
-use mathlib.Core.List.{List, [], _∷_}
+use mathlib.Core.Bool.{Bool, true, false, cond, _&&_}
+use mathlib.Core.List.{List, []}
 use mathlib.Core.Logic.{_⊎_, inl, inr}
 use native.Mathlib.Omega.{arith}
 use lib.Dec.{eqb}
-use lib.IntN.{ℤ}
-use lib.ListN.{length, getD}
+use lib.ListN.{length}
 use borrow.Author.Tests.{eq-eqb, ne-eqb, eqb-true}
-use Rattle.bits.specs.Bits.{Bytes}
 use Rattle.pairs.specs.declared.Found.{Found}
 use Rattle.pairs.specs.declared.Found.the-variants.{Value, Missing}
 use Rattle.pairs.specs.Pairs.{Pair, pairsIn, findIn}
-use Rattle.fields.specs.declared.Direction.{Direction}
 use Rattle.fields.specs.declared.Place.{Place}
 use Rattle.fields.specs.declared.Place.the-variants.{At, Nowhere}
 use Rattle.fields.specs.declared.Field.{Field}
@@ -23,16 +20,18 @@ use Rattle.fields.specs.declared.Record.the-variants.{Single, Relay}
 use Rattle.fields.specs.declared.Answer.{Answer}
 use Rattle.fields.specs.declared.Answer.the-variants.{Accepted}
 use Rattle.fields.specs.Table.{table, rows, rowAt, widths, widthsAt, rules, rulesAt, placeFrom, placeOf, byPlace, hasFault, countIn, sizeIn}
-use Rattle.fields.specs.Records.{numbersOf}
-use Rattle.fields.specs.Reading.{answerOf, readField, listed, listedBy, textOf}
+use Rattle.fields.specs.Reading.{readField, listed, listedBy, textOf}
 use Rattle.fields.specs.Writing.{fieldIn, numbersIn, headFits, fitAll, takesAt, writtenAt, writtenOf, bitsIn}
 use Rattle.fields.proofs.Claims.{fields-mean}
 use Rattle.field_host.specs.Items.{itemsOf, fieldItems}
 use Rattle.field_host.specs.Reading.{innerOf, entriesOf}
 use Rattle.field_host.specs.Writing.{fieldGiven, relayBy, recordGiven, sameFound, agree, fits, unfit, checkedAt, given}
-use Rattle.field_host.specs.Claims.{Holds, OwnItems, NothingPassedOver, UnfitRefused, EntriesListed}
+use Rattle.field_host.specs.Claims.{ItemsByName, Holds, OwnItems, NothingPassedOver, UnfitRefused, EntriesListed}
 use Rattle.field_host.proofs.Count.{Covers, within, nothing-else, both, agree-at, record-apart}
-use Rattle.field_host.proofs.Own.{placeNo, place-of, no-sensor, made}
+use Rattle.field_host.proofs.Own.{by-name, placeNo, place-of, no-sensor, made}
+
+pub items-by-name : ItemsByName
+items-by-name = by-name
 
 -- ---- a record's own items
 

@@ -1,18 +1,15 @@
 -- Laws of a record's items: how a search among the parts goes from one to the next, and how many of them are items. Assumes nothing.
-use Prim.Native.Nat.{ℕ, zero, suc, _+_, _-_, _*_, _≤_, _<_}
-use mathlib.Core.Path.{_≡_, refl, sym, ap, _∙_}
+use Prim.Native.Nat.{ℕ, zero, suc, _+_, _-_, _<_}
+use mathlib.Core.Path.{_≡_, refl, sym, _∙_}
 use mathlib.Core.Bool.{Bool, true, false, cond, _&&_}
 use mathlib.Core.List.{List, [], _∷_}
 use native.Mathlib.Numerals.{add-one}
-use native.Mathlib.Decide.{ℕ-discrete}
 use native.Mathlib.Omega.{arith}
 use lib.Dec.{eqb, eqb→eq}
-use lib.IntN.{ℤ}
 use lib.ListN.{length, getD, drop}
 use lib.Seq.{drop-cons}
-use borrow.Author.Tests.{eq-eqb, ne-eqb, eqb-true, eqb-false}
+use borrow.Author.Tests.{eq-eqb, ne-eqb}
 use Rattle.bits.specs.Bits.{bitsOf}
-use Rattle.pairs.specs.declared.Found.{Found}
 use Rattle.pairs.specs.declared.Found.the-variants.{Value, Missing}
 use Rattle.pairs.specs.Pairs.{Pair, findIn}
 use Rattle.fields.specs.declared.Field.{Field}
@@ -26,9 +23,6 @@ use Rattle.field_host.specs.Writing.{sameFound, agree, signedOf, numbers
 
 module _ (ks vs : List ℕ) (i : ℕ) (h : i < length ks) (l : i < length vs) where
   -- the part at i comes next
-  abbrev rest : List Pair
-  rest = pairsBy (drop (i + 1) ks) (drop (i + 1) vs)
-
   step : pairsBy (drop i ks) (drop i vs) ≡ cond (eqb (getD ks i 0) 0) (pairsBy (drop (i + 1) ks) (drop (i + 1) vs)) ((getD ks i 0, getD vs i 0) ∷ pairsBy (drop (i + 1) ks) (drop (i + 1) vs))
   unfolding pairsBy
   step = rw (drop-cons ks i 0 h, drop-cons vs i 0 l, add-one) refl

@@ -15,6 +15,7 @@ use Rattle.fields.specs.Table.{table, rows, placeFrom, placeOf}
 use Rattle.fields.specs.Records.{fieldAt, numbersOf}
 use Rattle.field_host.specs.Items.{itemTable, itemsAt, pairsBy, fieldItems}
 use Rattle.field_host.specs.Writing.{fieldGiven}
+use Rattle.field_host.specs.Claims.{ItemsByName}
 
 -- the place of a field's type
 abbrev pub placeNo : Field → ℕ
@@ -120,3 +121,28 @@ made (F.Capability a b c d) ps q = rw (says (F.Capability a b c d) ps q 201 tt, 
 made (F.IdCode a c) ps q = rw (says (F.IdCode a c) ps q 201 tt, says (F.IdCode a c) ps q 226 tt) refl
 made (F.TestResponse a) ps q = rw (says (F.TestResponse a) ps q 210 tt) refl
 made (F.ControllerAlert a b c d e f g h i j) ps q = rw (says (F.ControllerAlert a b c d e f g h i j) ps q 227 tt, says (F.ControllerAlert a b c d e f g h i j) ps q 228 tt, says (F.ControllerAlert a b c d e f g h i j) ps q 229 tt, says (F.ControllerAlert a b c d e f g h i j) ps q 230 tt, says (F.ControllerAlert a b c d e f g h i j) ps q 231 tt, says (F.ControllerAlert a b c d e f g h i j) ps q 232 tt, says (F.ControllerAlert a b c d e f g h i j) ps q 233 tt, says (F.ControllerAlert a b c d e f g h i j) ps q 234 tt, says (F.ControllerAlert a b c d e f g h i j) ps q 235 tt, says (F.ControllerAlert a b c d e f g h i j) ps q 236 tt) refl
+
+-- the items by name
+pub by-name : ItemsByName
+unfolding findIn pairsBy fieldItems placeFrom rows table itemTable itemsAt
+by-name (F.TacticalUplink a b c d e) = refl
+by-name (F.ElmUplink a b c d e) = refl
+by-name (F.DownlinkRequest a b c d e) = refl
+by-name (F.IdRequest a b) = refl
+by-name (F.CapabilityRequest a b) = refl
+by-name (F.Cancellation a b c d) = refl
+by-name (F.Test a) = refl
+by-name (F.AltimeterCorrection a) = refl
+by-name (F.AtcFailure a) = refl
+by-name (F.SensorFailure a b) = refl
+by-name (F.DabsControlState a b c) = refl
+by-name (F.AtcrbsControlState a b) = refl
+by-name (F.RejectionNotice a b c) = refl
+by-name (F.DeliveryNotice a b c) = refl
+by-name (F.TacticalDownlink a b) = refl
+by-name (F.ElmDownlink a b) = refl
+by-name (F.Utility a b) = refl
+by-name (F.Capability a b c d) = refl
+by-name (F.IdCode a b) = refl
+by-name (F.TestResponse a) = refl
+by-name (F.ControllerAlert a b c d e f g h i j) = refl

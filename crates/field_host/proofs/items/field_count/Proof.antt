@@ -2,12 +2,12 @@
 use borrow.Author.Needs.{needs}
 use mathlib.Core.Path.{_≡_, refl, sym, ap, _∙_}
 use Prim.Native.Nat.{zero-le}
-use lib.ListN.{getD, length}
+use lib.ListN.{getD}
 use Rattle.fields.specs.Table.{placeOf}
 use Rattle.fields.specs.Records.{numbersOf}
 use Rattle.fields.proofs.Rows.{found-within}
 use Rattle.fields.proofs.Taking.{numbers-length}
-use Rattle.field_host.specs.Items.{itemsAt, tallyOf, pairsBy, fieldItems}
+use Rattle.field_host.specs.Items.{tallyOf, fieldItems}
 use Rattle.field_host.proofs.Laws.{tally-pairs, items-length}
 use Rattle.field_host.proofs.items.field_count.Statement.{statement}
 use Rattle.field_host.proofs.items.field_count.Tie as tie

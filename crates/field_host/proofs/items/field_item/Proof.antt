@@ -1,12 +1,12 @@
 -- `field_host::items::field_item` meets its contract. Assumes nothing.
 use borrow.Author.Needs.{needs}
-use mathlib.Core.Path.{_≡_, refl, sym, ap, _∙_}
-use lib.ListN.{getD, length}
+use mathlib.Core.Path.{_≡_, refl, sym, _∙_}
+use lib.ListN.{getD}
 use Rattle.fields.specs.Table.{placeOf}
 use Rattle.fields.specs.Records.{numbersOf}
 use Rattle.fields.proofs.Rows.{found-within}
 use Rattle.pairs.specs.Pairs.{findIn}
-use Rattle.field_host.specs.Items.{itemsAt, pairsBy, fieldItems}
+use Rattle.field_host.specs.Items.{fieldItems}
 use Rattle.field_host.proofs.items.field_item.Statement.{statement}
 use Rattle.field_host.proofs.items.field_item.Tie as tie
 

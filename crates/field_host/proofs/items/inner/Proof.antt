@@ -1,6 +1,6 @@
 -- `field_host::items::inner` meets its contract. Assumes nothing.
 use borrow.Author.Needs.{needs}
-use mathlib.Core.Path.{_≡_, refl, sym, ap, _∙_}
+use mathlib.Core.Path.{sym, ap, _∙_}
 use Rattle.field_host.specs.Reading.{innerOf}
 use Rattle.field_host.proofs.items.inner.Statement.{statement}
 use Rattle.field_host.proofs.items.inner.Tie as tie

@@ -1,6 +1,6 @@
 -- `field_host::items::item_of` meets its contract. Assumes nothing.
 use borrow.Author.Needs.{needs}
-use mathlib.Core.Path.{_≡_, refl, sym, ap, _∙_}
+use mathlib.Core.Path.{sym, ap, _∙_}
 use Rattle.fields.specs.declared.Record.{Record}
 use Rattle.field_host.specs.Items.{itemOf}
 use Rattle.field_host.proofs.items.item_of.Statement.{statement}

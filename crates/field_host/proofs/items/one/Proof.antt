@@ -1,5 +1,4 @@
 -- `field_host::items::one` meets its contract. Assumes nothing.
-use borrow.Author.Needs.{needs}
 use borrow.Author.Tests.{eq-eqb, ne-eqb}
 use native.Mathlib.Omega.{arith}
 use Rattle.field_host.proofs.items.one.Statement.{statement}

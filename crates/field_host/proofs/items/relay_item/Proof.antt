@@ -1,7 +1,7 @@
 -- `field_host::items::relay_item` meets its contract. Assumes nothing.
 use borrow.Author.Needs.{needs}
-use mathlib.Core.Path.{_≡_, refl, sym, ap, _∙_}
-use borrow.Author.Tests.{eq-eqb, ne-eqb}
+use mathlib.Core.Path.{refl, sym}
+use borrow.Author.Tests.{ne-eqb}
 use Rattle.pairs.specs.Pairs.{findIn}
 use Rattle.field_host.proofs.items.relay_item.Statement.{statement}
 use Rattle.field_host.proofs.items.relay_item.Tie as tie

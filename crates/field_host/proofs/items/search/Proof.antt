@@ -1,8 +1,8 @@
 -- `field_host::items::search` meets its contract: what is found among the parts from i on is what is found among all. Assumes nothing.
 use borrow.Author.Needs.{needs}
-use mathlib.Core.Path.{_≡_, refl, sym, ap, _∙_}
+use mathlib.Core.Path.{_≡_, refl, sym, _∙_}
 use native.Mathlib.Omega.{arith}
-use Prim.Native.Nat.{ℕ, _-_, _≤_}
+use Prim.Native.Nat.{_-_, _≤_}
 use lib.ListN.{length, drop, drop-of-length-le}
 use Rattle.pairs.specs.Pairs.{findIn}
 use Rattle.field_host.specs.Items.{pairsBy}

@@ -1,8 +1,8 @@
 -- `field_host::items::tally` meets its contract: the parts passed and those that are left. Assumes nothing.
 use borrow.Author.Needs.{needs}
-use mathlib.Core.Path.{_≡_, refl, sym, ap, _∙_}
+use mathlib.Core.Path.{_≡_}
 use native.Mathlib.Omega.{arith}
-use Prim.Native.Nat.{ℕ, _+_, _-_, _≤_}
+use Prim.Native.Nat.{_+_, _-_, _≤_}
 use lib.ListN.{length, drop, drop-of-length-le}
 use Rattle.field_host.specs.Items.{tallyOf}
 use Rattle.field_host.proofs.Laws.{tally-step}

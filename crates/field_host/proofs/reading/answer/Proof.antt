@@ -1,6 +1,6 @@
 -- `field_host::reading::answer` meets its contract, by the reader's. Assumes nothing.
 use borrow.Author.Needs.{needs}
-use mathlib.Core.Path.{_≡_, refl, sym, ap, _∙_}
+use mathlib.Core.Path.{ap, _∙_}
 use Rattle.fields.specs.declared.Found.{Found}
 use Rattle.fields.specs.Reading.{readField}
 use Rattle.field_host.proofs.reading.answer.Statement.{statement}

@@ -1,6 +1,6 @@
 -- `field_host::reading::outer` meets its contract. Assumes nothing.
 use borrow.Author.Needs.{needs}
-use mathlib.Core.Path.{_≡_, refl, sym, ap, _∙_}
+use mathlib.Core.Path.{sym, ap, _∙_}
 use Rattle.field_host.specs.Reading.{outerOf}
 use Rattle.field_host.proofs.reading.outer.Statement.{statement}
 use Rattle.field_host.proofs.reading.outer.Tie as tie

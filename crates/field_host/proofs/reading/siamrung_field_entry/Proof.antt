@@ -1,6 +1,6 @@
 -- `field_host::reading::siamrung_field_entry` meets its contract, by the reader's. Assumes nothing.
 use borrow.Author.Needs.{needs}
-use mathlib.Core.Path.{_≡_, refl, sym, ap, _∙_}
+use mathlib.Core.Path.{ap, _∙_}
 use mir.Facts.{toZ-ofZ}
 use mir.Syntax.{w64}
 use lib.IntN.{pos}

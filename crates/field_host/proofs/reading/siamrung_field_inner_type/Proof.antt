@@ -1,6 +1,6 @@
 -- `field_host::reading::siamrung_field_inner_type` meets its contract, by the reader's. Assumes nothing.
 use borrow.Author.Needs.{needs}
-use mathlib.Core.Path.{_≡_, refl, sym, ap, _∙_}
+use mathlib.Core.Path.{ap, _∙_}
 use Rattle.field_host.specs.Reading.{innerType}
 use Rattle.field_host.proofs.reading.siamrung_field_inner_type.Statement.{statement}
 use Rattle.field_host.proofs.reading.siamrung_field_inner_type.Tie as tie

@@ -1,7 +1,6 @@
 -- `field_host::reading::siamrung_field_text_length` meets its contract. Assumes nothing.
 use mathlib.Core.Path.{ap, _∙_}
 use lib.ListN.{length}
-use Rattle.fields.specs.declared.Direction.{Direction}
 use Rattle.fields.specs.Reading.{textOf}
 use borrow.Author.Needs.{needs}
 use Rattle.field_host.proofs.reading.siamrung_field_text_length.Statement.{statement}

@@ -1,6 +1,6 @@
 -- `field_host::writing::checked` meets its contract. Assumes nothing.
 use borrow.Author.Needs.{needs}
-use mathlib.Core.Path.{_≡_, refl, sym, ap, _∙_}
+use mathlib.Core.Path.{refl, sym, _∙_}
 use Rattle.field_host.specs.Writing.{checkedAt}
 use Rattle.field_host.proofs.writing.checked.Statement.{statement}
 use Rattle.field_host.proofs.writing.checked.Tie as tie

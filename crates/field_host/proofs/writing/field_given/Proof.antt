@@ -1,6 +1,5 @@
 -- `field_host::writing::field_given` meets its contract: each part by what is given for its item. Assumes nothing.
 use borrow.Author.Needs.{needs}
-use mathlib.Core.Path.{_≡_, refl, sym, ap, _∙_}
 use Rattle.field_host.specs.Writing.{fieldGiven}
 use Rattle.field_host.proofs.writing.field_given.Statement.{statement}
 use Rattle.field_host.proofs.writing.field_given.Tie as tie

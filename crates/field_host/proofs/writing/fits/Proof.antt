@@ -1,6 +1,6 @@
 -- `field_host::writing::fits` meets its contract. Assumes nothing.
 use borrow.Author.Needs.{needs}
-use mathlib.Core.Path.{_≡_, refl, sym, ap, _∙_}
+use mathlib.Core.Path.{refl}
 use borrow.Author.Tests.{eq-eqb, ne-eqb}
 use Rattle.field_host.specs.Writing.{fits}
 use Rattle.field_host.proofs.writing.fits.Statement.{statement}

@@ -1,6 +1,6 @@
 -- `field_host::writing::record_given` meets its contract. Assumes nothing.
 use borrow.Author.Needs.{needs}
-use mathlib.Core.Path.{_≡_, refl, sym, ap, _∙_}
+use mathlib.Core.Path.{refl}
 use Rattle.field_host.proofs.writing.record_given.Statement.{statement}
 use Rattle.field_host.proofs.writing.record_given.Tie as tie
 

@@ -1,6 +1,6 @@
 -- `field_host::writing::record_of` meets its contract. Assumes nothing.
 use borrow.Author.Needs.{needs}
-use mathlib.Core.Path.{_≡_, refl, sym, ap, _∙_}
+use mathlib.Core.Path.{sym, _∙_}
 use borrow.Author.Tests.{eq-eqb, ne-eqb, not-true, not-false}
 use Rattle.fields.proofs.Rows.{found-within}
 use Rattle.field_host.specs.Writing.{given}

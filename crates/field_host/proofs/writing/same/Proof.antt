@@ -1,6 +1,6 @@
 -- `field_host::writing::same` meets its contract. Assumes nothing.
 use borrow.Author.Needs.{needs}
-use mathlib.Core.Path.{_≡_, refl, sym, ap, _∙_}
+use mathlib.Core.Path.{refl}
 use Rattle.field_host.proofs.writing.same.Statement.{statement}
 use Rattle.field_host.proofs.writing.same.Tie as tie
 

@@ -1,6 +1,6 @@
 -- `field_host::writing::siamrung_field_write` meets its contract, by the writer's. Assumes nothing.
 use borrow.Author.Needs.{needs}
-use mathlib.Core.Path.{_≡_, refl, sym, ap, _∙_}
+use mathlib.Core.Path.{ap, _∙_}
 use Rattle.field_host.specs.Writing.{bitsOf}
 use Rattle.field_host.proofs.writing.siamrung_field_write.Statement.{statement}
 use Rattle.field_host.proofs.writing.siamrung_field_write.Tie as tie

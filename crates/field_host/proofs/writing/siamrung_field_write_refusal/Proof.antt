@@ -1,6 +1,6 @@
 -- `field_host::writing::siamrung_field_write_refusal` meets its contract, by the writer's answer. Assumes nothing.
 use borrow.Author.Needs.{needs}
-use mathlib.Core.Path.{_≡_, refl, sym, ap, _∙_}
+use mathlib.Core.Path.{ap, _∙_}
 use Rattle.fields.specs.Writing.{writtenNumber}
 use Rattle.field_host.proofs.writing.siamrung_field_write_refusal.Statement.{statement}
 use Rattle.field_host.proofs.writing.siamrung_field_write_refusal.Tie as tie
