@@ -264,3 +264,24 @@ pub bits-tell-bytes : (s t : List ℕ) → Bytes s → Bytes t → length s ≡ 
 bits-tell-bytes s t bs bt n same =
     ext-getD 0 s t n
     (λ i l. sym (byte-bits s i bs) ∙ bitsOf-same s t (i * 8) 8 (λ k m. same (i * 8 + k) (omega arith)) ∙ byte-bits t i bt)
+
+-- ---- whole bytes
+
+-- one byte more
+pub bitsOf-byte : (s : List ℕ) (j k : ℕ) → getD s (j + k) 0 < 256 → bitsOf s (j * 8) (k * 8 + 8) ≡ bitsOf s (j * 8) (k * 8) * 256 + getD s (j + k) 0
+bitsOf-byte s j k h =
+    let p : j * 8 + k * 8 ≡ (j + k) * 8 = omega arith in
+    bitsOf-join s (j * 8) (k * 8) 8
+    ∙ ap (λ (x : ℕ). bitsOf s (j * 8) (k * 8) * 256 + bitsOf s x 8) p
+    ∙ ap (λ (x : ℕ). bitsOf s (j * 8) (k * 8) * 256 + x) (in-byte s (j + k) 8 (omega arith) ∙ last (getD s (j + k) 0) h)
+  where
+    last : (x : ℕ) → x < 256 → x / 2 ^ (8 - 8) % 2 ^ 8 ≡ x
+    last x h = omega arith
+
+-- n bits out of a number that more of them make: r stand before them and t behind
+pub bitsOf-within : (s : List ℕ) (f r n t : ℕ) → bitsOf s f (r + n + t) / 2 ^ t % 2 ^ n ≡ bitsOf s (f + r) n
+bitsOf-within s f r n t =
+    ap (λ (x : ℕ). x / 2 ^ t % 2 ^ n) (bitsOf-join s f (r + n) t)
+    ∙ ap (λ (x : ℕ). x % 2 ^ n) (digits-div (bitsOf s f (r + n)) (bitsOf-lt s (f + (r + n)) t))
+    ∙ ap (λ (x : ℕ). x % 2 ^ n) (bitsOf-join s f r n)
+    ∙ low (bitsOf s f r) n (bitsOf-lt s (f + r) n)

@@ -3,6 +3,7 @@
 // Relies on nothing; specs/Bits.antt says what each answer means.
 ghost use mathlib.Core.Path.{_≡_};
 ghost use Prim.Native.Nat.{_+_, _-_, _*_, _/_, _%_, _≤_, _<_, _^_};
+ghost use lib.ListN.{getD};
 ghost use Rattle.bits.specs.Bits.{bitAt, bitsOf, withDigit, putBit, putBits};
 
 fn wide(x: u8) -> u64
@@ -45,8 +46,9 @@ fn beyond(n: usize) -> usize
     if 64 <= n { n - 64 } else { 0 }
 }
 
-// The number that the n bits after the first `before` make, the first the heaviest; of more than 64 bits, the number that the last 64 make.
-pub fn read(b: &[u8], before: usize, n: usize) -> u64
+// Bit by bit: the number that the n bits after the first `before` make, the first the heaviest; of more than 64 bits, that of the last 64.
+// For places and widths that no caller in a hurry asks for.
+fn by_digits(b: &[u8], before: usize, n: usize) -> u64
     ensures { λ r. ⌜ r ≡ bitsOf (now (b .entry)) before n % 2 ^ 64 ⌝ }
 {
     let mut v: u64 = 0;
@@ -59,10 +61,58 @@ pub fn read(b: &[u8], before: usize, n: usize) -> u64
 }
 
 fn weight(k: usize) -> u64
-    requires { ⌜ k ≤ 7 ⌝ }
+    requires { ⌜ k ≤ 63 ⌝ }
     ensures { λ r. ⌜ r ≡ 2 ^ k ⌝ }
 {
     1u64 << k
+}
+
+// The byte at i, 0 past the end.
+fn byte_at(b: &[u8], i: usize) -> u64
+    ensures { λ r. ⌜ (r ≡ getD (now (b .entry)) i 0) × (r < 256) ⌝ }
+{
+    if i < b.len() { wide(b[i]) } else { 0 }
+}
+
+// The number that m whole bytes make, from the one at j on.
+fn window(b: &[u8], j: usize, m: usize) -> u64
+    requires { ⌜ (j ≤ 1099511627776) × (m ≤ 8) ⌝ }
+    ensures { λ r. ⌜ r ≡ bitsOf (now (b .entry)) (j * 8) (m * 8) ⌝ }
+{
+    let mut v: u64 = 0;
+    let mut k: usize = 0;
+    while k < m {
+        v = v * 256 + byte_at(b, j + k);
+        k += 1;
+    }
+    v
+}
+
+// A field of at most 32 bits: out of the bytes that it stands in.
+fn near(b: &[u8], before: usize, n: usize) -> u64
+    requires { ⌜ (before ≤ 8589934592) × (n ≤ 32) ⌝ }
+    ensures { λ r. ⌜ r ≡ bitsOf (now (b .entry)) before n ⌝ }
+{
+    let inside = before % 8 + n;
+    let m = (inside + 7) / 8;
+    (window(b, before / 8, m) >> (8 * m - inside)) % weight(n)
+}
+
+// The number that the n bits after the first `before` make, the first the heaviest; of more than 64 bits, the number that the last 64 make.
+pub fn read(b: &[u8], before: usize, n: usize) -> u64
+    ensures { λ r. ⌜ r ≡ bitsOf (now (b .entry)) before n % 2 ^ 64 ⌝ }
+{
+    if 4294967296 < before {
+        return by_digits(b, before, n);
+    }
+    if n <= 32 {
+        return near(b, before, n);
+    }
+    if n <= 64 {
+        let m = n - 32;
+        return near(b, before, m) * 4294967296 + near(b, before + m, 32);
+    }
+    by_digits(b, before, n)
 }
 
 // The byte x with its digit of weight 2 ^ k replaced by v.

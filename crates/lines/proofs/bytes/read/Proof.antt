@@ -5,7 +5,7 @@ use borrow.Author.Tests.{lt-ltb, le-ltb, eq-eqb, ne-eqb}
 use Rattle.reports.specs.Altitude.{signMagnitude}
 use Rattle.lines.specs.Bytes.{readBytes}
 use Rattle.lines.proofs.Tests.{picked, passed}
-use Rattle.lines.proofs.Scans.{read-law, beyond-law}
+use Rattle.lines.proofs.Scans.{places-law, beyond-law}
 use borrow.Author.Needs.{needs}
 use native.Mathlib.Omega.{arith}
 use Rattle.lines.proofs.bytes.read.Statement.{statement}
@@ -85,7 +85,7 @@ returns-4 c =
     let k = t .before in
     let n = k .count-words .ensures in
     let long = k .before .before .if1 .left in
-    read-law signMagnitude _ _ _ _ _ _ (n .0) (omega arith) (t .if3 .left) (s .scan .ensures)
+    places-law signMagnitude _ _ _ _ _ _ (n .0) (omega arith) (t .if3 .left) (s .scan .ensures)
     (λ i.
     a .word .ensures i
     ∷ b .word2 .ensures i
