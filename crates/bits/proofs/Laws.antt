@@ -267,6 +267,9 @@ bits-tell-bytes s t bs bt n same =
 
 -- ---- whole bytes
 
+pub past-end : (s : List ℕ) (i : ℕ) → length s ≤ i → getD s i 0 ≡ 0
+past-end s i h = List·getD-eq-default s 0 h
+
 -- one byte more
 pub bitsOf-byte : (s : List ℕ) (j k : ℕ) → getD s (j + k) 0 < 256 → bitsOf s (j * 8) (k * 8 + 8) ≡ bitsOf s (j * 8) (k * 8) * 256 + getD s (j + k) 0
 bitsOf-byte s j k h =
@@ -285,3 +288,14 @@ bitsOf-within s f r n t =
     ∙ ap (λ (x : ℕ). x % 2 ^ n) (digits-div (bitsOf s f (r + n)) (bitsOf-lt s (f + (r + n)) t))
     ∙ ap (λ (x : ℕ). x % 2 ^ n) (bitsOf-join s f r n)
     ∙ low (bitsOf s f r) n (bitsOf-lt s (f + r) n)
+
+-- a field out of the bytes that it stands in
+pub in-bytes : (s : List ℕ) (f n m v w t : ℕ) → v ≡ bitsOf s (f / 8 * 8) (m * 8) → f % 8 + n + t ≡ m * 8 → w ≡ 2 ^ n → v / 2 ^ t % w ≡ bitsOf s f n
+in-bytes s f n m v w t a e b =
+    let p : f / 8 * 8 + f % 8 ≡ f = omega arith in
+    rw (a, b, sym e) (bitsOf-within s (f / 8 * 8) (f % 8) n t ∙ ap (λ (x : ℕ). bitsOf s x n) p)
+
+-- a field in two parts, of which the second has 32 bits
+pub in-two : (s : List ℕ) (f n m x y : ℕ) → m + 32 ≡ n → n ≤ 64 → x ≡ bitsOf s f m → y ≡ bitsOf s (f + m) 32 → x * 4294967296 + y ≡ bitsOf s f n % 2 ^ 64
+in-two s f n m x y e h a b =
+    rw (a, b) (sym (whole s f n h ∙ ap (bitsOf s f) (sym e) ∙ bitsOf-join s f m 32))

@@ -7,7 +7,7 @@ ghost use lib.ListN.{getD};
 ghost use Rattle.bits.specs.Bits.{bitAt, bitsOf, withDigit, putBit, putBits};
 
 fn wide(x: u8) -> u64
-    ensures { λ r. ⌜ r ≡ x ⌝ }
+    ensures { λ r. ⌜ (r ≡ x) × (r < 256) ⌝ }
 {
     x as u64
 }

@@ -1,8 +1,8 @@
 -- `bits::byte_at` meets its contract: past the end the definition gives 0 as the code does. Assumes nothing.
-use mathlib.Core.Path.{sym, _∙_}
+use mathlib.Core.Path.{sym}
 use native.Mathlib.Omega.{arith}
-use lib.ListN.{List·getD-eq-default}
 use borrow.Author.Needs.{needs}
+use Rattle.bits.proofs.Laws.{past-end}
 use Rattle.bits.proofs.byte_at.Statement.{statement}
 use Rattle.bits.proofs.byte_at.Tie as tie
 
@@ -13,10 +13,10 @@ wide-requires : tie.Need-wide-requires
 wide-requires c κs = search needs
 
 returns : tie.Need-returns
-returns c = (c .wide .ensures, ?)
+returns c = (c .wide .ensures .0, c .wide .ensures .1)
 
 returns-2 : tie.Need-returns-2
-returns-2 c = (sym (List·getD-eq-default _ 0 (omega arith)), omega arith)
+returns-2 c = (sym (past-end _ _ (omega arith)), omega arith)
 
 pub byte-at-spec : {M : Type 1} → statement M
 byte-at-spec = tie.close (tie.spec shared-slice-read-wide wide-requires returns returns-2)

@@ -53,7 +53,7 @@ loop-again c =
 returns : tie.Need-returns Inv-loop μ-loop
 returns c =
     let l = c .before .loop in
-    let e : l .k ≡ l .before .args .m = omega arith in
+    let e : l .k ≡ c .before .before .before .args .m = omega arith in
     rw e at (l .inv .1)
 
 pub window-spec : {M : Type 1} → statement M
