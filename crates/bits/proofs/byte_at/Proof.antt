@@ -16,7 +16,7 @@ returns : tie.Need-returns
 returns c = (c .wide .ensures .0, c .wide .ensures .1)
 
 returns-2 : tie.Need-returns-2
-returns-2 c = (sym (past-end _ _ (omega arith)), omega arith)
+returns-2 c = let a = c .before .before .args in (sym (past-end (a .b .now) (a .i) (omega arith)), omega arith)
 
 pub byte-at-spec : {M : Type 1} → statement M
 byte-at-spec = tie.close (tie.spec shared-slice-read-wide wide-requires returns returns-2)
