@@ -2,7 +2,7 @@
 // Relies on `bits` for the bits of lent bytes and on `refusals` for the names and numbers of what is refused.
 mod table; // the known types, their lengths, their parts, and the rules of the parts
 mod parts; // the parts of a field: their values, their faults, and what the counted ones say
-mod records; // a record from the values of its parts, and back
+pub mod records; // a record from the values of its parts, and back
 mod lists; // the entries of a list: altimeter blocks, addresses, identifiers
 pub mod reading; // a field's bytes to its record, list and text, or a refusal
 pub mod writing; // a record, its list and its text to a field's bytes, or a refusal

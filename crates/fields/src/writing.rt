@@ -4,7 +4,7 @@ ghost use mathlib.Core.Path.{_≡_};
 ghost use Prim.Native.Nat.{ℕ, _+_, _*_, _≤_, _<_, _^_};
 ghost use mathlib.Core.Bool.{true};
 ghost use lib.ListN.{length, getD, replicate};
-ghost use Rattle.fields.specs.Table.{rowAt, RowSmall};
+ghost use Rattle.fields.specs.Table.{placeOf, rowAt, RowSmall};
 ghost use Rattle.fields.specs.Writing.{fieldIn, numbersIn, headBits, headWidths, headValues, fitAll, textLengthBy, headFits, relaysAt, takesAt, bitsAt, putAll, putField, writtenAt, leftAt, writtenOf, leftOf, writtenNumber};
 use crate::Field;
 use crate::Place;
@@ -194,20 +194,40 @@ fn put_field(s: &mut [u8], i: usize, given: Record, list: [i32; 30], text: &[u8]
     bits::write(s, size, (8 - size % 8) % 8, 0);
 }
 
+// What writing a record of the type at place i answers, with so many bytes of text, into so many bytes.
+fn answer_at(i: usize, given: Record, list: [i32; 30], len: usize, room: usize) -> Written
+    requires { ⌜ i < 22 ⌝ }
+    ensures { λ r. ⌜ r ≡ writtenAt i given list len room ⌝ }
+{
+    if !takes(i, given, list, len) {
+        return Written::Refused(FieldRefusal::NotWritable);
+    }
+    let n = bits_at(i, given);
+    if room < (n + 7) / 8 {
+        return Written::Refused(FieldRefusal::NoRoom);
+    }
+    Written::Bits(n)
+}
+
 fn write_at(s: &mut [u8], i: usize, given: Record, list: [i32; 30], text: &[u8]) -> Written
     requires { ⌜ i < 22 ⌝ }
     ensures answer { λ r. ⌜ r ≡ writtenAt i given list (length (now (text .entry))) (length (now (s .entry))) ⌝ }
     ensures left { λ _. ⌜ now (s .exit) ≡ leftAt i given list (now (text .entry)) (now (s .entry)) ⌝ }
 {
-    if !takes(i, given, list, text.len()) {
-        return Written::Refused(FieldRefusal::NotWritable);
-    }
-    let n = bits_at(i, given);
-    if s.len() < (n + 7) / 8 {
-        return Written::Refused(FieldRefusal::NoRoom);
-    }
+    let w = answer_at(i, given, list, text.len(), s.len());
+    let Written::Bits(_) = w else {
+        return w;
+    };
     put_field(s, i, given, list, text);
-    Written::Bits(n)
+    w
+}
+
+// Where a record's type stands in the table.
+fn place_in(given: Record) -> Place
+    ensures { λ r. ⌜ r ≡ placeOf (getD (numbersIn given) 0 0) ⌝ }
+{
+    let v = records::numbers(field_in(given));
+    table::find(v[0])
 }
 
 // Writes a field into lent bytes: its record, its list and its text. Answers how many bits it has, or why nothing was written.
@@ -215,11 +235,20 @@ pub fn write(s: &mut [u8], given: Record, list: [i32; 30], text: &[u8]) -> Writt
     ensures answer { λ r. ⌜ r ≡ writtenOf given list (now (text .entry)) (now (s .entry)) ⌝ }
     ensures left { λ _. ⌜ now (s .exit) ≡ leftOf given list (now (text .entry)) (now (s .entry)) ⌝ }
 {
-    let v = records::numbers(field_in(given));
-    let Place::At(i) = table::find(v[0]) else {
+    let Place::At(i) = place_in(given) else {
         return Written::Refused(FieldRefusal::NotWritable);
     };
     write_at(s, i, given, list, text)
+}
+
+// What `write` answers, without writing.
+pub fn answer(s: &[u8], given: Record, list: [i32; 30], text: &[u8]) -> Written
+    ensures { λ r. ⌜ r ≡ writtenOf given list (now (text .entry)) (now (s .entry)) ⌝ }
+{
+    let Place::At(i) = place_in(given) else {
+        return Written::Refused(FieldRefusal::NotWritable);
+    };
+    answer_at(i, given, list, text.len(), s.len())
 }
 
 // The document's number of a refusal; 0 where there is none.

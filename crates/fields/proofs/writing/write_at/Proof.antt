@@ -1,59 +1,41 @@
--- `fields::writing::write_at` meets its contract: 30 before 31, and a refusal leaves the bytes as they were. Assumes nothing.
+-- `fields::writing::write_at` meets its contract: a refusal leaves the bytes as they were. Assumes nothing.
 use borrow.Author.Needs.{needs}
-use borrow.Author.Tests.{not-true, not-false, lt-ltb, le-ltb}
 use mathlib.Core.Path.{_≡_, refl, sym, ap, _∙_}
-use mathlib.Core.Bool.{true}
-use native.Mathlib.Omega.{arith}
-use lib.ListN.{length}
-use Rattle.fields.specs.Writing.{takesAt, writtenAt, leftAt, putField}
-use Rattle.fields.proofs.Taking.{taken, taken-small}
+use Rattle.fields.proofs.Left.{bits-left, refused-left}
 use Rattle.fields.proofs.writing.write_at.Statement.{statement}
 use Rattle.fields.proofs.writing.write_at.Tie as tie
 
-takes-requires : tie.Need-takes-requires
-takes-requires c κs = search needs
+answer-at-requires : tie.Need-answer-at-requires
+answer-at-requires c κs = search needs
+
+enum-told : tie.Need-enum-told
+enum-told c = search needs
+
+enum-told-2 : tie.Need-enum-told-2
+enum-told-2 c = search needs
 
 returns : tie.Need-returns
-unfolding writtenAt leftAt
-returns c = let e = sym (c .before .takes .ensures) ∙ not-true _ (c .if1 .taken) in (rw e refl, rw e refl)
-
-yes : (c : tie.Else1) → let a = c .before .before .before .before .args in takesAt (a .i) (a .given) (a .list) (length (a .text .now)) ≡ true
-yes c = sym (c .before .takes .ensures) ∙ not-false _ (c .if1 .left)
-
-bits-at-requires : tie.Need-bits-at-requires
-bits-at-requires c κs =
-    let s = c .before .before .before .before in
-    (s .pre, taken-small (s .args .i) (s .args .given) (s .pre) (taken _ _ _ _ (yes c) .fits))
-
-add-if2 : tie.Need-add-if2
-add-if2 c = search needs
-
-returns-2 : tie.Need-returns-2
-unfolding writtenAt leftAt
-returns-2 c =
-    let e = yes (c .before .before) in
-    let n = c .before .bits-at .ensures .0 in
-    let r = lt-ltb _ _ (c .if2 .taken) in
-    (rw (e, ← n, r) refl, rw (e, ← n, r) refl)
+returns c =
+    let e = c .before .before .answer-at .ensures in
+    (e, sym (refused-left _ _ _ _ _ _ (sym e ∙ c .enum-told2 .given .1)))
 
 put-field-requires : tie.Need-put-field-requires
 put-field-requires c κs =
-    let e = c .before .before .before in
-    (e .before .before .before .before .pre, yes e)
+    let t = c .before in
+    let a = t .before .before in
+    let s = a .before .before .before in
+    (s .pre, bits-left _ _ _ (s .args .text .now) (s .args .s .now) _ (sym (a .answer-at .ensures) ∙ t .enum-told .given .1) .0)
 
 same-length : tie.Need-same-length
 same-length c = search needs
 
-returns-3 : tie.Need-returns-3
-unfolding writtenAt leftAt
-returns-3 c =
-    let i = c .before .before .before .before in
-    let e = yes (i .before .before) in
-    let n = i .before .bits-at .ensures .0 in
-    let r = le-ltb _ _ (i .if2 .left) in
-    (rw (e, ← n, r) refl, rw (e, ← n, r) (c .before .before .put-field .ensures))
+returns-2 : tie.Need-returns-2
+returns-2 c =
+    let p = c .before .before in
+    let t = p .before .before in
+    let e = t .before .before .answer-at .ensures in
+    (e, p .put-field .ensures ∙ sym (bits-left _ _ _ _ _ _ (sym e ∙ t .enum-told .given .1) .1))
 
 pub write-at-spec : {M : Type 1} → statement M
 write-at-spec =
-    tie.close
-    (tie.spec takes-requires returns bits-at-requires add-if2 returns-2 put-field-requires same-length returns-3)
+    tie.close (tie.spec answer-at-requires enum-told enum-told-2 returns put-field-requires same-length returns-2)

@@ -1,0 +1,101 @@
+-- The claims of specs/Claims.antt. Assumes nothing.
+use Prim.Native.Nat.{ℕ, zero, suc, _+_, _-_, _*_, _/_, _%_}
+use mathlib.Core.Path.{_≡_, refl, sym, ap, _∙_}
+use mathlib.Core.Bool.{Bool, true, false, cond, not, _&&_}
+use mathlib.Core.List.{List, [], _∷_}
+use native.Mathlib.Omega.{arith}
+use lib.Dec.{eqb}
+use lib.IntN.{ℤ}
+use lib.ListN.{length, getD}
+use borrow.Author.Tests.{eq-eqb, ne-eqb}
+use Rattle.bits.specs.Bits.{Bytes}
+use Rattle.pairs.specs.declared.Found.{Found}
+use Rattle.pairs.specs.declared.Found.the-variants.{Value, Missing}
+use Rattle.pairs.specs.Pairs.{Pair, pairsIn, findIn}
+use Rattle.fields.specs.declared.Direction.{Direction}
+use Rattle.fields.specs.declared.Field.{Field}
+use Rattle.fields.specs.declared.Field.the-variants as F
+use Rattle.fields.specs.declared.Record.{Record}
+use Rattle.fields.specs.declared.Record.the-variants.{Single, Relay}
+use Rattle.fields.specs.declared.Answer.{Answer}
+use Rattle.fields.specs.declared.Answer.the-variants.{Accepted}
+use Rattle.fields.specs.Table.{table, rows, rowAt, widths, widthsAt, rules, rulesAt, placeFrom, placeOf, byPlace, hasFault, countIn, sizeIn}
+use Rattle.fields.specs.Records.{numbersOf}
+use Rattle.fields.specs.Reading.{answerOf, readField, listed, listedBy, textOf}
+use Rattle.fields.specs.Writing.{fieldIn, numbersIn, headFits, fitAll, takesAt, writtenAt, writtenOf, bitsIn}
+use Rattle.fields.proofs.Claims.{fields-mean}
+use Rattle.field_host.specs.Items.{itemsOf, fieldItems}
+use Rattle.field_host.specs.Reading.{innerOf, entriesOf}
+use Rattle.field_host.specs.Writing.{fieldGiven, relayBy, recordGiven, sameFound, agree, fits, unfit, checkedAt, given}
+use Rattle.field_host.specs.Claims.{Holds, OwnItems, UnfitRefused, EntriesListed}
+use Rattle.field_host.proofs.Own.{placeNo, place-of, no-sensor, made}
+
+-- ---- a record's own items
+
+same-self : (x : Found) → sameFound x x ≡ true
+same-self (Value n) = eq-eqb n n refl
+same-self Missing = refl
+
+agree-all : (ps qs : List Pair) → ((n : ℕ) → findIn n ps ≡ findIn n qs) → (n k : ℕ) → agree ps qs n k ≡ true
+unfolding agree
+agree-all ps qs h n zero = refl
+agree-all ps qs h n (suc k) = rw (h n, same-self (findIn n qs)) (agree-all ps qs h (n + 1) k)
+
+-- a relay's items but the sensor are those of the field inside
+inside : (x : ℕ) (f : Field) (n : ℕ) → (n ≡ 237 → ⊥) → findIn n (itemsOf (Relay x f)) ≡ findIn n (fieldItems f)
+unfolding findIn
+inside x f n z = rw (ne-eqb 237 n (λ e. z (sym e))) refl
+
+-- what is made of them
+made-of : (r : Record) (ps : List Pair) → ((n : ℕ) → findIn n ps ≡ findIn n (itemsOf r)) → recordGiven ps (placeNo (fieldIn r)) ≡ r
+unfolding findIn
+made-of (Single f) ps h = ap (λ (x : Found). relayBy x (fieldGiven ps (placeNo f))) (h 237 ∙ no-sensor f) ∙ ap Single (made f ps (λ n z. h n))
+made-of (Relay x f) ps h =
+    ap (λ (y : Found). relayBy y (fieldGiven ps (placeNo f))) (h 237) ∙ ap (Relay x) (made f ps (λ n z. h n ∙ inside x f n z))
+
+pub own-items : OwnItems
+unfolding given checkedAt fits
+own-items r s l h m =
+    let ps = pairsIn s in
+    let e = made-of r ps (h .each) in
+    rw (eq-eqb _ _ m, eq-eqb _ _ (h .whole), place-of (fieldIn r), e, eq-eqb (innerOf r) (innerOf r) refl, eq-eqb _ _ (h .many), agree-all ps (itemsOf r) (h .each) 201 37) refl
+
+-- ---- what is no record
+
+pub unfit-refused : UnfitRefused
+unfolding writtenOf writtenAt takesAt headFits fitAll hasFault rulesAt rules widthsAt widths placeFrom rows table
+unfit-refused l t s = refl
+
+-- ---- how many entries
+
+module _ (n : ℕ) where
+  -- of a record with so many bits
+  counted : (f : Field) → n ≡ bitsIn (Single f) → entriesOf (innerOf (Single f)) n ≡ byPlace 0 (λ i. listed i (numbersIn (Single f))) (placeOf (innerOf (Single f)))
+  unfolding bitsIn sizeIn countIn listedBy rowAt placeFrom rows table
+  counted (F.TacticalUplink a b c d e) h = refl
+  counted (F.ElmUplink a b c d f) h = refl
+  counted (F.DownlinkRequest a b c d e) h = refl
+  counted (F.IdRequest a b) h = refl
+  counted (F.CapabilityRequest a b) h = refl
+  counted (F.Cancellation a b c d) h = refl
+  counted (F.Test a) h = refl
+  counted (F.AltimeterCorrection b) h = omega arith
+  counted (F.AtcFailure a) h = refl
+  counted (F.SensorFailure a c) h = refl
+  counted (F.DabsControlState a b c) h = omega arith
+  counted (F.AtcrbsControlState a b) h = omega arith
+  counted (F.RejectionNotice a b c) h = refl
+  counted (F.DeliveryNotice a b c) h = refl
+  counted (F.TacticalDownlink a b) h = refl
+  counted (F.ElmDownlink a c) h = refl
+  counted (F.Utility a c) h = refl
+  counted (F.Capability a b c d) h = refl
+  counted (F.IdCode a c) h = refl
+  counted (F.TestResponse a) h = refl
+  counted (F.ControllerAlert a b c d e f g h i j) k = refl
+
+pub entries-listed : EntriesListed
+unfolding readField
+entries-listed s n w f b e =
+    let r : readField s n w ≡ record { answer = Accepted (Single f); list = readField s n w .list } = ap (λ (a : Answer). record { answer = a; list = readField s n w .list }) e in
+    counted n f (fields-mean s n w (Single f) (readField s n w .list) (textOf s n w) b .0 (r, refl) .1)
