@@ -4,6 +4,7 @@
  *
  * bench [--small] [--emulated]   compare and measure; --small: once, on little; --emulated: each ratio is marked so, and decides nothing
  * bench --passes                 each job once by each library, through `pass`, for a tool that counts instructions
+ * bench --recording              the full line itself, to standard output
  */
 #define _POSIX_C_SOURCE 200809L
 #include <stdio.h>
@@ -127,8 +128,9 @@ static uint64_t write_field(const struct calls *c, struct input *in)
 struct row {
     char name[48];
     job *run;
-    struct input *small, *large; /* two sizes of a line, or one field */
-    double units_small, units_large;
+    struct input *small, *large; /* short lines with as many words as the long one, so that no branch is learnt by heart; or one field */
+    unsigned pieces;
+    double units;
 };
 
 static struct row rows[80];
@@ -150,13 +152,20 @@ static struct input *line_of(fill_line *make, size_t n)
 static void add_line(const char *name, job *run, fill_line *make, size_t small, size_t large)
 {
     struct row *r = &rows[row_count++];
+    struct input *one;
+    unsigned i;
 
     snprintf(r->name, sizeof r->name, "%s", name);
     r->run = run;
-    r->small = line_of(make, small);
+    r->pieces = (unsigned)(large / small);
+    r->small = calloc(r->pieces, sizeof *r->small);
+    for (i = 0; i < r->pieces; i++) {
+        one = line_of(make, small);
+        r->small[i] = *one;
+        free(one);
+    }
     r->large = line_of(make, large);
-    r->units_small = (double)small;
-    r->units_large = (double)large;
+    r->units = (double)large;
 }
 
 static void add_field(const char *name, unsigned type, int relayed)
@@ -184,22 +193,24 @@ static void add_field(const char *name, unsigned type, int relayed)
         snprintf(r->name, sizeof r->name, "%s field %02X%s", k ? "write" : "read", type, name);
         r->run = runs[k];
         r->large = in;
-        r->units_large = 1;
+        r->units = 1;
     }
 }
 
-static void make_rows(size_t small, size_t large)
+#define SHORT_LINE 1024
+
+static void make_rows(size_t large)
 {
     unsigned k;
 
-    add_line("full of reports: kind, after", walk, full_line, small, large);
-    add_line("full of reports: every item", record_all, full_line, small, large);
-    add_line("mostly idle: kind, after", walk, idle_line, small, large);
-    add_line("one long run: kind, after", walk, long_run, small, large);
-    add_line("bad words, each a run: kind, after", walk, bad_words, small, large);
-    add_line("bad words in one run: kind, after", walk, bad_run, small, large);
+    add_line("full of reports: kind, after", walk, full_line, SHORT_LINE, large);
+    add_line("full of reports: every item", record_all, full_line, SHORT_LINE, large);
+    add_line("mostly idle: kind, after", walk, idle_line, SHORT_LINE, large);
+    add_line("one long run: kind, after", walk, long_run, SHORT_LINE, large);
+    add_line("bad words, each a run: kind, after", walk, bad_words, SHORT_LINE, large);
+    add_line("bad words in one run: kind, after", walk, bad_run, SHORT_LINE, large);
     if (ours.write)
-        add_line("full line written", fill, full_line, small, large);
+        add_line("full line written", fill, full_line, SHORT_LINE, large);
     for (k = 0; ours.field_type && k < 21; k++)
         add_field(plain_types[types[k]].step == 80 ? ", the largest ELM" : plain_types[types[k]].step ? ", the longest list" : "", types[k], 0);
     if (ours.field_type)
@@ -218,26 +229,27 @@ static double now(void)
 
 static volatile uint64_t sink;
 
-static double timed(const struct calls *c, job *run, struct input *in, unsigned times)
+static double timed(const struct calls *c, job *run, struct input *in, unsigned pieces, unsigned times)
 {
     double start = now();
-    unsigned i;
+    unsigned i, k;
 
     for (i = 0; i < times; i++)
-        sink += run(c, in);
+        for (k = 0; k < pieces; k++)
+            sink += run(c, &in[k]);
     return (now() - start) / times;
 }
 
 /* The least seconds of a pass of each, alternately. */
-static void measure(job *run, struct input *in, double *a, double *b)
+static void measure(job *run, struct input *in, unsigned pieces, double *a, double *b)
 {
     unsigned i, times = 1;
 
-    while (rounds > 1 && timed(&plain, run, in, times) * times < least)
+    while (rounds > 1 && timed(&plain, run, in, pieces, times) * times < least)
         times *= 2;
     *a = *b = 1e9;
     for (i = 0; i < rounds; i++) {
-        double x = timed(&ours, run, in, times), y = timed(&plain, run, in, times);
+        double x = timed(&ours, run, in, pieces, times), y = timed(&plain, run, in, pieces, times);
         *a = x < *a ? x : *a;
         *b = y < *b ? y : *b;
     }
@@ -247,15 +259,15 @@ static void print_row(const struct row *r)
 {
     double a, b, c, d;
 
-    measure(r->run, r->large, &a, &b);
+    measure(r->run, r->large, 1, &a, &b);
     if (r->run(&ours, r->large) != r->run(&plain, r->large)) {
         printf("bench: DIFFERENT: %s\n", r->name);
         exit(1);
     }
-    printf("%-40s %10.2f %10.2f %7.2f%s", r->name, 1e-6 * r->units_large / a, 1e-6 * r->units_large / b, a / b, mark);
+    printf("%-40s %10.2f %10.2f %7.2f%s", r->name, 1e-6 * r->units / a, 1e-6 * r->units / b, a / b, mark);
     if (r->small) {
-        measure(r->run, r->small, &c, &d);
-        printf(" %9.2f %9.2f", a / r->units_large / (c / r->units_small), b / r->units_large / (d / r->units_small));
+        measure(r->run, r->small, r->pieces, &c, &d);
+        printf(" %9.2f %9.2f", a / c, b / d);
     }
     printf("\n");
     fflush(stdout);
@@ -278,7 +290,7 @@ static void passes(void)
     for (i = 0; i < row_count; i++) {
         sink += pass(&ours, rows[i].run, rows[i].large);
         sink += pass(&plain, rows[i].run, rows[i].large);
-        printf("%.0f %s\n", rows[i].units_large, rows[i].name);
+        printf("%.0f %s\n", rows[i].units, rows[i].name);
     }
 }
 
@@ -294,12 +306,16 @@ int main(int n, char **words)
             mark = " emulated";
         } else if (strcmp(words[i], "--passes") == 0) {
             once = 1;
+        } else if (strcmp(words[i], "--recording") == 0) {
+            static uint8_t line[MOST_BYTES];
+            full_line(line, MOST_BYTES / 2);
+            return fwrite(line, 1, MOST_BYTES, stdout) == MOST_BYTES ? 0 : 1;
         } else {
-            fprintf(stderr, "usage: bench [--small] [--emulated] [--passes]\n");
+            fprintf(stderr, "usage: bench [--small] [--emulated] [--passes] [--recording]\n");
             return 2;
         }
     }
-    make_rows(1024, times == 4 ? 4096 : 32768);
+    make_rows(times == 4 ? 4096 : 32768);
     if (once) {
         passes();
         return 0;
@@ -309,8 +325,8 @@ int main(int n, char **words)
         printf(", %lu about writing", agree_writing(times));
     if (ours.field_type)
         printf(", %lu about fields", agree_fields(times));
-    printf("\nmillions of words (or fields) a second, the ratio of the costs, and the cost of a word on %.0f words to that on %.0f\n%-40s %10s %10s %7s %9s %9s\n",
-           rows[0].units_large, rows[0].units_small, "", "siamrung", "plain C", "ratio", "siamrung", "plain C");
+    printf("\nmillions of words (or fields) a second, the ratio of the costs, and the cost of a word on a line of %.0f words to that on lines of %d\n%-40s %10s %10s %7s %9s %9s\n",
+           rows[0].units, SHORT_LINE, "", "siamrung", "plain C", "ratio", "siamrung", "plain C");
     for (i = 0; i < row_count; i++)
         print_row(&rows[i]);
     return 0;

@@ -175,12 +175,9 @@ static void mend(uint8_t *b, unsigned type, int largest)
     if (type == 0x44)
         b[11] &= 0xF8;
     if (type == 0x83) {
-        b[8] &= 0xF7;
-        b[9] &= 0xFB;
-        b[10] &= 0xF7;
+        b[8] &= 0xF5;
+        b[10] &= 0xF5;
         b[11] &= 0xC0;
-        b[8] &= 0xFE;
-        b[10] &= 0xFD;
     }
     for (i = 2; type == 0x9B && i < 18; i++)
         b[i] = (uint8_t)((b[i] & 0xF7) == 0x80 ? 0x11 : b[i] & 0xF7);

@@ -11,7 +11,7 @@ use lib.Dec.{eqb, ltb, leb·suc-suc}
 use lib.ListN.{length, getD, take, drop, length-append, length-take, drop-of-length-le, List·getD-eq-default}
 use lib.Seq.{drop-cons, append-snoc, drop-drop, getD-take, getD-drop}
 use borrow.Author.Tests.{lt-ltb, le-ltb, ltb-true, ne-eqb}
-use Rattle.refusals.specs.declared.LineRefusal.the-variants.{PlaceBeyondLine}
+use Rattle.refusals.specs.declared.LineRefusal.the-variants.{PlaceBeyondLine, WordTooWide, EvenWord}
 use Rattle.words.specs.Tests.{pick}
 use Rattle.words.specs.Word.{idle, wide, even, first}
 use Rattle.reports.specs.declared.RunAnswer.{RunAnswer}
@@ -260,6 +260,29 @@ pub places-law : (form : AltitudeForm) (line : List ℕ) (n place : ℕ) (s : Sc
 places-law form line n place s ws o z m h k =
     seen-law form line n place s (s .done) ws o z m h
     (λ i. record { gap = k .gap i; count = k .count i; wide = k .wide i; even = k .even i; done = s .done })
+
+-- a run with a wide word, and one with an even word and no wide one
+pub wide-law : (form : AltitudeForm) (line : List ℕ) (n place : ℕ) (s : Scan) (o : Outcome)
+    → n ≡ length line → n ≤ most → place ≤ n → Seen line place s → s .wide < s .count
+    → o ≡ placed (place + s .gap) (s .count) (A.Refused WordTooWide (s .wide))
+    → o ≡ readAt form line place
+unfolding finished
+wide-law form line n place s o z m h k l f =
+    places-law form line n place s (seven (take (s .count) (drop (place + s .gap) line))) o z m h k refl
+    (f
+    ∙ ap (placed (place + s .gap) (s .count)) (sym (picked _ _ (lt-ltb (s .wide) (s .count) l)))
+    ∙ sym (passed _ _ (ne-eqb (s .count) 0 (λ (e : s .count ≡ 0). omega arith))))
+
+pub even-law : (form : AltitudeForm) (line : List ℕ) (n place : ℕ) (s : Scan) (o : Outcome)
+    → n ≡ length line → n ≤ most → place ≤ n → Seen line place s → s .count ≤ s .wide → s .even < s .count
+    → o ≡ placed (place + s .gap) (s .count) (A.Refused EvenWord (s .even))
+    → o ≡ readAt form line place
+unfolding finished
+even-law form line n place s o z m h k w l f =
+    places-law form line n place s (seven (take (s .count) (drop (place + s .gap) line))) o z m h k refl
+    (f
+    ∙ ap (placed (place + s .gap) (s .count)) (sym (passed _ _ (le-ltb (s .wide) (s .count) w) ∙ picked _ _ (lt-ltb (s .even) (s .count) l)))
+    ∙ sym (passed _ _ (ne-eqb (s .count) 0 (λ (e : s .count ≡ 0). omega arith))))
 
 pub beyond-law : (form : AltitudeForm) (line : List ℕ) (n place : ℕ) → n ≡ length line → n ≤ most → n < place → notTaken PlaceBeyondLine place ≡ readAt form line place
 unfolding readBy

@@ -10,7 +10,9 @@ ghost use Rattle.lines.specs.Scan.{firstAt, afterAt, faultAt, Sound, See
 use crate::Outcome;
 use crate::run::Scan;
 use crate::run::not_taken;
+use crate::run::set_at;
 use refusals::LineRefusal;
+use reports::RunAnswer;
 
 // The most bytes of a line.
 pub const MOST_BYTES: usize = 65536;
@@ -170,6 +172,23 @@ pub fn read(bytes: &[u8], place: usize) -> Outcome
     let s = scan(bytes, place);
     let first = place + s.gap;
     let count = s.count;
+    // a run with a fault is answered without its words
+    let wide = s.wide;
+    if wide < count {
+        return set_at(
+            first,
+            count,
+            RunAnswer::Refused(LineRefusal::WordTooWide, wide),
+        );
+    }
+    let even = s.even;
+    if even < count {
+        return set_at(
+            first,
+            count,
+            RunAnswer::Refused(LineRefusal::EvenWord, even),
+        );
+    }
     s.finish(
         n,
         place,
