@@ -1,1 +1,7 @@
 pub mod Values
+pub mod Signed
+pub mod Sizes
+pub mod Builds
+pub mod Writes
+pub mod Back
+pub mod Claims

@@ -12,7 +12,7 @@ use Rattle.host.specs.declared.items.Item.the-variants as I
 use Rattle.host.specs.Items.{itemOf}
 
 abbrev pub version : ℕ
-version = 1
+version = 2
 
 -- what a place has that is no report
 abbrev pub refusedKind : ℕ

@@ -20,7 +20,7 @@ use reports::values::Values;
 pub extern "C" fn siamrung_version() -> u32
     ensures { λ r. ⌜ r ≡ version ⌝ }
 {
-    1
+    2
 }
 
 // ---- what stands at a place

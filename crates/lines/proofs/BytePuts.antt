@@ -5,13 +5,16 @@ use mathlib.Core.List.{List, [], _∷_, _++_, append-assoc}
 use native.Mathlib.Omega.{arith}
 use native.Mathlib.Numerals.{add-one}
 use lib.ListN.{length, getD, take, drop, set, length-append}
+use lib.Dec.{eqb, ltb}
 use lib.Seq.{drop-cons, take-suc, set-at, append-snoc, drop-drop, length-take-le}
-use borrow.Author.Tests.{lt-ltb, le-ltb, ne-eqb}
+use borrow.Author.Tests.{lt-ltb, le-ltb, ne-eqb, ltb-false, eqb-false}
 use Rattle.refusals.specs.declared.LineRefusal.{LineRefusal}
-use Rattle.refusals.specs.declared.LineRefusal.the-variants.{PlaceBeyondLine, NoRoom}
+use Rattle.refusals.specs.declared.LineRefusal.the-variants.{OddByteCount, PlaceBeyondLine}
+use Rattle.words.specs.Tests.{pick}
 use Rattle.words.specs.Word.{idle}
 use Rattle.reports.specs.declared.Report.{Report}
 use Rattle.reports.specs.declared.Written.{Written}
+use Rattle.reports.specs.declared.Written.the-variants as M
 use Rattle.reports.specs.Altitude.{AltitudeForm}
 use Rattle.reports.specs.Layouts.{wordsOf, written}
 use Rattle.lines.specs.declared.Wrote.{Wrote}
@@ -19,8 +22,8 @@ use Rattle.lines.specs.declared.Wrote.the-variants as W
 use Rattle.lines.specs.Line.{most}
 use Rattle.lines.specs.Bytes.{mostBytes, wordsIn}
 use Rattle.lines.specs.Writing.{room, roomFor, writeAt, put}
-use Rattle.lines.specs.ByteWriting.{bytesOf, writeBytes, bytesLeft, WritesBytes, PutsBytes}
-use Rattle.lines.proofs.Tests.{picked, passed}
+use Rattle.lines.specs.ByteWriting.{bytesOf, writeBytes, roomOf, roomOfMade, answerOf, bytesLeft, WritesBytes, PutsBytes}
+use Rattle.lines.proofs.Tests.{picked, passed, by-test}
 use Rattle.lines.proofs.ByteWords.{words-length}
 use Rattle.lines.proofs.Puts.{within-line, handed, handed-words}
 
@@ -72,13 +75,6 @@ pair-more part ws i h k =
 
 -- ---- words and an idle word
 
-pub no-room : (bytes : List ℕ) (place n : ℕ) (ws : List ℕ) → length ws ≡ n → length bytes / 2 - place ≤ n → PutsBytes bytes place ws (W.Refused NoRoom place) bytes
-no-room bytes place n ws e h =
-    let m = words-length bytes in
-    let r : room (wordsIn bytes) place (length ws) ≡ W.Refused NoRoom place =
-    picked _ _ (lt-ltb (length (wordsIn bytes) - place) (length ws + 1) (omega arith)) in
-    record { answers = sym r; leaves = sym (ap (λ (w : Wrote). bytesLeft w bytes place ws) r) }
-
 pub has-room : (bytes : List ℕ) (place n : ℕ) (ws exit : List ℕ) → length ws ≡ n → n < length bytes / 2 - place
     → exit ≡ put bytes (place * 2) (bytesOf (ws ++ (idle ∷ [])))
     → PutsBytes bytes place ws (W.Next (place + n + 1)) exit
@@ -100,9 +96,9 @@ has-room bytes place n ws exit e h f =
 
 -- ---- what a call answers and leaves
 
-pub refused-writes : (form : AltitudeForm) (bytes : List ℕ) (place : ℕ) (r : Report) (q : LineRefusal)
-    → writeBytes form bytes place r ≡ W.Refused q place → WritesBytes form bytes place r (W.Refused q place) bytes
-refused-writes form bytes place r q e =
+pub refused-writes : (form : AltitudeForm) (bytes : List ℕ) (place : ℕ) (r : Report) (q : LineRefusal) (p : ℕ)
+    → writeBytes form bytes place r ≡ W.Refused q p → WritesBytes form bytes place r (W.Refused q p) bytes
+refused-writes form bytes place r q p e =
     record { answers = sym e; leaves = sym (ap (λ (w : Wrote). bytesLeft w bytes place (wordsOf form r)) e) }
 
 -- within the line: even, and few enough
@@ -133,11 +129,48 @@ words-writes form bytes place r m w exit long odd k e f g p =
           ∙ ap (λ (x : Wrote). bytesLeft x bytes place (wordsOf form r)) (sym a);
     }
 
-pub past-bytes : (form : AltitudeForm) (bytes : List ℕ) (place : ℕ) (r : Report) → length bytes ≤ mostBytes → (length bytes % 2 ≡ 1 → ⊥) → length bytes / 2 < place
-    → writeBytes form bytes place r ≡ W.Refused PlaceBeyondLine place
-unfolding writeAt
-past-bytes form bytes place r m h k =
-    let n = words-length bytes in
-    within-bytes form bytes place r m h
-    ∙ passed _ _ (le-ltb most (length (wordsIn bytes)) (omega arith))
-    ∙ picked _ _ (lt-ltb (length (wordsIn bytes)) place (omega arith))
+-- ---- the answer by numbers alone
+
+made-room : (line : List ℕ) (place : ℕ) (m : Written) → roomOfMade (length line) place m ≡ roomFor line place m
+made-room line place (M.Four a b c d) = refl
+made-room line place (M.Seven a b c d e f g) = refl
+made-room line place (M.Refused q) = refl
+
+pub answer-tells : (form : AltitudeForm) (bytes : List ℕ) (place : ℕ) (r : Report) → answerOf (length bytes) place (written form r) ≡ writeBytes form bytes place r
+unfolding answerOf writeBytes writeAt
+answer-tells form bytes place r =
+    by-test (ltb mostBytes (length bytes)) (λ t. picked _ _ t ∙ sym (picked _ _ t))
+    (λ t.
+    let m : length bytes ≤ mostBytes = ltb-false _ _ t in
+    let e = words-length bytes in
+    let w = wordsIn bytes in
+    let few : length w ≤ most = omega arith in
+    passed _ _ t
+    ∙ ap
+    (λ (x : Wrote). pick (eqb (length bytes % 2) 1) (W.Refused OddByteCount place) x)
+    (ap (λ (k : ℕ). pick (ltb k place) (W.Refused PlaceBeyondLine place) (roomOfMade k place (written form r))) (sym e)
+    ∙ ap (λ (x : Wrote). pick (ltb (length w) place) (W.Refused PlaceBeyondLine place) x) (made-room w place (written form r))
+    ∙ sym (passed _ _ (le-ltb most (length w) few)))
+    ∙ sym (passed _ _ t))
+
+clash : {X : Type 0} (q : LineRefusal) (p x : ℕ) → W.Refused q p ≡ W.Next x → X
+clash q p x e = let z : _≡_ {A = ℕ} 0 1 = cc in absurd (omega arith)
+
+-- where the answer is a place, no test found anything
+pub taken : (size place : ℕ) (m : Written) (x : ℕ) → answerOf size place m ≡ W.Next x
+    → (size ≤ mostBytes) × (size % 2 ≡ 1 → ⊥) × (place ≤ size / 2) × (roomOfMade (size / 2) place m ≡ W.Next x)
+unfolding answerOf
+taken size place m x e =
+    by-test (ltb mostBytes size) (λ t. clash _ _ _ (sym (picked _ _ t) ∙ e))
+    (λ t.
+    by-test (eqb (size % 2) 1) (λ u. clash _ _ _ (sym (picked _ _ u) ∙ sym (passed _ _ t) ∙ e))
+    (λ u.
+    by-test (ltb (size / 2) place) (λ v. clash _ _ _ (sym (picked _ _ v) ∙ sym (passed _ _ u) ∙ sym (passed _ _ t) ∙ e))
+    (λ v. (ltb-false _ _ t, eqb-false _ _ u, ltb-false _ _ v, sym (passed _ _ v) ∙ sym (passed _ _ u) ∙ sym (passed _ _ t) ∙ e))))
+
+pub room-next : (size place n x : ℕ) → place ≤ size → roomOf size place n ≡ W.Next x → place + n < size
+room-next size place n x h e =
+    by-test (ltb (size - place) (n + 1)) (λ t. clash _ _ _ (sym (picked _ _ t) ∙ e))
+    (λ t.
+    let l = ltb-false (size - place) (n + 1) t in
+    omega arith)

@@ -1,13 +1,15 @@
 -- The writer on a line held as bytes, two a word, high byte first: what a call answers, and the bytes that it leaves. Definitions only.
-use Prim.Native.Nat.{ℕ, _*_, _/_, _%_}
+use Prim.Native.Nat.{ℕ, _+_, _-_, _*_, _/_, _%_}
 use mathlib.Core.Path.{_≡_}
 use mathlib.Core.List.{List, [], _∷_, _++_}
 use lib.Dec.{eqb, ltb}
 use lib.ListN.{length, take, drop}
-use Rattle.refusals.specs.declared.LineRefusal.the-variants.{LineTooLong, OddByteCount}
+use Rattle.refusals.specs.declared.LineRefusal.the-variants.{LineTooLong, OddByteCount, PlaceBeyondLine, NoRoom}
 use Rattle.words.specs.Tests.{pick}
 use Rattle.words.specs.Word.{idle}
 use Rattle.reports.specs.declared.Report.{Report}
+use Rattle.reports.specs.declared.Written.{Written}
+use Rattle.reports.specs.declared.Written.the-variants as M
 use Rattle.reports.specs.Altitude.{AltitudeForm}
 use Rattle.reports.specs.Layouts.{wordsOf}
 use Rattle.lines.specs.declared.Wrote.{Wrote}
@@ -26,6 +28,23 @@ writeBytes form bytes place r =
     pick (ltb mostBytes (length bytes)) (W.Refused LineTooLong place)
     (pick (eqb (length bytes % 2) 1) (W.Refused OddByteCount place)
     (writeAt form (wordsIn bytes) place r))
+
+-- the same by numbers alone: so many words in the line, a place among them, n words to be put there
+abbrev pub roomOf : ℕ → ℕ → ℕ → Wrote
+roomOf size place n = pick (ltb (size - place) (n + 1)) (W.Refused NoRoom place) (W.Next (place + n + 1))
+
+abbrev pub roomOfMade : ℕ → ℕ → Written → Wrote
+roomOfMade size place (M.Four a b c d) = roomOf size place 4
+roomOfMade size place (M.Seven a b c d e f g) = roomOf size place 7
+roomOfMade size place (M.Refused q) = W.Refused q place
+
+-- so many bytes, a place, and what a report was made into
+unfoldable pub answerOf : ℕ → ℕ → Written → Wrote
+answerOf size place made =
+    pick (ltb mostBytes size) (W.Refused LineTooLong place)
+    (pick (eqb (size % 2) 1) (W.Refused OddByteCount place)
+    (pick (ltb (size / 2) place) (W.Refused PlaceBeyondLine place)
+    (roomOfMade (size / 2) place made)))
 
 -- the bytes that a call leaves: what stood before the place, the words' bytes, the idle word's, what stood behind; refused, nothing has
 -- changed

@@ -6,7 +6,7 @@ ghost use Prim.Native.Nat.{_+_, _*_, _/_, _≤_, _<_};
 ghost use lib.ListN.{length, take, drop};
 ghost use Rattle.reports.specs.Altitude.{signMagnitude};
 ghost use Rattle.words.specs.Word.{idle};
-ghost use Rattle.lines.specs.ByteWriting.{bytesOf, WritesBytes, PutsBytes};
+ghost use Rattle.lines.specs.ByteWriting.{bytesOf, roomOf, answerOf, writeBytes, WritesBytes, PutsBytes};
 use crate::Wrote;
 use crate::bytes::MOST_BYTES;
 use refusals::LineRefusal;
@@ -30,25 +30,32 @@ fn put_pairs(part: &mut [u8], ws: [u16; 8], n: usize)
     }
 }
 
-// The first n of these words and the idle word behind them, from a place on, or number 10.
+// The first n of these words and the idle word behind them, from a place on that has room for them.
 fn put_spaced(bytes: &mut [u8], place: usize, ws: [u16; 8], n: usize) -> Wrote
-    requires { ⌜ (place ≤ length (now bytes) / 2) × (n < 8) × (take (n + 1) ws ≡ take n ws ++ (idle ∷ [])) ⌝ }
+    requires { ⌜ (place + n < length (now bytes) / 2) × (n < 8) × (take (n + 1) ws ≡ take n ws ++ (idle ∷ [])) ⌝ }
     ensures { λ w. ⌜ PutsBytes (now (bytes .entry)) place (take n ws) w (now (bytes .exit)) ⌝ }
 {
-    if bytes.len() / 2 - place <= n {
-        return Wrote::Refused(LineRefusal::NoRoom, place);
-    }
     let at = place * 2;
     let next = place + n + 1;
     put_pairs(&mut bytes[at..], ws, n + 1);
     Wrote::Next(next)
 }
 
-// A report's words and one idle word, from a place on; places count words.
-pub fn write(bytes: &mut [u8], place: usize, report: Report) -> Wrote
-    ensures { λ w. ⌜ WritesBytes signMagnitude (now (bytes .entry)) place report w (now (bytes .exit)) ⌝ }
+// The place behind n words and an idle word, or number 10.
+fn room(size: usize, place: usize, n: usize) -> Wrote
+    requires { ⌜ (place ≤ size) × (n < 8) ⌝ }
+    ensures { λ w. ⌜ w ≡ roomOf size place n ⌝ }
 {
-    let size = bytes.len();
+    if size - place <= n {
+        return Wrote::Refused(LineRefusal::NoRoom, place);
+    }
+    Wrote::Next(place + n + 1)
+}
+
+// The answer to so many bytes, a place and what a report was made into: all that is tested before a word is written.
+fn answer_to(size: usize, place: usize, made: Written) -> Wrote
+    ensures { λ w. ⌜ w ≡ answerOf size place made ⌝ }
+{
     if MOST_BYTES < size {
         return Wrote::Refused(LineRefusal::LineTooLong, place);
     }
@@ -58,7 +65,30 @@ pub fn write(bytes: &mut [u8], place: usize, report: Report) -> Wrote
     if size / 2 < place {
         return Wrote::Refused(LineRefusal::PlaceBeyondLine, place);
     }
+    match made {
+        Written::Four(_, _, _, _) => room(size / 2, place, 4),
+        Written::Seven(_, _, _, _, _, _, _) => room(size / 2, place, 7),
+        Written::Refused(why) => Wrote::Refused(why, place),
+    }
+}
+
+// What `write` answers to the same arguments; nothing is written.
+pub fn answer(bytes: &[u8], place: usize, report: Report) -> Wrote
+    ensures { λ w. ⌜ w ≡ writeBytes signMagnitude (now (bytes .entry)) place report ⌝ }
+{
     let made = writing::words_of(report);
+    answer_to(bytes.len(), place, made)
+}
+
+// A report's words and one idle word, from a place on; places count words.
+pub fn write(bytes: &mut [u8], place: usize, report: Report) -> Wrote
+    ensures { λ w. ⌜ WritesBytes signMagnitude (now (bytes .entry)) place report w (now (bytes .exit)) ⌝ }
+{
+    let made = writing::words_of(report);
+    let told = answer_to(bytes.len(), place, made);
+    if let Wrote::Refused(why, at) = told {
+        return Wrote::Refused(why, at);
+    }
     match made {
         Written::Four(a, b, c, d) => put_spaced(bytes, place, [a, b, c, d, IDLE, 0, 0, 0], 4),
         Written::Seven(a, b, c, d, e, f, g) => {

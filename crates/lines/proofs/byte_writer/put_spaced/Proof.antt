@@ -7,20 +7,11 @@ use lib.Seq.{length-take-le}
 use Rattle.lines.specs.Writing.{put}
 use Rattle.lines.specs.ByteWriting.{bytesOf}
 use Rattle.lines.proofs.Puts.{put-back}
-use Rattle.lines.proofs.BytePuts.{bytes-length, no-room, has-room}
+use Rattle.lines.proofs.BytePuts.{bytes-length, has-room}
 use borrow.Author.Needs.{needs}
 use native.Mathlib.Omega.{arith}
 use Rattle.lines.proofs.byte_writer.put_spaced.Statement.{statement}
 use Rattle.lines.proofs.byte_writer.put_spaced.Tie as tie
-
-sub-if1 : tie.Need-sub-if1
-sub-if1 c = search needs
-
-returns : tie.Need-returns
-returns c =
-    let a = c .before .before .args in
-    let m : length (a .ws) ≡ 8 = search needs in
-    no-room (a .bytes .now) (a .place) (a .n) (take (a .n) (a .ws)) (length-take-le (a .n) (a .ws) (omega arith)) (c .if1 .taken)
 
 mul-at : tie.Need-mul-at
 mul-at c = search needs
@@ -49,14 +40,14 @@ put-pairs-requires c κs = search needs
 same-length : tie.Need-same-length
 same-length c = search needs
 
-returns-2 : tie.Need-returns-2
-returns-2 c =
-    let s = c .before .before .before .before .before .before in
+returns : tie.Need-returns
+returns c =
+    let s = c .before .before .before .before .before in
     let a = s .args in
     let m : length (a .ws) ≡ 8 = search needs in
     let all = take (a .n + 1) (a .ws) in
     let size : length (bytesOf all) ≡ (a .n + 1) * 2 = bytes-length all ∙ ap (λ (k : ℕ). k * 2) (length-take-le (a .n + 1) (a .ws) (omega arith)) in
-    has-room (a .bytes .now) (a .place) (a .n) (take (a .n) (a .ws)) _ (length-take-le (a .n) (a .ws) (omega arith)) (c .before .before .before .before .if1 .left)
+    has-room (a .bytes .now) (a .place) (a .n) (take (a .n) (a .ws)) _ (length-take-le (a .n) (a .ws) (omega arith)) (omega arith)
     (put-back (a .bytes .now) (a .place * 2) ((a .n + 1) * 2) (bytesOf all) _ size (c .before .before .put-pairs .ensures)
     ∙ ap (λ (l : List ℕ). put (a .bytes .now) (a .place * 2) (bytesOf l)) (s .pre .2))
 
@@ -64,8 +55,6 @@ pub put-spaced-spec : {M : Type 1} → statement M
 put-spaced-spec =
     tie.close
     (tie.spec
-    sub-if1
-    returns
     mul-at
     add-next
     add-next-2
@@ -75,4 +64,4 @@ put-spaced-spec =
     add-put-pairs
     put-pairs-requires
     same-length
-    returns-2)
+    returns)
