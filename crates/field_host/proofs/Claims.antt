@@ -3,16 +3,19 @@ use Prim.Native.Nat.{ℕ, zero, suc, _+_, _-_, _*_, _/_, _%_}
 use mathlib.Core.Path.{_≡_, refl, sym, ap, _∙_}
 use mathlib.Core.Bool.{Bool, true, false, cond, not, _&&_}
 use mathlib.Core.List.{List, [], _∷_}
+use mathlib.Core.Logic.{_⊎_, inl, inr}
 use native.Mathlib.Omega.{arith}
 use lib.Dec.{eqb}
 use lib.IntN.{ℤ}
 use lib.ListN.{length, getD}
-use borrow.Author.Tests.{eq-eqb, ne-eqb}
+use borrow.Author.Tests.{eq-eqb, ne-eqb, eqb-true}
 use Rattle.bits.specs.Bits.{Bytes}
 use Rattle.pairs.specs.declared.Found.{Found}
 use Rattle.pairs.specs.declared.Found.the-variants.{Value, Missing}
 use Rattle.pairs.specs.Pairs.{Pair, pairsIn, findIn}
 use Rattle.fields.specs.declared.Direction.{Direction}
+use Rattle.fields.specs.declared.Place.{Place}
+use Rattle.fields.specs.declared.Place.the-variants.{At, Nowhere}
 use Rattle.fields.specs.declared.Field.{Field}
 use Rattle.fields.specs.declared.Field.the-variants as F
 use Rattle.fields.specs.declared.Record.{Record}
@@ -27,7 +30,8 @@ use Rattle.fields.proofs.Claims.{fields-mean}
 use Rattle.field_host.specs.Items.{itemsOf, fieldItems}
 use Rattle.field_host.specs.Reading.{innerOf, entriesOf}
 use Rattle.field_host.specs.Writing.{fieldGiven, relayBy, recordGiven, sameFound, agree, fits, unfit, checkedAt, given}
-use Rattle.field_host.specs.Claims.{Holds, OwnItems, UnfitRefused, EntriesListed}
+use Rattle.field_host.specs.Claims.{Holds, OwnItems, NothingPassedOver, UnfitRefused, EntriesListed}
+use Rattle.field_host.proofs.Count.{Covers, within, nothing-else, both, agree-at, record-apart}
 use Rattle.field_host.proofs.Own.{placeNo, place-of, no-sensor, made}
 
 -- ---- a record's own items
@@ -59,6 +63,45 @@ own-items r s l h m =
     let ps = pairsIn s in
     let e = made-of r ps (h .each) in
     rw (eq-eqb _ _ m, eq-eqb _ _ (h .whole), place-of (fieldIn r), e, eq-eqb (innerOf r) (innerOf r) refl, eq-eqb _ _ (h .many), agree-all ps (itemsOf r) (h .each) 201 37) refl
+
+-- ---- what is made of what is given
+
+-- a record that it fits
+held : (t : ℕ) (s : List ℕ) (r : Record) → length s % 16 ≡ 0 → fits t (pairsIn s) r ≡ true → Holds s r × (innerOf r ≡ t)
+unfolding fits
+held t s r w e =
+    let ps = pairsIn s in
+    let qs = itemsOf r in
+    let a = both (eqb (innerOf r) t) (eqb (length ps) (length qs) && agree ps qs 201 37) e in
+    let b = both (eqb (length ps) (length qs)) (agree ps qs 201 37) (a .1) in
+    let m = eqb-true (length ps) (length qs) (b .0) in
+    let c : Covers ps qs = λ n v f. let i = within qs (record-apart r) n v f in agree-at ps qs 201 37 (b .1) n (i .0) (omega arith) ∙ f in
+    (record { whole = w; many = m; each = nothing-else qs ps (record-apart r) c m }, eqb-true (innerOf r) t (a .0))
+
+module _ (t : ℕ) (s l : List ℕ) where
+  abbrev Wanted : Record → Type 0
+  Wanted r = (r ≡ unfit) ⊎ (Holds s r × (innerOf r ≡ t) × (length l ≡ 240))
+
+  chosen : (r : Record) (b : Bool) → fits t (pairsIn s) r ≡ b → length s % 16 ≡ 0 → length l ≡ 240 → Wanted (cond b r unfit)
+  chosen r true e w m = let h = held t s r w e in inr (h .0, h .1, m)
+  chosen r false e w m = inl refl
+
+  placed : (p : Place) → length s % 16 ≡ 0 → length l ≡ 240 → Wanted (byPlace unfit (checkedAt t (pairsIn s)) p)
+  unfolding checkedAt
+  placed Nowhere w m = inl refl
+  placed (At i) w m = chosen (recordGiven (pairsIn s) i) (fits t (pairsIn s) (recordGiven (pairsIn s) i)) refl w m
+
+  counted-off : (b : Bool) → eqb (length s % 16) 0 ≡ b → length l ≡ 240 → Wanted (cond b (byPlace unfit (checkedAt t (pairsIn s)) (placeOf t)) unfit)
+  counted-off true e m = placed (placeOf t) (eqb-true _ _ e) m
+  counted-off false e m = inl refl
+
+pub nothing-passed-over : NothingPassedOver
+unfolding given
+nothing-passed-over t s l = go (eqb (length l) 240) refl
+  where
+    go : (b : Bool) → eqb (length l) 240 ≡ b → (given t s l ≡ unfit) ⊎ (Holds s (given t s l) × (innerOf (given t s l) ≡ t) × (length l ≡ 240))
+    go true e = rw e (counted-off t s l (eqb (length s % 16) 0) refl (eqb-true _ _ e))
+    go false e = rw e (inl refl)
 
 -- ---- what is no record
 

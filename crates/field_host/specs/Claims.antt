@@ -2,6 +2,7 @@
 use Prim.Native.Nat.{ℕ, _%_}
 use mathlib.Core.Path.{_≡_}
 use mathlib.Core.List.{List}
+use mathlib.Core.Logic.{_⊎_}
 use lib.IntN.{ℤ}
 use lib.ListN.{length}
 use Rattle.bits.specs.Bits.{Bytes}
@@ -29,6 +30,11 @@ pub record Holds (s : List ℕ) (r : Record) : Type 0 where
 -- a record's own items, given back with its type, are the record: every record's, a relay's too
 abbrev pub OwnItems : Type 0
 OwnItems = (r : Record) (s l : List ℕ) → Holds s r → length l ≡ 240 → given (innerOf r) s l ≡ r
+
+-- and what is given for a record that is made of it is that record's items and no others, and its type: nothing is passed over
+abbrev pub NothingPassedOver : Type 0
+NothingPassedOver =
+    (t : ℕ) (s l : List ℕ) → (given t s l ≡ unfit) ⊎ (Holds s (given t s l) × (innerOf (given t s l) ≡ t) × (length l ≡ 240))
 
 -- what is no record is refused with 30, whatever list, text and bytes go with it
 abbrev pub UnfitRefused : Type 0

@@ -8,6 +8,7 @@ ghost use lib.Dec.{eqb};
 ghost use lib.ListN.{length, getD};
 ghost use Rattle.pairs.specs.Pairs.{findIn};
 ghost use Rattle.fields.specs.Records.{numbersOf};
+ghost use Rattle.field_host.specs.Reading.{innerOf, valueOf};
 ghost use Rattle.field_host.specs.Items.{itemsAt, tallyOf, pairsBy, fieldItems, itemsOf, itemOf};
 use fields::Field;
 use fields::Place;
@@ -117,6 +118,16 @@ pub fn type_of(f: Field) -> u32
     v[0] as u32
 }
 
+// The type that a record's items speak of: of a relay that of the field inside.
+pub fn inner(r: Record) -> u32
+    ensures { λ n. ⌜ n ≡ innerOf r ⌝ }
+{
+    match r {
+        Record::Single(f) => type_of(f),
+        Record::Relay { sensor: _, inner } => type_of(inner),
+    }
+}
+
 fn field_item(f: Field, item: u64) -> Found
     ensures { λ r. ⌜ r ≡ findIn item (fieldItems f) ⌝ }
 {
@@ -163,5 +174,15 @@ pub fn count_of(given: Record) -> usize
     match given {
         Record::Single(f) => field_count(f),
         Record::Relay { sensor: _, inner } => 1 + field_count(inner),
+    }
+}
+
+// The value; 0 where there is none.
+pub fn value(f: Found) -> u64
+    ensures { λ r. ⌜ r ≡ valueOf f ⌝ }
+{
+    match f {
+        Found::Value(x) => x,
+        Found::Missing => 0,
     }
 }

@@ -6,7 +6,7 @@ ghost use Prim.Native.Nat.{_-_};
 ghost use lib.IntN.{pos};
 ghost use lib.ListN.{length, getD};
 ghost use Rattle.fields.specs.Reading.{answerOf, answerNumber, readField, textOf};
-ghost use Rattle.field_host.specs.Reading.{wayOf, outerOf, innerOf, innerType, typeOf, itemIn, isThere, valueOf, entriesOf};
+ghost use Rattle.field_host.specs.Reading.{wayOf, outerOf, innerType, typeOf, itemIn, isThere, valueOf, entriesOf};
 use crate::items;
 use fields::Answer;
 use fields::Direction;
@@ -40,15 +40,6 @@ pub extern "C" fn siamrung_field_refusal(bytes: &[u8], count: usize, from_sensor
     fields::reading::number(answer(bytes, count, from_sensor)) as u32
 }
 
-pub fn inner(r: Record) -> u32
-    ensures { λ n. ⌜ n ≡ innerOf r ⌝ }
-{
-    match r {
-        Record::Single(f) => items::type_of(f),
-        Record::Relay { sensor: _, inner } => items::type_of(inner),
-    }
-}
-
 fn outer(r: Record) -> u32
     ensures { λ n. ⌜ n ≡ outerOf r ⌝ }
 {
@@ -74,7 +65,7 @@ fn inner_type(a: Answer) -> u32
     ensures { λ r. ⌜ r ≡ innerType a ⌝ }
 {
     match a {
-        Answer::Accepted(r) => inner(r),
+        Answer::Accepted(r) => items::inner(r),
         Answer::Refused(_) => 0,
     }
 }
@@ -106,16 +97,6 @@ fn item_in(a: Answer, item: u32) -> Found
     }
 }
 
-// The value; 0 where there is none.
-pub fn value(f: Found) -> u64
-    ensures { λ r. ⌜ r ≡ valueOf f ⌝ }
-{
-    match f {
-        Found::Value(x) => x,
-        Found::Missing => 0,
-    }
-}
-
 #[no_mangle]
 pub extern "C" fn siamrung_field_has(bytes: &[u8], count: usize, from_sensor: u32, item: u32) -> u32
     ensures { λ r. ⌜ r ≡ isThere (itemIn (answerOf (now (bytes .entry)) count (wayOf «from_sensor»)) item) ⌝ }
@@ -137,7 +118,7 @@ pub extern "C" fn siamrung_field_item(
 ) -> u64
     ensures { λ r. ⌜ r ≡ valueOf (itemIn (answerOf (now (bytes .entry)) count (wayOf «from_sensor»)) item) ⌝ }
 {
-    value(item_in(answer(bytes, count, from_sensor), item))
+    items::value(item_in(answer(bytes, count, from_sensor), item))
 }
 
 // ---- its list

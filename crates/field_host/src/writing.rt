@@ -10,7 +10,6 @@ ghost use Rattle.field_host.specs.Items.{itemsOf};
 ghost use Rattle.field_host.specs.Reading.{valueOf};
 ghost use Rattle.field_host.specs.Writing.{fieldGiven, recordGiven, sameFound, agree, fits, unfit, checkedAt, given, signedOf, listGiven, bitsOf};
 use crate::items;
-use crate::reading;
 use fields::Field;
 use fields::Place;
 use fields::Record;
@@ -24,7 +23,7 @@ use pairs::Found;
 fn value(told: &[u8], item: u64) -> u64
     ensures { λ r. ⌜ r ≡ valueOf (findIn item (pairsIn (now (told .entry)))) ⌝ }
 {
-    reading::value(pairs::find(told, item))
+    items::value(pairs::find(told, item))
 }
 
 // The field of the type at place i, of what is given for its items.
@@ -100,7 +99,7 @@ fn agrees(told: &[u8], r: Record) -> bool
 fn fits(told: &[u8], code: u32, r: Record) -> bool
     ensures { λ b. ⌜ b ≡ fits code (pairsIn (now (told .entry))) r ⌝ }
 {
-    if reading::inner(r) != code {
+    if items::inner(r) != code {
         return false;
     }
     if pairs::count(told) != items::count_of(r) {

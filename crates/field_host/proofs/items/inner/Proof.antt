@@ -1,9 +1,9 @@
--- `field_host::reading::inner` meets its contract. Assumes nothing.
+-- `field_host::items::inner` meets its contract. Assumes nothing.
 use borrow.Author.Needs.{needs}
 use mathlib.Core.Path.{_≡_, refl, sym, ap, _∙_}
 use Rattle.field_host.specs.Reading.{innerOf}
-use Rattle.field_host.proofs.reading.inner.Statement.{statement}
-use Rattle.field_host.proofs.reading.inner.Tie as tie
+use Rattle.field_host.proofs.items.inner.Statement.{statement}
+use Rattle.field_host.proofs.items.inner.Tie as tie
 
 enum-known-r : tie.Need-enum-known-r
 enum-known-r c = search needs
