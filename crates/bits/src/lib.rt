@@ -4,7 +4,7 @@
 ghost use mathlib.Core.Path.{_≡_};
 ghost use Prim.Native.Nat.{_+_, _-_, _*_, _/_, _%_, _≤_, _<_, _^_};
 ghost use lib.ListN.{getD};
-ghost use Rattle.bits.specs.Bits.{bitAt, bitsOf, withDigit, putBit, putBits};
+ghost use Rattle.bits.specs.Bits.{bitAt, bitsOf, withDigit, withPart, putBit, putBits};
 
 fn wide(x: u8) -> u64
     ensures { λ r. ⌜ (r ≡ x) × (r < 256) ⌝ }
@@ -102,6 +102,9 @@ fn near(b: &[u8], before: usize, n: usize) -> u64
 pub fn read(b: &[u8], before: usize, n: usize) -> u64
     ensures { λ r. ⌜ r ≡ bitsOf (now (b .entry)) before n % 2 ^ 64 ⌝ }
 {
+    if n == 0 {
+        return 0;
+    }
     if 4294967296 < before {
         return by_digits(b, before, n);
     }
@@ -138,8 +141,8 @@ fn put_digit(s: &mut [u8], before: usize, i: usize, v: u64)
     }
 }
 
-// Replaces the n bits after the first `before` by the n low bits of v, by zeros before them where n is over 64. All other bits stay.
-pub fn write(s: &mut [u8], before: usize, n: usize, v: u64)
+// Bit by bit, for places and widths that no caller in a hurry asks for.
+fn put_digits(s: &mut [u8], before: usize, n: usize, v: u64)
     ensures { λ _. ⌜ now (s .exit) ≡ putBits (now (s .entry)) before n v ⌝ }
 {
     let mut rest = v;
@@ -148,5 +151,65 @@ pub fn write(s: &mut [u8], before: usize, n: usize, v: u64)
         put_digit(s, before, k - 1, rest % 2);
         rest = rest / 2;
         k -= 1;
+    }
+}
+
+// The byte x with its w digits from weight 2 ^ k on replaced by v.
+fn with_part(x: u8, k: usize, w: usize, v: u64) -> u8
+    requires { ⌜ (k + w ≤ 8) × (v < 2 ^ w) ⌝ }
+    ensures { λ r. ⌜ r ≡ withPart x k w v ⌝ }
+{
+    let x = x as u64;
+    let p = weight(k);
+    let above = x / weight(k + w) * weight(w);
+    (((above + v) * p + x % p) % 256) as u8
+}
+
+// Replaces w bits that stand in one byte.
+fn put_part(s: &mut [u8], before: usize, w: usize, v: u64)
+    requires { ⌜ before % 8 + w ≤ 8 ⌝ }
+    ensures { λ _. ⌜ now (s .exit) ≡ putBits (now (s .entry)) before w v ⌝ }
+{
+    let j = before / 8;
+    let k = 8 - before % 8 - w;
+    if j < s.len() {
+        s[j] = with_part(s[j], k, w, v % weight(w));
+    }
+}
+
+// How many of the last k bits before an end stand in one byte.
+fn in_last(end: usize, k: usize) -> usize
+    requires { ⌜ (0 < k) × (k ≤ end) ⌝ }
+    ensures { λ r. ⌜ (0 < r) × (r ≤ k) × ((end - r) % 8 + r ≤ 8) ⌝ }
+{
+    let w = (end - 1) % 8 + 1;
+    if w <= k { w } else { k }
+}
+
+// Byte by byte, the last one first.
+fn put_near(s: &mut [u8], before: usize, n: usize, v: u64)
+    requires { ⌜ (before ≤ 4294967296) × (n ≤ 64) ⌝ }
+    ensures { λ _. ⌜ now (s .exit) ≡ putBits (now (s .entry)) before n v ⌝ }
+{
+    let mut rest = v;
+    let mut k = n;
+    while 0 < k {
+        let w = in_last(before + k, k);
+        put_part(s, before + (k - w), w, rest);
+        rest = rest / weight(w);
+        k -= w;
+    }
+}
+
+// Replaces the n bits after the first `before` by the n low bits of v, by zeros before them where n is over 64. All other bits stay.
+pub fn write(s: &mut [u8], before: usize, n: usize, v: u64)
+    ensures { λ _. ⌜ now (s .exit) ≡ putBits (now (s .entry)) before n v ⌝ }
+{
+    if 4294967296 < before {
+        put_digits(s, before, n, v);
+    } else if n <= 64 {
+        put_near(s, before, n, v);
+    } else {
+        put_digits(s, before, n, v);
     }
 }

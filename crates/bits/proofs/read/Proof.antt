@@ -2,21 +2,24 @@
 use Prim.Native.Nat.{_^_, _<_}
 use native.Mathlib.Omega.{arith}
 use borrow.Author.Needs.{needs}
-use Rattle.bits.proofs.Laws.{bitsOf-below, in-two}
+use Rattle.bits.proofs.Laws.{bitsOf-below, no-bits, in-two}
 use Rattle.bits.proofs.read.Statement.{statement}
 use Rattle.bits.proofs.read.Tie as tie
+
+returns : tie.Need-returns
+returns c = no-bits _ _ _ (c .if1 .taken)
 
 by-digits-requires : tie.Need-by-digits-requires
 by-digits-requires c κs = search needs
 
-returns : tie.Need-returns
-returns c = search needs
+returns-2 : tie.Need-returns-2
+returns-2 c = search needs
 
 near-requires : tie.Need-near-requires
 near-requires c κs = search needs
 
-returns-2 : tie.Need-returns-2
-returns-2 c = search needs
+returns-3 : tie.Need-returns-3
+returns-3 c = search needs
 
 sub-m : tie.Need-sub-m
 sub-m c = search needs
@@ -42,29 +45,30 @@ add-result c =
     let h : c .near3 .result < 2 ^ 32 = rw (c .near3 .ensures) (bitsOf-below 32 _ _ _ (omega arith)) in
     omega (arith, first-below (c .before))
 
-returns-3 : tie.Need-returns-3
-returns-3 c = in-two _ _ _ _ _ _ (omega arith) (omega arith) (c .before .near2 .ensures) (c .near3 .ensures)
+returns-4 : tie.Need-returns-4
+returns-4 c = in-two _ _ _ _ _ _ (omega arith) (omega arith) (c .before .near2 .ensures) (c .near3 .ensures)
 
 by-digits-requires-2 : tie.Need-by-digits-requires-2
 by-digits-requires-2 c κs = search needs
 
-returns-4 : tie.Need-returns-4
-returns-4 c = search needs
+returns-5 : tie.Need-returns-5
+returns-5 c = search needs
 
 pub read-spec : {M : Type 1} → statement M
 read-spec =
     tie.close
     (tie.spec
-    by-digits-requires
     returns
-    near-requires
+    by-digits-requires
     returns-2
+    near-requires
+    returns-3
     sub-m
     near-requires-2
     mul-result
     add-near
     near-requires-3
     add-result
-    returns-3
+    returns-4
     by-digits-requires-2
-    returns-4)
+    returns-5)
