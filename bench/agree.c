@@ -213,8 +213,7 @@ unsigned long agree_fields(unsigned rounds)
                 exit(1);
             }
             same_field(b, length, bits, way);
-            if (ours.field_write)
-                same_written(b, length, bits, way);
+            same_written(b, length, bits, way);
             same_field(b, length, bits, !way);
             same_field(b, length, bits + 1, way);
             same_field(b, length > 8 ? length - 8 : 0, bits > 64 ? bits - 64 : 0, way);

@@ -15,26 +15,12 @@
 #include "bench.h"
 #include "plain_field.h"
 
-#define SIDE(p, writes, fields)                                                                                                             \
-    {p##kind, p##refusal, p##has_values, p##first, p##after, p##named, p##nmi, p##degrees, p##seconds, p##has, p##item, writes, fields}
-#define WRITES(p) p##write, p##write_refusal
-#define FIELDS(p)                                                                                                                           \
-    p##field_refusal, p##field_type, p##field_inner_type, p##field_entries, p##field_text_place, p##field_text_length, p##field_has,        \
-        p##field_item, p##field_entry, p##field_write, p##field_write_refusal
+#define SIDE(p)                                                                                                                             \
+    {p##kind, p##refusal, p##has_values, p##first, p##after, p##named, p##nmi, p##degrees, p##seconds, p##has, p##item, p##write,           \
+     p##write_refusal, p##field_refusal, p##field_type, p##field_inner_type, p##field_entries, p##field_text_place, p##field_text_length,   \
+     p##field_has, p##field_item, p##field_entry, p##field_write, p##field_write_refusal}
 
-#ifdef WITHOUT_WRITING
-#define OUR_WRITES NULL, NULL
-#else
-#define OUR_WRITES WRITES(siamrung_)
-#endif
-#ifdef WITHOUT_FIELDS
-#define OUR_FIELDS NULL, NULL, NULL, NULL, NULL, NULL, NULL, NULL, NULL, NULL, NULL
-#else
-#define OUR_FIELDS FIELDS(siamrung_)
-#endif
-
-const struct calls ours = SIDE(siamrung_, OUR_WRITES, OUR_FIELDS);
-const struct calls plain = SIDE(plain_, WRITES(plain_), FIELDS(plain_));
+const struct calls ours = SIDE(siamrung_), plain = SIDE(plain_);
 
 /* ---- jobs: each takes one pass over its input, and answers a number that depends on all answers */
 
@@ -209,12 +195,10 @@ static void make_rows(size_t large)
     add_line("one long run: kind, after", walk, long_run, SHORT_LINE, large);
     add_line("bad words, each a run: kind, after", walk, bad_words, SHORT_LINE, large);
     add_line("bad words in one run: kind, after", walk, bad_run, SHORT_LINE, large);
-    if (ours.write)
-        add_line("full line written", fill, full_line, SHORT_LINE, large);
-    for (k = 0; ours.field_type && k < 21; k++)
+    add_line("full line written", fill, full_line, SHORT_LINE, large);
+    for (k = 0; k < 21; k++)
         add_field(plain_types[types[k]].step == 80 ? ", the largest ELM" : plain_types[types[k]].step ? ", the longest list" : "", types[k], 0);
-    if (ours.field_type)
-        add_field(", the largest ELM, relayed", SIAMRUNG_TYPE_ELM_DOWNLINK, 1);
+    add_field(", the largest ELM, relayed", SIAMRUNG_TYPE_ELM_DOWNLINK, 1);
 }
 
 /* ---- the clock */
@@ -320,12 +304,10 @@ int main(int n, char **words)
         passes();
         return 0;
     }
-    printf("same answers: %lu about lines", agree_lines(times));
-    if (ours.write)
-        printf(", %lu about writing", agree_writing(times));
-    if (ours.field_type)
-        printf(", %lu about fields", agree_fields(times));
-    printf("\nmillions of words (or fields) a second, the ratio of the costs, and the cost of a word on a line of %.0f words to that on lines of %d\n%-40s %10s %10s %7s %9s %9s\n",
+    printf("same answers: %lu about lines, ", agree_lines(times));
+    printf("%lu about writing, ", agree_writing(times));
+    printf("%lu about fields\n", agree_fields(times));
+    printf("millions of words (or fields) a second, the ratio of the costs, and the cost of a word on a line of %.0f words to that on lines of %d\n%-40s %10s %10s %7s %9s %9s\n",
            rows[0].units, SHORT_LINE, "", "siamrung", "plain C", "ratio", "siamrung", "plain C");
     for (i = 0; i < row_count; i++)
         print_row(&rows[i]);
