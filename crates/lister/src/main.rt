@@ -72,30 +72,43 @@ fn sent(text: &[u8], n: usize) -> bool {
     false
 }
 
+// Where in a text of so many bytes, of which the first `at` are taken, the next line goes: behind them, or, where it may not fit, at the start.
+fn start_of(size: usize, at: usize) -> usize
+    ensures { λ r. ⌜ r ≤ size ⌝ }
+{
+    if size < at {
+        return 0;
+    }
+    if size - at < LONGEST {
+        return 0;
+    }
+    at
+}
+
 // The listing of a recording, line by line into a buffer, which goes out when another line may not fit, and at the end.
 fn list(recording: &[u8], text: &mut [u8]) {
     let mut walk = Walk::new();
     let mut left = CALLS;
     let mut at: usize = 0;
     while 0 < left {
-        if text.len() - at < LONGEST {
+        let start = start_of(text.len(), at);
+        if start < at {
             if !sent(text, at) {
                 return;
             }
-            at = 0;
         }
-        let piece = listing::next(recording, walk, &mut text[at..]);
+        let piece = listing::next(recording, walk, &mut text[start..]);
         match piece {
             Piece::Text(n, next) => {
-                if text.len() - at < n {
+                if text.len() - start < n {
                     lost();
                     return;
                 }
-                at += n;
+                at = start + n;
                 walk = next;
             }
             Piece::End => {
-                sent(text, at);
+                sent(text, start);
                 return;
             }
             Piece::Astray => {

@@ -1,14 +1,13 @@
--- `lister::list` meets its contract: the number of calls left falls, and the text never outgrows its buffer. Assumes nothing.
-use Prim.Native.Nat.{_-_, _≤_}
+-- `lister::list` meets its contract: the number of calls left falls, and the buffer keeps its length. Assumes nothing.
+use Prim.Native.Nat.{_≤_}
 use mathlib.Core.Path.{_≡_}
 use lib.ListN.{length}
 use borrow.Author.Needs.{needs}
-use native.Mathlib.Omega.{arith}
 use Rattle.lister.proofs.list.Statement.{statement}
 use Rattle.lister.proofs.list.Tie as tie
 
 abbrev Inv-loop : tie.InvT-loop
-Inv-loop recording text₀ walk₀ left₀ at₀ text walk left at = (left ≤ 16386) × (length text ≡ length text₀) × (at ≤ length text₀)
+Inv-loop recording text₀ walk₀ left₀ at₀ text walk left at = (left ≤ 16386) × (length text ≡ length text₀)
 
 abbrev μ-loop : tie.MeasureT-loop
 μ-loop recording text₀ walk₀ left₀ at₀ text walk left at = left
@@ -19,8 +18,8 @@ new-requires c κs = search needs
 loop-holds : tie.Need-loop-holds Inv-loop μ-loop
 loop-holds c = search needs
 
-sub-if1 : tie.Need-sub-if1 Inv-loop μ-loop
-sub-if1 c = search needs
+start-of-requires : tie.Need-start-of-requires Inv-loop μ-loop
+start-of-requires c κs = search needs
 
 sent-requires : tie.Need-sent-requires Inv-loop μ-loop
 sent-requires c κs = search needs
@@ -123,7 +122,7 @@ list-spec =
     μ-loop
     new-requires
     loop-holds
-    sub-if1
+    start-of-requires
     sent-requires
     same-length
     returns
