@@ -6,15 +6,15 @@ use mathlib.Core.Logic.{_⊎_, inl, inr, ⊎-elim}
 use mathlib.Core.List.{List, [], _∷_}
 use Prim.Native.Nat.{ℕ, zero, suc, _+_, _-_, _*_, _/_, _%_, _^_, _≤_, _<_}
 use native.Mathlib.Numerals.{add-one, one-add}
-use native.Mathlib.Nat.{lt-of-lt-of-le, mod-lt, mod-eq-of-lt, zero-lt-suc, zero-div, pow-suc, div-add-mod', div-lt-iff-lt-mul, mul-assoc, add-zero}
+use native.Mathlib.Nat.{lt-of-lt-of-le, mul-le-mul-left, mul-comm, add-mul, mod-lt, mod-eq-of-lt, zero-lt-suc, zero-div, pow-suc, div-add-mod', div-lt-iff-lt-mul, mul-assoc, add-zero}
 use native.Mathlib.Decide.{decLt, ℕ-discrete}
 use native.Mathlib.Omega.{arith}
 use lib.Arith.{digits-lt, digits-div, digits-mod}
 use lib.Dec.{lit<}
 use lib.ListN.{length, getD, set, length-set, List·getD-eq-default}
-use lib.Pow.{pow-pos, pow-mono, pow-add, shr-shr, shr-lt, field, mod-mod-pow, mod-pow-add, low}
+use lib.Pow.{pow-pos, pow-mono, pow-add, shr-shr, shr-lt, field, split, mod-mod-pow, mod-pow-add, low}
 use lib.Seq.{getD-set-same, getD-set-other, set-out, ext-getD}
-use Rattle.bits.specs.Bits.{bitAt, bitsOf, withDigit, putBit, putBits, Bytes}
+use Rattle.bits.specs.Bits.{bitAt, bitsOf, withDigit, withPart, putBit, putBits, Bytes}
 
 -- ---- reading
 
@@ -264,3 +264,164 @@ pub bits-tell-bytes : (s t : List ℕ) → Bytes s → Bytes t → length s ≡ 
 bits-tell-bytes s t bs bt n same =
     ext-getD 0 s t n
     (λ i l. sym (byte-bits s i bs) ∙ bitsOf-same s t (i * 8) 8 (λ k m. same (i * 8 + k) (omega arith)) ∙ byte-bits t i bt)
+
+-- ---- whole bytes
+
+pub past-end : (s : List ℕ) (i : ℕ) → length s ≤ i → getD s i 0 ≡ 0
+past-end s i h = List·getD-eq-default s 0 h
+
+-- one byte more
+pub bitsOf-byte : (s : List ℕ) (j k : ℕ) → getD s (j + k) 0 < 256 → bitsOf s (j * 8) (k * 8 + 8) ≡ bitsOf s (j * 8) (k * 8) * 256 + getD s (j + k) 0
+bitsOf-byte s j k h =
+    let p : j * 8 + k * 8 ≡ (j + k) * 8 = omega arith in
+    bitsOf-join s (j * 8) (k * 8) 8
+    ∙ ap (λ (x : ℕ). bitsOf s (j * 8) (k * 8) * 256 + bitsOf s x 8) p
+    ∙ ap (λ (x : ℕ). bitsOf s (j * 8) (k * 8) * 256 + x) (in-byte s (j + k) 8 (omega arith) ∙ last (getD s (j + k) 0) h)
+  where
+    last : (x : ℕ) → x < 256 → x / 2 ^ (8 - 8) % 2 ^ 8 ≡ x
+    last x h = omega arith
+
+-- n bits out of a number that more of them make: r stand before them and t behind
+pub bitsOf-within : (s : List ℕ) (f r n t : ℕ) → bitsOf s f (r + n + t) / 2 ^ t % 2 ^ n ≡ bitsOf s (f + r) n
+bitsOf-within s f r n t =
+    ap (λ (x : ℕ). x / 2 ^ t % 2 ^ n) (bitsOf-join s f (r + n) t)
+    ∙ ap (λ (x : ℕ). x % 2 ^ n) (digits-div (bitsOf s f (r + n)) (bitsOf-lt s (f + (r + n)) t))
+    ∙ ap (λ (x : ℕ). x % 2 ^ n) (bitsOf-join s f r n)
+    ∙ low (bitsOf s f r) n (bitsOf-lt s (f + r) n)
+
+-- a field out of the bytes that it stands in
+pub in-bytes : (s : List ℕ) (f n m v w t : ℕ) → v ≡ bitsOf s (f / 8 * 8) (m * 8) → f % 8 + n + t ≡ m * 8 → w ≡ 2 ^ n → v / 2 ^ t % w ≡ bitsOf s f n
+in-bytes s f n m v w t a e b =
+    let p : f / 8 * 8 + f % 8 ≡ f = omega arith in
+    rw (a, b, sym e) (bitsOf-within s (f / 8 * 8) (f % 8) n t ∙ ap (λ (x : ℕ). bitsOf s x n) p)
+
+-- a field of no bits
+pub no-bits : (s : List ℕ) (f n : ℕ) → n ≡ 0 → 0 ≡ bitsOf s f n % 2 ^ 64
+no-bits s f n e = bitsOf-none s f n e ∙ sym (whole s f n (omega arith))
+
+-- a field in two parts, of which the second has 32 bits
+pub in-two : (s : List ℕ) (f n m x y : ℕ) → m + 32 ≡ n → n ≤ 64 → x ≡ bitsOf s f m → y ≡ bitsOf s (f + m) 32 → x * 4294967296 + y ≡ bitsOf s f n % 2 ^ 64
+in-two s f n m x y e h a b =
+    rw (a, b) (sym (whole s f n h ∙ ap (bitsOf s f) (sym e) ∙ bitsOf-join s f m 32))
+
+-- ---- a part of a byte
+
+same-set : (s : List ℕ) (i : ℕ) → set s i (getD s i 0) ≡ s
+same-set [] i = refl
+same-set (x ∷ s) zero = refl
+same-set (x ∷ s) (suc i) = ap (λ (t : List ℕ). x ∷ t) (same-set s i)
+
+set-twice : (s : List ℕ) (i x y : ℕ) → set (set s i x) i y ≡ set s i y
+set-twice [] i x y = refl
+set-twice (z ∷ s) zero x y = refl
+set-twice (z ∷ s) (suc i) x y = ap (λ (t : List ℕ). z ∷ t) (set-twice s i x y)
+
+-- past the end the value makes no difference
+set-any : (s : List ℕ) (i : ℕ) (f : ℕ → ℕ) (x : ℕ) → set (set s i x) i (f (getD (set s i x) i 0)) ≡ set s i (f x)
+set-any s i f x = go (decLt i (length s))
+  where
+    go : Dec (i < length s) → set (set s i x) i (f (getD (set s i x) i 0)) ≡ set s i (f x)
+    go (yes l) = set-twice s i x _ ∙ ap (λ (y : ℕ). set s i (f y)) (getD-set-same s i x 0 l)
+    go (no l) = set-twice s i x _ ∙ set-out s i _ (omega arith) ∙ sym (set-out s i _ (omega arith))
+
+-- the digits above the lowest k + 1 stay, and the lowest k + 1 are the new digit and the old ones below it
+part-high : (x k d w : ℕ) → d < 2 → withDigit x k d / 2 ^ (k + 1 + w) ≡ x / 2 ^ (k + 1 + w)
+unfolding withDigit
+part-high x k d w h =
+    sym (shr-shr (withDigit x k d) (k + 1) w)
+    ∙ ap (λ (y : ℕ). y / 2 ^ w) (sym (shr-shr (withDigit x k d) k 1) ∙ ap (λ (y : ℕ). y / 2) (digits-div (x / 2 ^ k / 2 * 2 + d) (mod-lt x (pow-pos k))) ∙ digits-div (x / 2 ^ k / 2) h ∙ shr-shr x k 1)
+    ∙ shr-shr x (k + 1) w
+
+part-low : (x k d : ℕ) → d < 2 → withDigit x k d % 2 ^ (k + 1) ≡ d * 2 ^ k + x % 2 ^ k
+unfolding withDigit
+part-low x k d h =
+    ap (λ (e : ℕ). withDigit x k d % 2 ^ e) (let e : k + 1 ≡ 1 + k = omega arith in e)
+    ∙ mod-pow-add (withDigit x k d) 1 k
+    ∙ cc (ap (λ (y : ℕ). y % 2) (digits-div (x / 2 ^ k / 2 * 2 + d) (mod-lt x (pow-pos k))) ∙ digits-mod (x / 2 ^ k / 2) h, low (x / 2 ^ k / 2 * 2 + d) k (mod-lt x (pow-pos k)))
+
+part-shape : (p m k d r : ℕ) → (p + m) * (k * 2) + (d * k + r) ≡ (p * 2 + (m * 2 + d)) * k + r
+part-shape p m k d r =
+    let a : (p + m) * 2 + d ≡ p * 2 + (m * 2 + d) = omega arith in
+    let b : (p + m) * (k * 2) ≡ (p + m) * 2 * k = ap (λ (y : ℕ). (p + m) * y) (mul-comm k 2) ∙ sym (mul-assoc (p + m) 2 k) in
+    ap (λ (y : ℕ). y + (d * k + r)) b ∙ tri ((p + m) * 2 * k) (d * k) r
+    ∙ ap (λ (y : ℕ). y + r) (sym (add-mul ((p + m) * 2) d k) ∙ ap (λ (y : ℕ). y * k) a)
+  where
+    tri : (x y z : ℕ) → x + (y + z) ≡ x + y + z
+    tri x y z = omega arith
+
+-- one digit, and then the w above it
+part-step : (x k w v : ℕ) → withPart (withDigit x k (v % 2)) (k + 1) w (v / 2 % 2 ^ w) ≡ withPart x k (suc w) (v % 2 ^ suc w)
+unfolding withPart
+part-step x k w v =
+    let h = mod-lt v (zero-lt-suc 1) in
+    let e : k + 1 + w ≡ k + suc w = omega arith in
+    let m : v % 2 ^ suc w ≡ v / 2 % 2 ^ w * 2 + v % 2 = ap (λ (n : ℕ). v % 2 ^ n) (sym (add-one w)) ∙ mod-pow-add v w 1 in
+    let a : x / 2 ^ (k + suc w) * 2 ^ suc w ≡ x / 2 ^ (k + suc w) * 2 ^ w * 2 = ap (λ (y : ℕ). x / 2 ^ (k + suc w) * y) (pow-suc 2 w) ∙ sym (mul-assoc (x / 2 ^ (k + suc w)) (2 ^ w) 2) in
+    let b : 2 ^ (k + 1) ≡ 2 ^ k * 2 = pow-add 2 k 1 in
+    rw (part-high x k (v % 2) w h, part-low x k (v % 2) h, e, m, a, b) (part-shape (x / 2 ^ (k + suc w) * 2 ^ w) (v / 2 % 2 ^ w) (2 ^ k) (v % 2) (x % 2 ^ k))
+
+part-none : (x k v : ℕ) → withPart x k 0 (v % 2 ^ 0) ≡ x
+unfolding withPart
+part-none x k v =
+    let a : k + 0 ≡ k = omega arith in
+    let b : x / 2 ^ k * 1 + v % 1 ≡ x / 2 ^ k = omega arith in
+    rw (a, b) (split x k)
+
+-- bits that stand in one byte are a part of it
+pub putBits-part : (s : List ℕ) (f w v : ℕ) → f % 8 + w ≤ 8 → putBits s f w v ≡ set s (f / 8) (withPart (getD s (f / 8) 0) (8 - f % 8 - w) w (v % 2 ^ w))
+unfolding putBits putBit
+putBits-part s f zero v h = sym (ap (set s (f / 8)) (part-none (getD s (f / 8) 0) (8 - f % 8 - 0) v) ∙ same-set s (f / 8))
+putBits-part s f (suc w) v h =
+    let x = getD s (f / 8) 0 in
+    let k = 8 - f % 8 - suc w in
+    let j : (f + w) / 8 ≡ f / 8 = omega arith in
+    let u : 7 - (f + w) % 8 ≡ k = omega arith in
+    let o : 8 - f % 8 - w ≡ k + 1 = omega arith in
+    putBits-part (putBit s (f + w) (v % 2)) f w (v / 2) (omega arith)
+    ∙ rw (j, u, o) (set-any s (f / 8) (λ (y : ℕ). withPart y (k + 1) w (v / 2 % 2 ^ w)) (withDigit x k (v % 2)))
+    ∙ ap (set s (f / 8)) (part-step x k w v)
+
+-- the last b bits first
+pub putBits-join : (s : List ℕ) (f a b v : ℕ) → putBits s f (a + b) v ≡ putBits (putBits s (f + a) b v) f a (v / 2 ^ b)
+unfolding putBits
+putBits-join s f a zero v =
+    let e : v ≡ v / 2 ^ 0 = omega arith in
+    rw (add-zero a) (ap (putBits s f a) e)
+putBits-join s f a (suc b) v =
+    let e : a + suc b ≡ suc (a + b) = omega arith in
+    let p : f + a + b ≡ f + (a + b) = omega arith in
+    let q : v / 2 / 2 ^ b ≡ v / 2 ^ suc b = shr-shr v 1 b ∙ ap (λ (n : ℕ). v / 2 ^ n) (one-add b) in
+    rw (e, p) (putBits-join (putBit s (f + (a + b)) (v % 2)) f a b (v / 2) ∙ ap (putBits _ f a) q)
+
+-- a byte stays a byte
+pub withPart-lt : (x k w v : ℕ) → x < 256 → k + w ≤ 8 → v < 2 ^ w → withPart x k w v < 256
+unfolding withPart
+withPart-lt x k w v hx hk hv =
+    let a = 8 - (k + w) in
+    let e : a + (k + w) ≡ 8 = omega arith in
+    let f : a + (w + k) ≡ 8 = omega arith in
+    let q : x / 2 ^ (k + w) < 2 ^ a = shr-lt a (k + w) (rw e hx) in
+    let z : 2 ^ a * 2 ^ w * 2 ^ k ≡ 256 =
+    mul-assoc (2 ^ a) (2 ^ w) (2 ^ k) ∙ ap (λ (y : ℕ). 2 ^ a * y) (sym (pow-add 2 w k)) ∙ sym (pow-add 2 a (w + k)) ∙ ap (λ (y : ℕ). 2 ^ y) f in
+    rw z at (digits-lt (digits-lt q hv) (mod-lt x (pow-pos k)))
+
+-- and past the end they are none
+pub putBits-past : (s : List ℕ) (f w v : ℕ) → f % 8 + w ≤ 8 → length s ≤ f / 8 → putBits s f w v ≡ s
+putBits-past s f w v h l = putBits-part s f w v h ∙ set-out s (f / 8) _ l
+
+-- what is added up on the way to such a byte is below 256 too
+pub part-fits : (x k w v p h q : ℕ) → p ≡ 2 ^ k → h ≡ 2 ^ (k + w) → q ≡ 2 ^ w → x < 256 → k + w ≤ 8 → v < 2 ^ w
+    → (x / h * q + v < 256) × ((x / h * q + v) * p + x % p < 256)
+unfolding withPart
+part-fits x k w v p h q a b c hx hk hv =
+    let z = withPart-lt x k w v hx hk hv in
+    rw (a, b, c) (under (x / 2 ^ (k + w) * 2 ^ w + v) (2 ^ k) (x % 2 ^ k) (pow-pos k) z, z)
+  where
+    under : (t m r : ℕ) → 0 < m → t * m + r < 256 → t < 256
+    under t m r h l = let e : t * 1 ≤ t * m = mul-le-mul-left t h in omega arith
+
+-- the last w of k bits first, as a loop's step has it
+pub putBits-last : (s : List ℕ) (f k w v q : ℕ) → w ≤ k → q ≡ 2 ^ w → putBits s f k v ≡ putBits (putBits s (f + (k - w)) w v) f (k - w) (v / q)
+putBits-last s f k w v q h e =
+    let n : k ≡ k - w + w = omega arith in
+    ap (λ (m : ℕ). putBits s f m v) n ∙ putBits-join s f (k - w) w v ∙ ap (λ (m : ℕ). putBits (putBits s (f + (k - w)) w v) f (k - w) (v / m)) (sym e)

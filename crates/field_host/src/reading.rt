@@ -26,9 +26,7 @@ fn way(from_sensor: u32) -> Direction
 fn answer(bytes: &[u8], count: usize, from_sensor: u32) -> Answer
     ensures { λ r. ⌜ r ≡ answerOf (now (bytes .entry)) count (wayOf «from_sensor») ⌝ }
 {
-    let found = fields::reading::read(bytes, count, way(from_sensor));
-    let a = found.answer;
-    a
+    fields::reading::judge(bytes, count, way(from_sensor))
 }
 
 // ---- what the field is

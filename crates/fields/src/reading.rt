@@ -239,8 +239,8 @@ fn outer(b: &[u8], count: usize) -> Passed
     Passed::Sound
 }
 
-// The answer alone.
-fn judge(b: &[u8], count: usize, way: Direction) -> Answer
+// The answer alone, for callers that ask for nothing of the list.
+pub fn judge(b: &[u8], count: usize, way: Direction) -> Answer
     ensures { λ r. ⌜ r ≡ answerOf (now (b .entry)) count way ⌝ }
 {
     let o = outer(b, count);

@@ -1,5 +1,6 @@
 pub mod Tests
 pub mod Scans
+pub mod Places
 pub mod ByteWords
 pub mod Puts
 pub mod Runs

@@ -11,7 +11,7 @@ use lib.Dec.{eqb, ltb, leb·suc-suc}
 use lib.ListN.{length, getD, take, drop, length-append, length-take, drop-of-length-le, List·getD-eq-default}
 use lib.Seq.{drop-cons, append-snoc, drop-drop, getD-take, getD-drop}
 use borrow.Author.Tests.{lt-ltb, le-ltb, ltb-true, ne-eqb}
-use Rattle.refusals.specs.declared.LineRefusal.the-variants.{PlaceBeyondLine}
+use Rattle.refusals.specs.declared.LineRefusal.the-variants.{PlaceBeyondLine, WordTooWide, EvenWord}
 use Rattle.words.specs.Tests.{pick}
 use Rattle.words.specs.Word.{idle, wide, even, first}
 use Rattle.reports.specs.declared.RunAnswer.{RunAnswer}
@@ -24,7 +24,7 @@ use Rattle.reports.proofs.Tests.{by-pick}
 use Rattle.lines.specs.declared.run.Scan.{Scan}
 use Rattle.lines.specs.declared.Outcome.{Outcome}
 use Rattle.lines.specs.Line.{most, gap, stretch, runIn, outcomeAt, placed, notTaken, readBy, readAt}
-use Rattle.lines.specs.Scan.{start, firstMore, stepOf, scanned, Scanned, finished}
+use Rattle.lines.specs.Scan.{start, firstMore, stepOf, scanned, Scanned, Seen, finished}
 use Rattle.lines.proofs.Tests.{picked, passed, by-test}
 
 -- ---- one word more of the line
@@ -219,17 +219,15 @@ finish-seen form g (w ∷ ws) d n place =
     passed _ _ (ne-eqb (suc (length ws)) 0 (λ (z : suc (length ws) ≡ 0). omega arith))
     ∙ ap (placed (place + g) (suc (length ws))) (first-seven form (w ∷ ws) (suc (length ws)) (first wide (w ∷ ws)) (first even (w ∷ ws)))
 
--- what the reader of every form of a line cites where it answers
-pub read-law : (form : AltitudeForm) (line : List ℕ) (n place : ℕ) (s : Scan) (ws : List ℕ) (o : Outcome)
-    → n ≡ length line → n ≤ most → place ≤ n → Scanned line place s
+-- what the readers cite where they answer: all that is there was seen
+pub seen-law : (form : AltitudeForm) (line : List ℕ) (n place : ℕ) (s : Scan) (d : Bool) (ws : List ℕ) (o : Outcome)
+    → n ≡ length line → n ≤ most → place ≤ n → s ≡ seen (gap (drop place line)) (runIn (drop place line)) d
     → ws ≡ seven (take (s .count) (drop (place + s .gap) line))
     → o ≡ finished form s n place ws
     → o ≡ readAt form line place
 unfolding readBy first
-read-law form line n place s ws o z m h k q f =
+seen-law form line n place s d ws o z m h e q f =
     let rest = drop place line in
-    let r = gap-seen 0 rest in
-    let e : s ≡ seen (gap rest) (runIn rest) (r .0) = k .same ∙ r .1 ∙ ap (λ (g : ℕ). seen g (runIn rest) (r .0)) (zero-add (gap rest)) in
     let run : take (s .count) (drop (place + s .gap) line) ≡ runIn rest =
     ap (λ (t : Scan). take (t .count) (drop (place + t .gap) line)) e
     ∙ ap (take (length (runIn rest))) (sym (drop-drop (gap rest) place line))
@@ -238,8 +236,53 @@ read-law form line n place s ws o z m h k q f =
     ∙ ap (λ (j : ℕ). finished form s j place ws) z
     ∙ ap (finished form s (length line) place) (q ∙ ap seven run)
     ∙ ap (λ (t : Scan). finished form t (length line) place (seven (runIn rest))) e
-    ∙ finish-seen form (gap rest) (runIn rest) (r .0) (length line) place
+    ∙ finish-seen form (gap rest) (runIn rest) d (length line) place
     ∙ sym (passed _ _ (le-ltb most (length line) (omega arith)) ∙ passed _ _ (le-ltb (length line) place (omega arith)))
+
+-- word by word
+pub read-law : (form : AltitudeForm) (line : List ℕ) (n place : ℕ) (s : Scan) (ws : List ℕ) (o : Outcome)
+    → n ≡ length line → n ≤ most → place ≤ n → Scanned line place s
+    → ws ≡ seven (take (s .count) (drop (place + s .gap) line))
+    → o ≡ finished form s n place ws
+    → o ≡ readAt form line place
+unfolding first
+read-law form line n place s ws o z m h k =
+    let rest = drop place line in
+    let r = gap-seen 0 rest in
+    seen-law form line n place s (r .0) ws o z m h (k .same ∙ r .1 ∙ ap (λ (g : ℕ). seen g (runIn rest) (r .0)) (zero-add (gap rest)))
+
+-- by places
+pub places-law : (form : AltitudeForm) (line : List ℕ) (n place : ℕ) (s : Scan) (ws : List ℕ) (o : Outcome)
+    → n ≡ length line → n ≤ most → place ≤ n → Seen line place s
+    → ws ≡ seven (take (s .count) (drop (place + s .gap) line))
+    → o ≡ finished form s n place ws
+    → o ≡ readAt form line place
+places-law form line n place s ws o z m h k =
+    seen-law form line n place s (s .done) ws o z m h
+    (λ i. record { gap = k .gap i; count = k .count i; wide = k .wide i; even = k .even i; done = s .done })
+
+-- a run with a wide word, and one with an even word and no wide one
+pub wide-law : (form : AltitudeForm) (line : List ℕ) (n place : ℕ) (s : Scan) (o : Outcome)
+    → n ≡ length line → n ≤ most → place ≤ n → Seen line place s → s .wide < s .count
+    → o ≡ placed (place + s .gap) (s .count) (A.Refused WordTooWide (s .wide))
+    → o ≡ readAt form line place
+unfolding finished
+wide-law form line n place s o z m h k l f =
+    places-law form line n place s (seven (take (s .count) (drop (place + s .gap) line))) o z m h k refl
+    (f
+    ∙ ap (placed (place + s .gap) (s .count)) (sym (picked _ _ (lt-ltb (s .wide) (s .count) l)))
+    ∙ sym (passed _ _ (ne-eqb (s .count) 0 (λ (e : s .count ≡ 0). omega arith))))
+
+pub even-law : (form : AltitudeForm) (line : List ℕ) (n place : ℕ) (s : Scan) (o : Outcome)
+    → n ≡ length line → n ≤ most → place ≤ n → Seen line place s → s .count ≤ s .wide → s .even < s .count
+    → o ≡ placed (place + s .gap) (s .count) (A.Refused EvenWord (s .even))
+    → o ≡ readAt form line place
+unfolding finished
+even-law form line n place s o z m h k w l f =
+    places-law form line n place s (seven (take (s .count) (drop (place + s .gap) line))) o z m h k refl
+    (f
+    ∙ ap (placed (place + s .gap) (s .count)) (sym (passed _ _ (le-ltb (s .wide) (s .count) w) ∙ picked _ _ (lt-ltb (s .even) (s .count) l)))
+    ∙ sym (passed _ _ (ne-eqb (s .count) 0 (λ (e : s .count ≡ 0). omega arith))))
 
 pub beyond-law : (form : AltitudeForm) (line : List ℕ) (n place : ℕ) → n ≡ length line → n ≤ most → n < place → notTaken PlaceBeyondLine place ≡ readAt form line place
 unfolding readBy

@@ -5,11 +5,14 @@ ghost use Prim.Native.Nat.{_+_, _*_, _≤_, _<_};
 ghost use lib.ListN.{length, getD, take, drop};
 ghost use Rattle.reports.specs.Altitude.{signMagnitude};
 ghost use Rattle.lines.specs.Bytes.{wordsIn, readBytes};
-ghost use Rattle.lines.specs.Scan.{Scanned};
+ghost use Rattle.words.specs.Word.{wide, even};
+ghost use Rattle.lines.specs.Scan.{firstAt, afterAt, faultAt, Sound, Seen};
 use crate::Outcome;
 use crate::run::Scan;
 use crate::run::not_taken;
+use crate::run::set_at;
 use refusals::LineRefusal;
+use reports::RunAnswer;
 
 // The most bytes of a line.
 pub const MOST_BYTES: usize = 65536;
@@ -36,22 +39,109 @@ fn word_at(bytes: &[u8], i: usize) -> u16
     widened(bytes[i * 2]) * 256 + widened(bytes[i * 2 + 1])
 }
 
-// Along the line from a place, up to the end of the run.
-fn scan(bytes: &[u8], place: usize) -> Scan
+// The place of the first word that is not idle, from a place on.
+fn skip(bytes: &[u8], place: usize) -> usize
     requires { ⌜ place ≤ length (wordsIn (now bytes)) ⌝ }
-    ensures { λ r. ⌜ Scanned (wordsIn (now (bytes .entry))) place r ⌝ }
+    ensures { λ r. ⌜ (r ≡ firstAt (wordsIn (now (bytes .entry))) place) × (r ≤ length (wordsIn (now (bytes .entry)))) ⌝ }
 {
     let n = count_words(bytes);
-    let mut s = Scan::new();
     let mut i = place;
     while i < n {
-        if s.done {
-            return s;
+        if words::is_idle(word_at(bytes, i)) {
+            i += 1;
+        } else {
+            return i;
         }
-        s = s.step(word_at(bytes, i));
+    }
+    i
+}
+
+// Along the words of a run that have no fault. An idle word is even, so it needs no test of its own.
+fn pass(bytes: &[u8], from: usize) -> usize
+    requires { ⌜ from ≤ length (wordsIn (now bytes)) ⌝ }
+    ensures { λ r. ⌜ Sound (wordsIn (now (bytes .entry))) from r ⌝ }
+{
+    let n = count_words(bytes);
+    let mut i = from;
+    while i < n {
+        let w = word_at(bytes, i);
+        if words::is_wide(w) {
+            return i;
+        }
+        if words::is_odd(w) {
+            i += 1;
+        } else {
+            return i;
+        }
+    }
+    i
+}
+
+// The place after the run that begins at a place.
+fn run_end(bytes: &[u8], from: usize) -> usize
+    requires { ⌜ from ≤ length (wordsIn (now bytes)) ⌝ }
+    ensures { λ r. ⌜ (r ≡ afterAt (wordsIn (now (bytes .entry))) from) × (r ≤ length (wordsIn (now (bytes .entry)))) ⌝ }
+{
+    let n = count_words(bytes);
+    let mut i = from;
+    while i < n {
+        if words::is_idle(word_at(bytes, i)) {
+            return i;
+        }
         i += 1;
     }
-    s
+    i
+}
+
+// The place of the first wide word of a run that begins and ends there, its end where there is none.
+fn first_wide(bytes: &[u8], from: usize, after: usize) -> usize
+    requires { ⌜ (after ≡ afterAt (wordsIn (now bytes)) from) × (after ≤ length (wordsIn (now bytes))) ⌝ }
+    ensures { λ r. ⌜ r ≡ faultAt wide (wordsIn (now (bytes .entry))) from ⌝ }
+{
+    let mut i = from;
+    while i < after {
+        if words::is_wide(word_at(bytes, i)) {
+            return i;
+        }
+        i += 1;
+    }
+    i
+}
+
+// The same of the first even word.
+fn first_even(bytes: &[u8], from: usize, after: usize) -> usize
+    requires { ⌜ (after ≡ afterAt (wordsIn (now bytes)) from) × (after ≤ length (wordsIn (now bytes))) ⌝ }
+    ensures { λ r. ⌜ r ≡ faultAt even (wordsIn (now (bytes .entry))) from ⌝ }
+{
+    let mut i = from;
+    while i < after {
+        if words::is_odd(word_at(bytes, i)) {
+            i += 1;
+        } else {
+            return i;
+        }
+    }
+    i
+}
+
+// What there is to see from a place on. Most runs have no fault and are passed once; behind a first fault the end, the first wide and the
+// first even word are looked for one after the other, each by a loop that stops at what it looks for.
+fn scan(bytes: &[u8], place: usize) -> Scan
+    requires { ⌜ place ≤ length (wordsIn (now bytes)) ⌝ }
+    ensures { λ r. ⌜ Seen (wordsIn (now (bytes .entry))) place r ⌝ }
+{
+    let first = skip(bytes, place);
+    let sound = pass(bytes, first);
+    let after = run_end(bytes, sound);
+    let wide = first_wide(bytes, sound, after);
+    let even = first_even(bytes, sound, after);
+    Scan {
+        gap: first - place,
+        count: after - first,
+        wide: wide - first,
+        even: even - first,
+        done: false,
+    }
 }
 
 // Word k of the run of so many words at a place, 0 past its end.
@@ -82,6 +172,23 @@ pub fn read(bytes: &[u8], place: usize) -> Outcome
     let s = scan(bytes, place);
     let first = place + s.gap;
     let count = s.count;
+    // a run with a fault is answered without its words
+    let wide = s.wide;
+    if wide < count {
+        return set_at(
+            first,
+            count,
+            RunAnswer::Refused(LineRefusal::WordTooWide, wide),
+        );
+    }
+    let even = s.even;
+    if even < count {
+        return set_at(
+            first,
+            count,
+            RunAnswer::Refused(LineRefusal::EvenWord, even),
+        );
+    }
     s.finish(
         n,
         place,

@@ -46,7 +46,7 @@ fn first_more(n: usize, first: usize, fault: bool) -> usize
 }
 
 // A run's answer, at its place in the line.
-fn set_at(first: usize, n: usize, answer: RunAnswer) -> Outcome
+pub fn set_at(first: usize, n: usize, answer: RunAnswer) -> Outcome
     requires { ⌜ (first + n < 2 ^ 64) × (answerOffset answer ≤ n) ⌝ }
     ensures { λ r. ⌜ r ≡ placed first n answer ⌝ }
 {

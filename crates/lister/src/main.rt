@@ -7,6 +7,7 @@ ghost use lib.ListN.{length};
 use libc::STDERR_FILENO;
 use libc::STDIN_FILENO;
 use libc::STDOUT_FILENO;
+use listing::LONGEST;
 use listing::Piece;
 use listing::Walk;
 
@@ -46,12 +47,12 @@ fn take_in(buffer: &mut [u8]) -> Input
     }
 }
 
-// The first n bytes of a line, and whether they all went out.
-fn put_out(line: &[u8], n: usize) -> bool {
-    if line.len() < n {
+// The first n bytes of a text, and whether they all went out.
+fn put_out(text: &[u8], n: usize) -> bool {
+    if text.len() < n {
         return false;
     }
-    io::write_all(STDOUT_FILENO, &line[0..n])
+    io::write_all(STDOUT_FILENO, &text[0..n])
 }
 
 // What no walk from the start comes to (the claim Whole of listing), and is named all the same.
@@ -62,21 +63,54 @@ fn lost() {
     );
 }
 
-// The listing of a recording, line by line through a buffer.
-fn list(recording: &[u8], line: &mut [u8]) {
+// The same, with a failure named.
+fn sent(text: &[u8], n: usize) -> bool {
+    if put_out(text, n) {
+        return true;
+    }
+    os::fail(b"lister: standard output");
+    false
+}
+
+// Where in a text of so many bytes, of which the first `at` are taken, the next line goes: behind them, or, where it may not fit, at the start.
+fn start_of(size: usize, at: usize) -> usize
+    ensures { λ r. ⌜ r ≤ size ⌝ }
+{
+    if size < at {
+        return 0;
+    }
+    if size - at < LONGEST {
+        return 0;
+    }
+    at
+}
+
+// The listing of a recording, line by line into a buffer, which goes out when another line may not fit, and at the end.
+fn list(recording: &[u8], text: &mut [u8]) {
     let mut walk = Walk::new();
     let mut left = CALLS;
+    let mut at: usize = 0;
     while 0 < left {
-        let piece = listing::next(recording, walk, line);
+        let start = start_of(text.len(), at);
+        if start < at {
+            if !sent(text, at) {
+                return;
+            }
+        }
+        let piece = listing::next(recording, walk, &mut text[start..]);
         match piece {
             Piece::Text(n, next) => {
-                if !put_out(line, n) {
-                    os::fail(b"lister: standard output");
+                if text.len() - start < n {
+                    lost();
                     return;
                 }
+                at = start + n;
                 walk = next;
             }
-            Piece::End => return,
+            Piece::End => {
+                sent(text, start);
+                return;
+            }
             Piece::Astray => {
                 lost();
                 return;
@@ -91,19 +125,19 @@ fn list(recording: &[u8], line: &mut [u8]) {
     lost();
 }
 
-fn run(buffer: &mut [u8], line: &mut [u8]) {
+fn run(buffer: &mut [u8], text: &mut [u8]) {
     let input = take_in(buffer);
     if input.failed {
         os::fail(b"lister: standard input");
         return;
     }
     let n = input.count;
-    list(&buffer[0..n], line);
+    list(&buffer[0..n], text);
 }
 
 fn main() {
     // one byte more than the longest recording, so that a longer one is seen
     let mut buffer = [0u8; 65537];
-    let mut line = [0u8; 64];
-    run(&mut buffer, &mut line);
+    let mut text = [0u8; 8192];
+    run(&mut buffer, &mut text);
 }

@@ -1,61 +1,74 @@
--- `bits::read` meets its contract: v is the number of the bits passed, of which the first are those that no number of 64 bits holds.
--- Assumes nothing.
-use mathlib.Core.Path.{_≡_, refl, sym, ap, _∙_}
-use Prim.Native.Nat.{_+_, _-_, _^_, _≤_, _<_}
+-- `bits::read` meets its contract: whole bytes for places and widths in use, else bit by bit. Assumes nothing.
+use Prim.Native.Nat.{_^_, _<_}
 use native.Mathlib.Omega.{arith}
 use borrow.Author.Needs.{needs}
-use Rattle.bits.specs.Bits.{bitAt, bitsOf}
-use Rattle.bits.proofs.Laws.{bitAt-lt, bitsOf-below, bitsOf-none, bitsOf-next, last-64}
+use Rattle.bits.proofs.Laws.{bitsOf-below, no-bits, in-two}
 use Rattle.bits.proofs.read.Statement.{statement}
 use Rattle.bits.proofs.read.Tie as tie
 
-abbrev Inv-loop : tie.InvT-loop
-Inv-loop b before n v₀ i₀ v i = (i ≤ n) × (n - 64 ≤ i) × (v ≡ bitsOf b (before + (n - 64)) (i - (n - 64)))
+returns : tie.Need-returns
+returns c = no-bits _ _ _ (c .if1 .taken)
 
-abbrev μ-loop : tie.MeasureT-loop
-μ-loop b before n v₀ i₀ v i = n - i
+by-digits-requires : tie.Need-by-digits-requires
+by-digits-requires c κs = search needs
 
-beyond-requires : tie.Need-beyond-requires Inv-loop μ-loop
-beyond-requires c κs = search needs
+returns-2 : tie.Need-returns-2
+returns-2 c = search needs
 
-loop-holds : tie.Need-loop-holds Inv-loop μ-loop
-loop-holds c = (omega arith, omega arith, bitsOf-none _ _ _ (omega arith))
+near-requires : tie.Need-near-requires
+near-requires c κs = search needs
 
-mul-v : tie.Need-mul-v Inv-loop μ-loop
-mul-v c =
-    let l = c .before .loop in
-    let h : l .v < 2 ^ 63 = rw (l .inv .2) (bitsOf-below 63 _ _ _ (omega arith)) in
-    omega arith
+returns-3 : tie.Need-returns-3
+returns-3 c = search needs
 
-digit-requires : tie.Need-digit-requires Inv-loop μ-loop
-digit-requires c κs = search needs
+sub-m : tie.Need-sub-m
+sub-m c = search needs
 
-add-v : tie.Need-add-v Inv-loop μ-loop
-add-v c =
-    let l = c .before .before .loop in
-    let h : l .v < 2 ^ 63 = rw (l .inv .2) (bitsOf-below 63 _ _ _ (omega arith)) in
-    let k : c .digit .result < 2 = rw (c .digit .ensures) (bitAt-lt _ _) in
-    omega arith
+near-requires-2 : tie.Need-near-requires-2
+near-requires-2 c κs = search needs
 
-add-i : tie.Need-add-i Inv-loop μ-loop
-add-i c = omega arith
+-- the first part has 32 bits at most
+first-below : (c : tie.After-near2) → c .near2 .result < 2 ^ 32
+first-below c = rw (c .near2 .ensures) (bitsOf-below 32 _ _ _ (omega arith))
 
-loop-less : tie.Need-loop-less Inv-loop μ-loop
-loop-less c = omega arith
+mul-result : tie.Need-mul-result
+mul-result c = omega (arith, first-below c)
 
-loop-again : tie.Need-loop-again Inv-loop μ-loop
-loop-again c =
-    let l = c .before .before .loop in
-    (omega arith, omega arith, rw (bitsOf-next _ _ _ _ (l .inv .1), c .digit .ensures, l .inv .2) refl)
+add-near : tie.Need-add-near
+add-near c = search needs
 
-returns : tie.Need-returns Inv-loop μ-loop
-returns c =
-    let l = c .before .loop in
-    let a = c .before .before .before .before .args in
-    let e : l .i ≡ a .n = omega arith in
-    (rw e at (l .inv .2)) ∙ last-64 _ _ _
+near-requires-3 : tie.Need-near-requires-3
+near-requires-3 c κs = search needs
+
+add-result : tie.Need-add-result
+add-result c =
+    let h : c .near3 .result < 2 ^ 32 = rw (c .near3 .ensures) (bitsOf-below 32 _ _ _ (omega arith)) in
+    omega (arith, first-below (c .before))
+
+returns-4 : tie.Need-returns-4
+returns-4 c = in-two _ _ _ _ _ _ (omega arith) (omega arith) (c .before .near2 .ensures) (c .near3 .ensures)
+
+by-digits-requires-2 : tie.Need-by-digits-requires-2
+by-digits-requires-2 c κs = search needs
+
+returns-5 : tie.Need-returns-5
+returns-5 c = search needs
 
 pub read-spec : {M : Type 1} → statement M
 read-spec =
     tie.close
-    (tie.spec Inv-loop μ-loop beyond-requires loop-holds mul-v digit-requires add-v add-i loop-less loop-again returns)
+    (tie.spec
+    returns
+    by-digits-requires
+    returns-2
+    near-requires
+    returns-3
+    sub-m
+    near-requires-2
+    mul-result
+    add-near
+    near-requires-3
+    add-result
+    returns-4
+    by-digits-requires-2
+    returns-5)

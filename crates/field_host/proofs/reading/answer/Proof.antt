@@ -1,22 +1,20 @@
 -- `field_host::reading::answer` meets its contract, by the reader's. Assumes nothing.
 use borrow.Author.Needs.{needs}
 use mathlib.Core.Path.{ap, _∙_}
-use Rattle.fields.specs.declared.Found.{Found}
-use Rattle.fields.specs.Reading.{readField}
+use Rattle.fields.specs.Reading.{answerOf}
 use Rattle.field_host.proofs.reading.answer.Statement.{statement}
 use Rattle.field_host.proofs.reading.answer.Tie as tie
 
 way-requires : tie.Need-way-requires
 way-requires c κs = search needs
 
-read-requires : tie.Need-read-requires
-read-requires c κs = search needs
+judge-requires : tie.Need-judge-requires
+judge-requires c κs = search needs
 
 returns : tie.Need-returns
-unfolding readField
 returns c =
     let a = c .before .before .before .args in
-    ap (λ (f : Found). f .answer) (c .read .ensures ∙ ap (readField (a .bytes .now) (a .count)) (c .before .way .ensures))
+    c .judge .ensures ∙ ap (answerOf (a .bytes .now) (a .count)) (c .before .way .ensures)
 
 pub answer-spec : {M : Type 1} → statement M
-answer-spec = tie.close (tie.spec way-requires read-requires returns)
+answer-spec = tie.close (tie.spec way-requires judge-requires returns)

@@ -5,7 +5,7 @@ use borrow.Author.Tests.{lt-ltb, le-ltb, eq-eqb, ne-eqb}
 use Rattle.reports.specs.Altitude.{signMagnitude}
 use Rattle.lines.specs.Bytes.{readBytes}
 use Rattle.lines.proofs.Tests.{picked, passed}
-use Rattle.lines.proofs.Scans.{read-law, beyond-law}
+use Rattle.lines.proofs.Scans.{places-law, wide-law, even-law, beyond-law}
 use borrow.Author.Needs.{needs}
 use native.Mathlib.Omega.{arith}
 use Rattle.lines.proofs.bytes.read.Statement.{statement}
@@ -46,6 +46,32 @@ scan-requires c κs = search needs
 add-first : tie.Need-add-first
 add-first c = search needs
 
+set-at-requires : tie.Need-set-at-requires
+set-at-requires c κs = search needs
+
+returns-4 : tie.Need-returns-4
+unfolding readBytes
+returns-4 c =
+    let s = c .before .before .before in
+    let t = s .before in
+    let k = t .before in
+    let n = k .count-words .ensures in
+    wide-law signMagnitude _ _ _ _ _ (n .0) (omega arith) (t .if3 .left) (s .scan .ensures) (c .before .if4 .taken) (c .set-at .ensures)
+    ∙ sym (passed _ _ (le-ltb _ _ (k .before .before .if1 .left)) ∙ passed _ _ (ne-eqb _ _ (k .before .if2 .left)))
+
+set-at-requires-2 : tie.Need-set-at-requires-2
+set-at-requires-2 c κs = search needs
+
+returns-5 : tie.Need-returns-5
+unfolding readBytes
+returns-5 c =
+    let s = c .before .before .before .before in
+    let t = s .before in
+    let k = t .before in
+    let n = k .count-words .ensures in
+    even-law signMagnitude _ _ _ _ _ (n .0) (omega arith) (t .if3 .left) (s .scan .ensures) (c .before .before .if4 .left) (c .before .if5 .taken) (c .set-at2 .ensures)
+    ∙ sym (passed _ _ (le-ltb _ _ (k .before .before .if1 .left)) ∙ passed _ _ (ne-eqb _ _ (k .before .if2 .left)))
+
 word-requires : tie.Need-word-requires
 word-requires c κs = search needs
 
@@ -70,9 +96,9 @@ word-requires-7 c κs = search needs
 finish-requires : tie.Need-finish-requires
 finish-requires c κs = search needs
 
-returns-4 : tie.Need-returns-4
+returns-6 : tie.Need-returns-6
 unfolding readBytes
-returns-4 c =
+returns-6 c =
     let g = c .before in
     let f = g .before in
     let e = f .before in
@@ -80,12 +106,12 @@ returns-4 c =
     let c3 = d .before in
     let b = c3 .before in
     let a = b .before in
-    let s = a .before .before in
+    let s = a .before .before .before .before in
     let t = s .before in
     let k = t .before in
     let n = k .count-words .ensures in
     let long = k .before .before .if1 .left in
-    read-law signMagnitude _ _ _ _ _ _ (n .0) (omega arith) (t .if3 .left) (s .scan .ensures)
+    places-law signMagnitude _ _ _ _ _ _ (n .0) (omega arith) (t .if3 .left) (s .scan .ensures)
     (λ i.
     a .word .ensures i
     ∷ b .word2 .ensures i
@@ -111,6 +137,10 @@ read-spec =
     returns-3
     scan-requires
     add-first
+    set-at-requires
+    returns-4
+    set-at-requires-2
+    returns-5
     word-requires
     word-requires-2
     word-requires-3
@@ -119,4 +149,4 @@ read-spec =
     word-requires-6
     word-requires-7
     finish-requires
-    returns-4)
+    returns-6)

@@ -1,65 +1,56 @@
--- `lines::bytes::scan` meets its contract. Assumes nothing.
-use Prim.Native.Nat.{_-_}
-use lib.ListN.{length}
-use Rattle.lines.specs.Bytes.{wordsIn}
-use Rattle.lines.proofs.Scans.{Going, going-start, going-on, going-done, going-end}
+-- `lines::bytes::scan` meets its contract: the five places together. Assumes nothing.
+use Rattle.lines.proofs.Places.{all-seen}
 use borrow.Author.Needs.{needs}
 use native.Mathlib.Omega.{arith}
 use Rattle.lines.proofs.bytes.scan.Statement.{statement}
 use Rattle.lines.proofs.bytes.scan.Tie as tie
 
-abbrev Inv-loop : tie.InvT-loop
-Inv-loop bytes place n s₀ i₀ s i = Going (wordsIn bytes) place s i
+skip-requires : tie.Need-skip-requires
+skip-requires c κs = search needs
 
-abbrev μ-loop : tie.MeasureT-loop
-μ-loop bytes place n s₀ i₀ s i = length (wordsIn bytes) - i
+pass-requires : tie.Need-pass-requires
+pass-requires c κs = search needs
 
-count-words-requires : tie.Need-count-words-requires Inv-loop μ-loop
-count-words-requires c κs = search needs
+run-end-requires : tie.Need-run-end-requires
+run-end-requires c κs = search needs
 
-new-requires : tie.Need-new-requires Inv-loop μ-loop
-new-requires c κs = search needs
+first-wide-requires : tie.Need-first-wide-requires
+first-wide-requires c κs = search needs
 
-loop-holds : tie.Need-loop-holds Inv-loop μ-loop
-loop-holds c = going-start _ _ _ (c .before .before .before .pre) (c .new .ensures)
+first-even-requires : tie.Need-first-even-requires
+first-even-requires c κs = search needs
 
-returns : tie.Need-returns Inv-loop μ-loop
-returns c = going-done _ _ _ _ (c .before .before .loop .inv) (c .if1 .taken)
+sub-t8 : tie.Need-sub-t8
+sub-t8 c = search needs
 
-word-at-requires : tie.Need-word-at-requires Inv-loop μ-loop
-word-at-requires c κs = omega arith
+sub-t9 : tie.Need-sub-t9
+sub-t9 c = search needs
 
-step-requires : tie.Need-step-requires Inv-loop μ-loop
-step-requires c κs = omega arith
+sub-t10 : tie.Need-sub-t10
+sub-t10 c = search needs
 
-add-i : tie.Need-add-i Inv-loop μ-loop
-add-i c = omega arith
+sub-t11 : tie.Need-sub-t11
+sub-t11 c = search needs
 
-loop-less : tie.Need-loop-less Inv-loop μ-loop
-loop-less c = omega arith
-
-loop-again : tie.Need-loop-again Inv-loop μ-loop
-loop-again c =
-    let u = c .before .before in
-    let l = u .before .before in
-    going-on _ _ _ _ _ _ _ (l .before .before .count-words .ensures .0) (l .loop .inv) (u .before .loop-test .taken) (u .if1 .left) (c .before .word-at .ensures) (c .step .ensures)
-
-returns-2 : tie.Need-returns-2 Inv-loop μ-loop
-returns-2 c = going-end _ _ _ _ _ (c .before .before .before .count-words .ensures .0) (c .before .loop .inv) (c .loop-test .left)
+returns : tie.Need-returns
+returns c =
+    let w = c .before in
+    let r = w .before in
+    let p = r .before in
+    let s = p .before in
+    all-seen _ _ _ _ _ _ _ (s .skip .ensures .0) (p .pass .ensures) (r .run-end .ensures .0) (r .run-end .ensures .1) (w .first-wide .ensures) (c .first-even .ensures)
 
 pub scan-spec : {M : Type 1} → statement M
 scan-spec =
     tie.close
     (tie.spec
-    Inv-loop
-    μ-loop
-    count-words-requires
-    new-requires
-    loop-holds
-    returns
-    word-at-requires
-    step-requires
-    add-i
-    loop-less
-    loop-again
-    returns-2)
+    skip-requires
+    pass-requires
+    run-end-requires
+    first-wide-requires
+    first-even-requires
+    sub-t8
+    sub-t9
+    sub-t10
+    sub-t11
+    returns)

@@ -1,0 +1,226 @@
+/*
+ * agree.c: both libraries answer the same, on every input that is measured and on many more: broken lines, every place, cut and turned
+ * fields. A difference is printed and ends the program.
+ */
+#include <stdio.h>
+#include <stdlib.h>
+#include <string.h>
+
+#include "bench.h"
+#include "plain_field.h"
+
+static unsigned long compared;
+
+static void same(const char *what, long long a, long long b, const uint8_t *bytes, size_t length, size_t at)
+{
+    size_t i;
+
+    compared++;
+    if (a == b)
+        return;
+    printf("bench: DIFFERENT: %s: the library %lld, plain C %lld; length %lu, at %lu, bytes", what, a, b, (unsigned long)length,
+           (unsigned long)at);
+    for (i = 0; i < length && i < 64; i++)
+        printf(" %02X", bytes[i]);
+    printf("\n");
+    exit(1);
+}
+
+#define SAME(call, ...) same(#call, (long long)ours.call(__VA_ARGS__), (long long)plain.call(__VA_ARGS__), b, length, at)
+
+static void same_value(const char *what, double x, double y, const uint8_t *b, size_t length, size_t at)
+{
+    long long p, q;
+
+    memcpy(&p, &x, 8);
+    memcpy(&q, &y, 8);
+    same(what, p, q, b, length, at);
+}
+
+static void at_place(const uint8_t *b, size_t length, size_t at)
+{
+    uint32_t item;
+
+    SAME(kind, b, length, at);
+    SAME(refusal, b, length, at);
+    SAME(first, b, length, at);
+    SAME(after, b, length, at);
+    SAME(named, b, length, at);
+    SAME(has_values, b, length, at);
+    same_value("nmi", ours.nmi(b, length, at), plain.nmi(b, length, at), b, length, at);
+    same_value("degrees", ours.degrees(b, length, at), plain.degrees(b, length, at), b, length, at);
+    same_value("seconds", ours.seconds(b, length, at), plain.seconds(b, length, at), b, length, at);
+    for (item = 0; item < 40; item++) {
+        SAME(has, b, length, at, item);
+        SAME(item, b, length, at, item);
+    }
+    SAME(has, b, length, at, 0xFFFFFFFFu);
+}
+
+/* Every run of a line, and places inside some. */
+static void whole_line(const uint8_t *b, size_t length)
+{
+    size_t at = 0, next;
+
+    while (plain.kind(b, length, at) != SIAMRUNG_KIND_END) {
+        at_place(b, length, at);
+        at_place(b, length, at + rnd() % 8);
+        next = plain.after(b, length, at);
+        if (next == at)
+            return;
+        at = next;
+    }
+    at_place(b, length, at);
+    at_place(b, length, at + 1);
+    at_place(b, length, (size_t)-1);
+}
+
+/* Some bits turned over. */
+static void turn(uint8_t *b, size_t length, unsigned often)
+{
+    for (; often && length; often--)
+        b[rnd() % length] ^= (uint8_t)(1u << rnd() % 8);
+}
+
+unsigned long agree_lines(unsigned rounds)
+{
+    static uint8_t b[MOST_BYTES + 2];
+    fill_line *fills[] = {full_line, idle_line, long_run, bad_words, bad_run};
+    unsigned i, k;
+    unsigned long before = compared;
+
+    for (i = 0; i < rounds; i++)
+        for (k = 0; k < 5; k++) {
+            size_t n = 1 + rnd() % 400;
+            fills[k](b, n);
+            whole_line(b, 2 * n);
+            turn(b, 2 * n, (unsigned)(rnd() % 8) * (unsigned)(n / 32 + 1));
+            whole_line(b, 2 * n);
+            whole_line(b, 2 * n - 1);
+        }
+    full_line(b, 32768);
+    at_place(b, MOST_BYTES, 32760);
+    at_place(b, MOST_BYTES + 1, 0);
+    at_place(b, MOST_BYTES + 2, 7);
+    at_place(b, 0, 0);
+    return compared - before;
+}
+
+/* ---- writing a report */
+
+static void same_write(uint8_t *b, size_t length, size_t at, uint32_t kind, const uint8_t *items, size_t n)
+{
+    static uint8_t left[512];
+
+    SAME(write_refusal, b, length, at, kind, items, n);
+    memcpy(left, b, sizeof left);
+    same("write", (long long)ours.write(b, length, at, kind, items, n), (long long)plain.write(left, length, at, kind, items, n), b, length, at);
+    same("bytes written", memcmp(left, b, sizeof left), 0, b, length, at);
+}
+
+unsigned long agree_writing(unsigned rounds)
+{
+    static uint8_t b[512], items[MOST_ITEMS + 16];
+    unsigned long before = compared;
+    unsigned i, kind;
+
+    for (i = 0; i < rounds; i++)
+        for (kind = 100; kind < 122; kind++) {
+            size_t n = report_items(kind, items), at = rnd() % 40;
+            memset(b, (int)rnd(), sizeof b);
+            same_write(b, 64, at, kind, items, n);
+            same_write(b, 64 + rnd() % 2, at, kind, items, n);
+            put_be64(items + n, rnd() % 40);
+            put_be64(items + n + 8, rnd() % 4);
+            same_write(b, 64, at, kind, items, n + 16);
+            if (n) {
+                same_write(b, 64, at, kind, items, n - 16 + rnd() % 16);
+                turn(items, n, 1);
+                same_write(b, 64, at, kind, items, n);
+                put_be64(items + 16 * (rnd() % (n / 16)) + 8, rnd() % 2 ? rnd() % 8192 : (uint64_t)0 - rnd() % 2100);
+                same_write(b, 64, at, kind, items, n);
+            }
+        }
+    return compared - before;
+}
+
+/* ---- fields */
+
+static void same_field(const uint8_t *b, size_t length, size_t at, uint32_t from)
+{
+    uint32_t item;
+    size_t k;
+
+    SAME(field_refusal, b, length, at, from);
+    SAME(field_type, b, length, at, from);
+    SAME(field_inner_type, b, length, at, from);
+    SAME(field_entries, b, length, at, from);
+    SAME(field_text_place, b, length, at, from);
+    SAME(field_text_length, b, length, at, from);
+    for (item = 199; item < 240; item++) {
+        SAME(field_has, b, length, at, from, item);
+        SAME(field_item, b, length, at, from, item);
+    }
+    for (k = 0; k < 32; k += 1 + rnd() % 3)
+        SAME(field_entry, b, length, at, from, k);
+}
+
+/* The field that the bytes are, as items, written by both. */
+static void same_written(const uint8_t *from, size_t length, size_t bits, uint32_t way)
+{
+    static uint8_t items[MOST_ITEMS], list[240], b[256], left[256];
+    size_t n = 0, at = 0, k, text = plain.field_text_place(from, length, bits, way), size = plain.field_text_length(from, length, bits, way);
+    uint32_t item, type = plain.field_inner_type(from, length, bits, way);
+    unsigned i;
+
+    for (item = 201; item < 238; item++)
+        if (plain.field_has(from, length, bits, way, item)) {
+            put_be64(items + n, item);
+            put_be64(items + n + 8, plain.field_item(from, length, bits, way, item));
+            n += 16;
+        }
+    for (k = 0; k < 30; k++)
+        put_be64(list + 8 * k, (uint64_t)plain.field_entry(from, length, bits, way, k));
+    for (i = 0; i < 8; i++) {
+        size_t room = i == 1 ? rnd() % 32 : 256;
+        if (i > 2)
+            turn(items, n, i % 2);
+        if (i > 5)
+            turn(list, 240, 1);
+        memset(b, (int)rnd(), 256);
+        memcpy(left, b, 256);
+        length = room;
+        SAME(field_write_refusal, b, room, type, items, n, list, 240, from + text, i == 2 ? size / 2 : size);
+        same("field_write", (long long)ours.field_write(b, room, type, items, n, list, 240, from + text, i == 2 ? size / 2 : size),
+             (long long)plain.field_write(left, room, type, items, n, list, 240, from + text, i == 2 ? size / 2 : size), b, room, i);
+        same("field bytes written", memcmp(left, b, 256), 0, b, room, i);
+    }
+}
+
+unsigned long agree_fields(unsigned rounds)
+{
+    static uint8_t b[256];
+    unsigned long before = compared;
+    unsigned i, k;
+
+    for (i = 0; i < rounds; i++)
+        for (k = 0; k < 21; k++) {
+            int relayed = plain_types[types[k]].known == 2 && types[k] != 0x62 && i % 2;
+            uint32_t way = plain_types[types[k]].known == 2;
+            size_t bits = random_field(types[k], relayed, i % 4 < 2, b), length = (bits + 7) / 8;
+            if (plain.field_refusal(b, length, bits, way)) {
+                printf("bench: the input of type %02X is refused: %u\n", types[k], plain.field_refusal(b, length, bits, way));
+                exit(1);
+            }
+            same_field(b, length, bits, way);
+            same_written(b, length, bits, way);
+            same_field(b, length, bits, !way);
+            same_field(b, length, bits + 1, way);
+            same_field(b, length > 8 ? length - 8 : 0, bits > 64 ? bits - 64 : 0, way);
+            turn(b, length, 1 + (unsigned)(rnd() % 2));
+            same_field(b, length, bits, way);
+            b[relayed ? 2 : 0] = (uint8_t)rnd();
+            same_field(b, length, bits, way);
+        }
+    return compared - before;
+}

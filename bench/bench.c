@@ -1,0 +1,315 @@
+/*
+ * bench.c: what the proved library costs beside plain C. It first compares the answers of both on all inputs (agree.c), then runs both
+ * alternately on the same inputs and prints, of each job, how many words or fields a second each does and the ratio of their costs.
+ *
+ * bench [--small] [--emulated]   compare and measure; --small: once, on little; --emulated: each ratio is marked so, and decides nothing
+ * bench --passes                 each job once by each library, through `pass`, for a tool that counts instructions
+ * bench --recording              the full line itself, to standard output
+ */
+#define _POSIX_C_SOURCE 200809L
+#include <stdio.h>
+#include <stdlib.h>
+#include <string.h>
+#include <time.h>
+
+#include "bench.h"
+#include "plain_field.h"
+
+#define SIDE(p)                                                                                                                             \
+    {p##kind, p##refusal, p##has_values, p##first, p##after, p##named, p##nmi, p##degrees, p##seconds, p##has, p##item, p##write,           \
+     p##write_refusal, p##field_refusal, p##field_type, p##field_inner_type, p##field_entries, p##field_text_place, p##field_text_length,   \
+     p##field_has, p##field_item, p##field_entry, p##field_write, p##field_write_refusal}
+
+const struct calls ours = SIDE(siamrung_), plain = SIDE(plain_);
+
+/* ---- jobs: each takes one pass over its input, and answers a number that depends on all answers */
+
+struct input {
+    uint8_t *bytes;
+    size_t length, bits;
+    uint32_t way, type;
+    uint8_t items[MOST_ITEMS];
+    size_t items_length;
+    uint8_t list[240];
+};
+
+typedef uint64_t job(const struct calls *c, struct input *in);
+
+/* From run to run: what stands there, and where to go on. */
+static uint64_t walk(const struct calls *c, struct input *in)
+{
+    size_t at = 0;
+    uint64_t sum = 0;
+    uint32_t kind;
+
+    do {
+        kind = c->kind(in->bytes, in->length, at);
+        at = c->after(in->bytes, in->length, at);
+        sum = sum * 31 + kind + at;
+    } while (kind != SIAMRUNG_KIND_END);
+    return sum;
+}
+
+/* The same, with every item and value of each report and the number and place of each refusal. */
+static uint64_t record_all(const struct calls *c, struct input *in)
+{
+    size_t at = 0;
+    uint64_t sum = 0, items;
+    uint32_t kind;
+
+    do {
+        kind = c->kind(in->bytes, in->length, at);
+        for (items = plain_items_of(kind); items; items &= items - 1)
+            sum += (uint64_t)c->item(in->bytes, in->length, at, (uint32_t)__builtin_ctzll(items));
+        if (kind == SIAMRUNG_KIND_REFUSED)
+            sum += c->refusal(in->bytes, in->length, at) + c->named(in->bytes, in->length, at);
+        else if (kind != SIAMRUNG_KIND_END)
+            sum += (uint64_t)(c->nmi(in->bytes, in->length, at) + c->degrees(in->bytes, in->length, at) + c->seconds(in->bytes, in->length, at));
+        at = c->after(in->bytes, in->length, at);
+        sum = sum * 31 + kind + at;
+    } while (kind != SIAMRUNG_KIND_END);
+    return sum;
+}
+
+/* The line filled with the same four reports of seven and of four words. */
+static uint64_t fill(const struct calls *c, struct input *in)
+{
+    static uint8_t items[4][MOST_ITEMS];
+    static size_t length[4];
+    static const uint32_t kinds[4] = {SIAMRUNG_KIND_SEARCH, SIAMRUNG_KIND_DABS, SIAMRUNG_KIND_ATCRBS, SIAMRUNG_KIND_MAP};
+    size_t at = 0, i;
+
+    for (i = 0; length[3] == 0 && i < 4; i++)
+        length[i] = report_items(kinds[i], items[i]);
+    for (i = 0; at + 8 <= in->length / 2; i++)
+        at = c->write(in->bytes, in->length, at, kinds[i % 4], items[i % 4], length[i % 4]);
+    return at + in->bytes[at];
+}
+
+/* A field: whether it is refused, its type, every item, every entry, its text. */
+static uint64_t read_field(const struct calls *c, struct input *in)
+{
+    uint64_t sum = c->field_refusal(in->bytes, in->length, in->bits, in->way), items;
+    size_t i, n;
+
+    sum += c->field_type(in->bytes, in->length, in->bits, in->way);
+    for (items = plain_types[in->type].items; items; items &= items - 1)
+        sum = sum * 31 + c->field_item(in->bytes, in->length, in->bits, in->way, 200 + (uint32_t)__builtin_ctzll(items));
+    n = c->field_entries(in->bytes, in->length, in->bits, in->way);
+    for (i = 0; i < n; i++)
+        sum += (uint64_t)c->field_entry(in->bytes, in->length, in->bits, in->way, i);
+    return sum + c->field_text_place(in->bytes, in->length, in->bits, in->way) + c->field_text_length(in->bytes, in->length, in->bits, in->way);
+}
+
+static uint64_t write_field(const struct calls *c, struct input *in)
+{
+    static uint8_t to[256];
+    size_t text = plain.field_text_place(in->bytes, in->length, in->bits, in->way);
+
+    return c->field_write(to, 256, in->type, in->items, in->items_length, in->list, 240, in->bytes + text, in->length - text) + to[0] + to[4];
+}
+
+/* ---- the table of jobs */
+
+struct row {
+    char name[48];
+    job *run;
+    struct input *small, *large; /* short lines with as many words as the long one, so that no branch is learnt by heart; or one field */
+    unsigned pieces;
+    double units;
+};
+
+static struct row rows[80];
+static unsigned row_count;
+static unsigned rounds = 15;
+static double least = 4e-3;
+static const char *mark = "";
+
+static struct input *line_of(fill_line *make, size_t n)
+{
+    struct input *in = calloc(1, sizeof *in);
+
+    in->bytes = malloc(2 * n);
+    in->length = 2 * n;
+    make(in->bytes, n);
+    return in;
+}
+
+static void add_line(const char *name, job *run, fill_line *make, size_t small, size_t large)
+{
+    struct row *r = &rows[row_count++];
+    struct input *one;
+    unsigned i;
+
+    snprintf(r->name, sizeof r->name, "%s", name);
+    r->run = run;
+    r->pieces = (unsigned)(large / small);
+    r->small = calloc(r->pieces, sizeof *r->small);
+    for (i = 0; i < r->pieces; i++) {
+        one = line_of(make, small);
+        r->small[i] = *one;
+        free(one);
+    }
+    r->large = line_of(make, large);
+    r->units = (double)large;
+}
+
+static void add_field(const char *name, unsigned type, int relayed)
+{
+    struct input *in = calloc(1, sizeof *in);
+    uint64_t items;
+    size_t k;
+    job *runs[2] = {read_field, write_field};
+
+    in->bytes = malloc(256);
+    in->type = type;
+    in->way = plain_types[type].known == 2;
+    in->bits = random_field(type, relayed, 1, in->bytes);
+    in->length = (in->bits + 7) / 8;
+    for (items = plain_types[type].items | (relayed ? FB(SENSOR) : 0); items; items &= items - 1) {
+        uint32_t item = 200 + (uint32_t)__builtin_ctzll(items);
+        put_be64(in->items + in->items_length, item);
+        put_be64(in->items + in->items_length + 8, plain.field_item(in->bytes, in->length, in->bits, in->way, item));
+        in->items_length += 16;
+    }
+    for (k = 0; k < 30; k++)
+        put_be64(in->list + 8 * k, (uint64_t)plain.field_entry(in->bytes, in->length, in->bits, in->way, k));
+    for (k = 0; k < 2; k++) {
+        struct row *r = &rows[row_count++];
+        snprintf(r->name, sizeof r->name, "%s field %02X%s", k ? "write" : "read", type, name);
+        r->run = runs[k];
+        r->large = in;
+        r->units = 1;
+    }
+}
+
+#define SHORT_LINE 1024
+
+static void make_rows(size_t large)
+{
+    unsigned k;
+
+    add_line("full of reports: kind, after", walk, full_line, SHORT_LINE, large);
+    add_line("full of reports: every item", record_all, full_line, SHORT_LINE, large);
+    add_line("mostly idle: kind, after", walk, idle_line, SHORT_LINE, large);
+    add_line("one long run: kind, after", walk, long_run, SHORT_LINE, large);
+    add_line("bad words, each a run: kind, after", walk, bad_words, SHORT_LINE, large);
+    add_line("bad words in one run: kind, after", walk, bad_run, SHORT_LINE, large);
+    add_line("full line written", fill, full_line, SHORT_LINE, large);
+    for (k = 0; k < 21; k++)
+        add_field(plain_types[types[k]].step == 80 ? ", the largest ELM" : plain_types[types[k]].step ? ", the longest list" : "", types[k], 0);
+    add_field(", the largest ELM, relayed", SIAMRUNG_TYPE_ELM_DOWNLINK, 1);
+}
+
+/* ---- the clock */
+
+static double now(void)
+{
+    struct timespec t;
+
+    clock_gettime(CLOCK_MONOTONIC, &t);
+    return (double)t.tv_sec + 1e-9 * (double)t.tv_nsec;
+}
+
+static volatile uint64_t sink;
+
+static double timed(const struct calls *c, job *run, struct input *in, unsigned pieces, unsigned times)
+{
+    double start = now();
+    unsigned i, k;
+
+    for (i = 0; i < times; i++)
+        for (k = 0; k < pieces; k++)
+            sink += run(c, &in[k]);
+    return (now() - start) / times;
+}
+
+/* The least seconds of a pass of each, alternately. */
+static void measure(job *run, struct input *in, unsigned pieces, double *a, double *b)
+{
+    unsigned i, times = 1;
+
+    while (rounds > 1 && timed(&plain, run, in, pieces, times) * times < least)
+        times *= 2;
+    *a = *b = 1e9;
+    for (i = 0; i < rounds; i++) {
+        double x = timed(&ours, run, in, pieces, times), y = timed(&plain, run, in, pieces, times);
+        *a = x < *a ? x : *a;
+        *b = y < *b ? y : *b;
+    }
+}
+
+static void print_row(const struct row *r)
+{
+    double a, b, c, d;
+
+    measure(r->run, r->large, 1, &a, &b);
+    if (r->run(&ours, r->large) != r->run(&plain, r->large)) {
+        printf("bench: DIFFERENT: %s\n", r->name);
+        exit(1);
+    }
+    printf("%-40s %10.2f %10.2f %7.2f%s", r->name, 1e-6 * r->units / a, 1e-6 * r->units / b, a / b, mark);
+    if (r->small) {
+        measure(r->run, r->small, r->pieces, &c, &d);
+        printf(" %9.2f %9.2f", a / c, b / d);
+    }
+    printf("\n");
+    fflush(stdout);
+}
+
+/* ---- */
+
+/* One pass, for a tool that counts instructions by this name. */
+__attribute__((noinline)) uint64_t pass(const struct calls *c, job *run, struct input *in);
+
+uint64_t pass(const struct calls *c, job *run, struct input *in)
+{
+    return run(c, in);
+}
+
+static void passes(void)
+{
+    unsigned i;
+
+    for (i = 0; i < row_count; i++) {
+        sink += pass(&ours, rows[i].run, rows[i].large);
+        sink += pass(&plain, rows[i].run, rows[i].large);
+        printf("%.0f %s\n", rows[i].units, rows[i].name);
+    }
+}
+
+int main(int n, char **words)
+{
+    unsigned i, times = 200, once = 0;
+
+    for (i = 1; i < (unsigned)n; i++) {
+        if (strcmp(words[i], "--small") == 0) {
+            rounds = 1;
+            times = 4;
+        } else if (strcmp(words[i], "--emulated") == 0) {
+            mark = " emulated";
+        } else if (strcmp(words[i], "--passes") == 0) {
+            once = 1;
+        } else if (strcmp(words[i], "--recording") == 0) {
+            static uint8_t line[MOST_BYTES];
+            full_line(line, MOST_BYTES / 2);
+            return fwrite(line, 1, MOST_BYTES, stdout) == MOST_BYTES ? 0 : 1;
+        } else {
+            fprintf(stderr, "usage: bench [--small] [--emulated] [--passes] [--recording]\n");
+            return 2;
+        }
+    }
+    make_rows(times == 4 ? 4096 : 32768);
+    if (once) {
+        passes();
+        return 0;
+    }
+    printf("same answers: %lu about lines, ", agree_lines(times));
+    printf("%lu about writing, ", agree_writing(times));
+    printf("%lu about fields\n", agree_fields(times));
+    printf("millions of words (or fields) a second, the ratio of the costs, and the cost of a word on a line of %.0f words to that on lines of %d\n%-40s %10s %10s %7s %9s %9s\n",
+           rows[0].units, SHORT_LINE, "", "siamrung", "plain C", "ratio", "siamrung", "plain C");
+    for (i = 0; i < row_count; i++)
+        print_row(&rows[i]);
+    return 0;
+}

@@ -1,0 +1,62 @@
+/*
+ * bench.h: the two libraries as two tables of calls, the inputs, and the jobs that are measured on them.
+ */
+#ifndef BENCH_H
+#define BENCH_H
+
+#include "plain.h"
+
+typedef uint32_t run_number(const uint8_t *, size_t, size_t);
+typedef size_t run_place(const uint8_t *, size_t, size_t);
+typedef double run_value(const uint8_t *, size_t, size_t);
+typedef uint32_t field_number(const uint8_t *, size_t, size_t, uint32_t);
+typedef size_t field_size(const uint8_t *, size_t, size_t, uint32_t);
+
+struct calls {
+    run_number *kind, *refusal, *has_values;
+    run_place *first, *after, *named;
+    run_value *nmi, *degrees, *seconds;
+    uint32_t (*has)(const uint8_t *, size_t, size_t, uint32_t);
+    int64_t (*item)(const uint8_t *, size_t, size_t, uint32_t);
+    size_t (*write)(uint8_t *, size_t, size_t, uint32_t, const uint8_t *, size_t);
+    uint32_t (*write_refusal)(const uint8_t *, size_t, size_t, uint32_t, const uint8_t *, size_t);
+    field_number *field_refusal, *field_type, *field_inner_type;
+    field_size *field_entries, *field_text_place, *field_text_length;
+    uint32_t (*field_has)(const uint8_t *, size_t, size_t, uint32_t, uint32_t);
+    uint64_t (*field_item)(const uint8_t *, size_t, size_t, uint32_t, uint32_t);
+    int64_t (*field_entry)(const uint8_t *, size_t, size_t, uint32_t, size_t);
+    size_t (*field_write)(uint8_t *, size_t, uint32_t, const uint8_t *, size_t, const uint8_t *, size_t, const uint8_t *, size_t);
+    uint32_t (*field_write_refusal)(const uint8_t *, size_t, uint32_t, const uint8_t *, size_t, const uint8_t *, size_t, const uint8_t *,
+                                    size_t);
+};
+
+extern const struct calls ours, plain;
+
+/* ---- inputs (inputs.c): the same on every machine */
+
+#define MOST_BYTES 65536
+#define MOST_ITEMS 640
+
+uint64_t rnd(void);
+void put_word(uint8_t *b, size_t i, unsigned w);
+void put_be64(uint8_t *b, uint64_t x);
+
+/* The items of a random report of that kind; answers their length. */
+size_t report_items(uint32_t kind, uint8_t *items);
+
+/* A line of n words: full of reports, mostly idle, one long run of good words, bad words each a run of its own, and in one run. */
+typedef void fill_line(uint8_t *b, size_t n);
+fill_line full_line, idle_line, long_run, bad_words, bad_run;
+
+/* A random field of a type, relayed or not, its counts largest or random; answers its bits. bytes has room for 256. */
+size_t random_field(unsigned type, int relayed, int largest, uint8_t *bytes);
+
+extern const unsigned types[21];
+
+/* ---- the comparison of answers (agree.c): answers how many were compared, and stops the program at the first that differ */
+
+unsigned long agree_lines(unsigned rounds);
+unsigned long agree_writing(unsigned rounds);
+unsigned long agree_fields(unsigned rounds);
+
+#endif

@@ -1,0 +1,207 @@
+/*
+ * inputs.c: what both libraries are run on. A small generator with a fixed seed, so that every machine measures the same bytes.
+ */
+#include <string.h>
+
+#include "bench.h"
+#include "plain_field.h"
+
+#define IDLE 1023u
+
+uint64_t rnd(void)
+{
+    static uint64_t x = 88172645463325252u;
+
+    x ^= x << 13;
+    x ^= x >> 7;
+    x ^= x << 17;
+    return x >> 16;
+}
+
+void put_word(uint8_t *b, size_t i, unsigned w)
+{
+    b[2 * i] = (uint8_t)(w >> 8);
+    b[2 * i + 1] = (uint8_t)w;
+}
+
+void put_be64(uint8_t *b, uint64_t x)
+{
+    int i;
+
+    for (i = 7; i >= 0; i--, x >>= 8)
+        b[i] = (uint8_t)x;
+}
+
+/* ---- reports and lines */
+
+size_t report_items(uint32_t kind, uint8_t *items)
+{
+    uint64_t all = plain_items_of(kind);
+    uint8_t *at = items;
+
+    if (kind == SIAMRUNG_KIND_DABS || kind == SIAMRUNG_KIND_ATCRBS)
+        all |= (uint64_t)1 << (rnd() % 2 ? SIAMRUNG_ITEM_ALTITUDE : SIAMRUNG_ITEM_CARRIED);
+    for (; all; all &= all - 1, at += 16) {
+        unsigned item = (unsigned)__builtin_ctzll(all);
+        put_be64(at, item);
+        if (item == SIAMRUNG_ITEM_ALTITUDE)
+            put_be64(at + 8, (uint64_t)((int64_t)(rnd() % 4095) - 2047));
+        else
+            put_be64(at + 8, rnd() & (((uint64_t)1 << plain_width(kind, item)) - 1));
+    }
+    return (size_t)(at - items);
+}
+
+static size_t put_report(uint8_t *b, size_t n, size_t place)
+{
+    uint8_t items[MOST_ITEMS];
+    uint32_t kind = SIAMRUNG_KIND_SEARCH + (uint32_t)(rnd() % 15);
+
+    return plain_write(b, 2 * n, place, kind, items, report_items(kind, items));
+}
+
+static void idle(uint8_t *b, size_t n)
+{
+    size_t i;
+
+    for (i = 0; i < n; i++)
+        put_word(b, i, IDLE);
+}
+
+void full_line(uint8_t *b, size_t n)
+{
+    size_t place = 0;
+
+    idle(b, n);
+    while (place + 8 <= n)
+        place = put_report(b, n, place);
+}
+
+void idle_line(uint8_t *b, size_t n)
+{
+    size_t place = 0;
+
+    idle(b, n);
+    while (place + 8 <= n)
+        place = put_report(b, n, place) + 64 + rnd() % 128;
+}
+
+static unsigned good_word(void)
+{
+    unsigned w = (unsigned)rnd() & 8190;
+
+    return w | (~(unsigned)__builtin_popcount(w) & 1);
+}
+
+static unsigned bad_word(size_t i)
+{
+    return i / 2 % 2 ? good_word() | 8192u << rnd() % 3 : (good_word() ^ 1) == IDLE ? 0 : good_word() & 8190 & ~1022u;
+}
+
+void long_run(uint8_t *b, size_t n)
+{
+    size_t i;
+
+    for (i = 0; i < n; i++)
+        put_word(b, i, good_word());
+}
+
+/* A bad word, an idle word, and so on: as many runs as a line can have. */
+void bad_words(uint8_t *b, size_t n)
+{
+    size_t i;
+
+    for (i = 0; i < n; i++)
+        put_word(b, i, i % 2 ? IDLE : bad_word(i));
+}
+
+/* A good word, a bad word, and so on: one run. */
+void bad_run(uint8_t *b, size_t n)
+{
+    size_t i;
+
+    for (i = 0; i < n; i++)
+        put_word(b, i, i % 2 ? bad_word(i) : good_word());
+}
+
+/* ---- fields: random bytes, then what is spare or not in use mended */
+
+const unsigned types[21] = {
+    0x21, 0x22, 0x23, 0x24, 0x02, 0x25, 0x61, 0x9B, 0x99, 0x65, 0x9A, 0x96, 0x31, 0x32, 0x41, 0x42, 0x43, 0x44, 0x45, 0x62, 0x83,
+};
+
+/* Of each type: the byte where its counts or small numbers stand, what may be random in it, what must be one. */
+struct shape {
+    unsigned at, any, set;
+};
+
+static struct shape shape_of(unsigned type)
+{
+    struct shape s[] = {{4, 0xFF, 0x11}, {4, 0xF0, 0x10}, {4, 0xFF, 0x11}, {1, 0x0F, 0}, {1, 0xC0, 0x40}, {1, 0xF3, 1}, {1, 0xFF, 0},
+                        {4, 0xF6, 0x10}, {4, 0xF8, 0x10}, {4, 0x0F, 1},    {4, 0x3F, 0}, {4, 0x0F, 0}};
+
+    switch (type) {
+    case 0x21: case 0x22: case 0x23: return s[0];
+    case 0x24: case 0x02: return s[1];
+    case 0x25: return s[2];
+    case 0x9B: return s[3];
+    case 0x99: return s[4];
+    case 0x65: return s[5];
+    case 0x9A: case 0x96: return s[6];
+    case 0x31: return s[7];
+    case 0x32: return s[8];
+    case 0x42: return s[9];
+    case 0x43: return s[10];
+    case 0x45: return s[11];
+    default: return (struct shape){0, 0xFF, 0};
+    }
+}
+
+static void mend(uint8_t *b, unsigned type, int largest)
+{
+    struct shape s = shape_of(type);
+    unsigned i;
+
+    b[s.at] = (uint8_t)((largest ? 0xFF & s.any : b[s.at] & s.any) | s.set);
+    b[0] = (uint8_t)type;
+    if (type == 0x22)
+        b[5] = largest ? 15 : (uint8_t)((b[5] & 15) | 1);
+    if (type == 0x23)
+        b[5] = 0x10;
+    if (type == 0x65)
+        b[2] = 0;
+    if (type == 0x31)
+        b[4] &= 0xF8;
+    if (type == 0x44)
+        b[11] &= 0xF8;
+    if (type == 0x83) {
+        b[8] &= 0xF5;
+        b[10] &= 0xF5;
+        b[11] &= 0xC0;
+    }
+    for (i = 2; type == 0x9B && i < 18; i++)
+        b[i] = (uint8_t)((b[i] & 0xF7) == 0x80 ? 0x11 : b[i] & 0xF7);
+}
+
+size_t random_field(unsigned type, int relayed, int largest, uint8_t *bytes)
+{
+    uint8_t *b = bytes + (relayed ? 2 : 0);
+    size_t i, bits;
+    uint64_t steps = 0;
+
+    for (i = 0; i < 256; i++)
+        bytes[i] = (uint8_t)rnd();
+    if (relayed)
+        bytes[0] = SIAMRUNG_TYPE_RELAY;
+    mend(b, type, largest);
+    switch (type) {
+    case 0x22: steps = (b[5] & 15u) + 1; break;
+    case 0x42: steps = (b[4] & 15u) + 1; break;
+    case 0x9B: steps = (b[1] & 15u) + 1; break;
+    case 0x9A: steps = (b[1] >> 5) + (b[1] >> 2 & 7u) + (b[1] & 3u); break;
+    case 0x96: steps = (b[1] >> 4) + (b[1] & 15u); break;
+    default: break;
+    }
+    bits = (relayed ? 16u : 0u) + plain_types[type].base + plain_types[type].step * steps;
+    return bits;
+}
