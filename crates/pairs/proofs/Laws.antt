@@ -1,16 +1,17 @@
--- Laws of pairs: how many there are, and how a search goes from one to the next. Assumes nothing.
+-- Laws of pairs: how many there are, and what is told of numbers by one pair more. Assumes nothing.
 use mathlib.Core.Path.{_≡_, refl, sym, ap, _∙_}
-use mathlib.Core.Bool.{true, false, cond}
+use mathlib.Core.Bool.{Bool, true, false, cond}
+use mathlib.Core.Logic.{_⊎_, inl, inr, ⊎-elim}
 use mathlib.Core.List.{List, [], _∷_}
-use Prim.Native.Nat.{ℕ, zero, suc, _+_, _-_, _*_, _/_, _≤_, _<_}
-use native.Mathlib.Numerals.{add-one}
+use Prim.Native.Nat.{ℕ, zero, suc, _+_, _/_, _≤_, _<_}
 use native.Mathlib.Omega.{arith}
 use lib.Dec.{eqb}
-use lib.ListN.{length, drop}
+use lib.ListN.{length, drop, getD, set}
 use lib.Seq.{drop-drop}
+use borrow.Author.Tests.{eq-eqb, ne-eqb}
 use Rattle.pairs.specs.declared.Found.{Found}
 use Rattle.pairs.specs.declared.Found.the-variants as F
-use Rattle.pairs.specs.Pairs.{eight, pairs, pairsIn, findIn}
+use Rattle.pairs.specs.Pairs.{Pair, eight, pairs, pairsIn, findIn, eachFrom, Slot}
 
 pub length-pairs : (n : ℕ) (s : List ℕ) → length (pairs n s) ≡ n
 unfolding pairs
@@ -21,21 +22,48 @@ pub length-pairsIn : (s : List ℕ) → length (pairsIn s) ≡ length s / 16
 unfolding pairsIn
 length-pairsIn s = length-pairs (length s / 16) s
 
--- the pair at a place is the one that is looked for
-pub hit : (n : ℕ) (s : List ℕ) (left at : ℕ) → 0 < left → eqb (eight (drop at s)) n ≡ true → findIn n (pairs left (drop at s)) ≡ F.Value (eight (drop (at + 8) s))
-unfolding pairs findIn
-hit n s zero at h e = absurd (omega arith)
-hit n s (suc left) at h e = rw (e, drop-drop 8 at s) refl
+-- the pair before those that are there
+pub pairs-before : (k at : ℕ) (s : List ℕ) → pairs (suc k) (drop at s) ≡ (eight (drop at s), eight (drop (at + 8) s)) ∷ pairs k (drop (at + 16) s)
+unfolding pairs
+pairs-before k at s = rw (drop-drop 8 at s, drop-drop 16 at s) refl
 
--- it is not, and the search goes on behind it
-pub miss : (n : ℕ) (s : List ℕ) (left at : ℕ) → 0 < left → eqb (eight (drop at s)) n ≡ false → findIn n (pairs left (drop at s)) ≡ findIn n (pairs (left - 1) (drop (at + 16) s))
-unfolding pairs findIn
-miss n s zero at h e = absurd (omega arith)
-miss n s (suc left) at h e =
-    let p : suc left - 1 ≡ left = omega arith in
-    rw (e, p, drop-drop 16 at s) refl
+-- ---- what is told of numbers, one pair more
 
--- none is left
-pub none : (n : ℕ) (s : List ℕ) (left : ℕ) → left ≡ 0 → findIn n (pairs left s) ≡ F.Missing
-unfolding pairs findIn
-none n s left e = rw e refl
+-- a pair of another number leaves everything as it is
+pub each-other : {X : Type 0} (f : Found → X) (n k : ℕ) (p : Pair) (ps : List Pair) → (p .0 < n) ⊎ (n + k ≤ p .0) → eachFrom f n k (p ∷ ps) ≡ eachFrom f n k ps
+unfolding eachFrom findIn
+each-other f n zero p ps h = refl
+each-other {X} f n (suc k) p ps h =
+    let e : eqb (p .0) n ≡ false = ne-eqb (p .0) n (λ q. ⊎-elim (λ a. omega arith) (λ b. omega arith) h) in
+    ap (λ (b : Bool). f (cond b (F.Value (p .1)) (findIn n ps)) ∷ eachFrom f (suc n) k (p ∷ ps)) e
+    ∙ ap (λ (l : List X). f (findIn n ps) ∷ l) (each-other f (suc n) k p ps (⊎-elim (λ a. inl (omega arith)) (λ b. inr (omega arith)) h))
+
+-- one of these numbers is told anew
+pub each-told : {X : Type 0} (f : Found → X) (n k i : ℕ) (p : Pair) (ps : List Pair) → i < k → n + i ≡ p .0
+    → set (eachFrom f n k ps) i (f (F.Value (p .1))) ≡ eachFrom f n k (p ∷ ps)
+unfolding eachFrom findIn
+each-told f n zero i p ps h q = absurd (omega arith)
+each-told {X} f n (suc k) zero p ps h q =
+    let e : eqb (p .0) n ≡ true = eq-eqb (p .0) n (omega arith) in
+    ap (λ (l : List X). f (F.Value (p .1)) ∷ l) (sym (each-other f (suc n) k p ps (inl (omega arith))))
+    ∙ ap (λ (b : Bool). f (cond b (F.Value (p .1)) (findIn n ps)) ∷ eachFrom f (suc n) k (p ∷ ps)) (sym e)
+each-told {X} f n (suc k) (suc i) p ps h q =
+    let e : eqb (p .0) n ≡ false = ne-eqb (p .0) n (λ r. omega arith) in
+    ap (λ (l : List X). f (findIn n ps) ∷ l) (each-told f (suc n) k i p ps (omega arith) (omega arith))
+    ∙ ap (λ (b : Bool). f (cond b (F.Value (p .1)) (findIn n ps)) ∷ eachFrom f (suc n) k (p ∷ ps)) (sym e)
+
+-- by the place that a slot names
+pub slot-told : {X : Type 0} (f : Found → X) (n m v k : ℕ) (ps : List Pair) → Slot n m k → k < 37 → set (eachFrom f n 37 ps) k (f (F.Value v)) ≡ eachFrom f n 37 ((m, v) ∷ ps)
+slot-told f n m v k ps o h = ⊎-elim (λ a. each-told f n 37 k (m, v) ps h (a .1)) (λ b. absurd (omega (arith, b .0))) o
+
+pub slot-other : {X : Type 0} (f : Found → X) (n m v k : ℕ) (ps : List Pair) → Slot n m k → 37 ≤ k → eachFrom f n 37 ((m, v) ∷ ps) ≡ eachFrom f n 37 ps
+slot-other f n m v k ps o h = ⊎-elim (λ a. absurd (omega (arith, a .0))) (λ b. each-other f n 37 (m, v) ps (b .1)) o
+
+-- what stands at a place
+pub each-at : {X : Type 0} (f : Found → X) (n k i : ℕ) (d : X) (ps : List Pair) → i < k → getD (eachFrom f n k ps) i d ≡ f (findIn (n + i) ps)
+unfolding eachFrom
+each-at f n zero i d ps h = absurd (omega arith)
+each-at f n (suc k) zero d ps h = ap (λ (m : ℕ). f (findIn m ps)) (omega arith)
+each-at f n (suc k) (suc i) d ps h =
+    let e : suc n + i ≡ n + suc i = omega arith in
+    each-at f (suc n) k i d ps (omega arith) ∙ ap (λ (m : ℕ). f (findIn m ps)) e

@@ -1,12 +1,15 @@
 -- Pairs of eight-byte numbers in a list of bytes, high byte first: a number, and the value that goes with it. Definitions only.
-use Prim.Native.Nat.{ℕ, zero, suc, _/_}
-use mathlib.Core.Bool.{cond}
+use Prim.Native.Nat.{ℕ, zero, suc, _+_, _/_, _≤_, _<_}
+use mathlib.Core.Bool.{Bool, true, false, cond}
+use mathlib.Core.Path.{_≡_}
+use mathlib.Core.Logic.{_⊎_}
 use mathlib.Core.List.{List, [], _∷_}
 use lib.Dec.{eqb}
 use lib.ListN.{length, drop}
 use Rattle.bits.specs.Bits.{bitsOf}
 use Rattle.pairs.specs.declared.Found.{Found}
 use Rattle.pairs.specs.declared.Found.the-variants as F
+use Rattle.pairs.specs.declared.Told.{Told}
 
 abbrev pub Pair : Type 0
 Pair = ℕ × ℕ
@@ -28,3 +31,25 @@ pairsIn s = pairs (length s / 16) s
 unfoldable pub findIn : ℕ → List Pair → Found
 findIn n [] = F.Missing
 findIn n (p ∷ ps) = cond (eqb (p .0) n) (F.Value (p .1)) (findIn n ps)
+
+-- its value; 0 where there is none
+abbrev pub valueOf : Found → ℕ
+valueOf (F.Value v) = v
+valueOf F.Missing = 0
+
+abbrev pub isFound : Found → Bool
+isFound (F.Value v) = true
+isFound F.Missing = false
+
+-- what f says of what is found for each of k numbers, n the first
+unfoldable pub eachFrom : {X : Type 0} → (Found → X) → ℕ → ℕ → List Pair → List X
+eachFrom f n zero ps = []
+eachFrom f n (suc k) ps = f (findIn n ps) ∷ eachFrom f (suc n) k ps
+
+-- of the thirty-seven numbers from n on
+unfoldable pub toldFrom : ℕ → List Pair → Told
+toldFrom n ps = record { there = eachFrom isFound n 37 ps; values = eachFrom valueOf n 37 ps }
+
+-- k is the place of the number m among those, or 37 and m is none of them
+abbrev pub Slot : ℕ → ℕ → ℕ → Type 0
+Slot n m k = ((k < 37) × (n + k ≡ m)) ⊎ ((k ≡ 37) × ((m < n) ⊎ (n + 37 ≤ m)))

@@ -2,15 +2,21 @@
 // Every slice is taken; bytes behind the last whole pair are no pair, and `whole` tells of them.
 // Relies on bits for the number that bytes hold; specs/Pairs.antt says what each answer means.
 ghost use mathlib.Core.Path.{_≡_};
-ghost use Prim.Native.Nat.{_+_, _%_, _≤_};
+ghost use Prim.Native.Nat.{_+_, _%_, _≤_, _<_};
 ghost use lib.Dec.{eqb};
 ghost use lib.ListN.{length, drop};
 ghost use Rattle.bits.specs.Bits.{bitsOf};
-ghost use Rattle.pairs.specs.Pairs.{pairsIn, findIn};
+ghost use Rattle.pairs.specs.Pairs.{pairsIn, Slot, toldFrom};
 
 pub enum Found {
     Value(u64),
     Missing,
+}
+
+// What is found for each of thirty-seven numbers: whether there is a value, and the value, 0 where there is none.
+pub struct Told {
+    pub there: [bool; 37],
+    pub values: [u64; 37],
 }
 
 // The slice is whole pairs: sixteen bytes each, and none left.
@@ -27,27 +33,52 @@ pub fn count(items: &[u8]) -> usize
     items.len() / 16
 }
 
-// The number of the eight bytes from a place on. Read from a part of the slice, so that no slice is too long to count its bits.
-fn eight(items: &[u8], at: usize) -> u64
-    requires { ⌜ at ≤ length (now items) ⌝ }
-    ensures { λ r. ⌜ r ≡ bitsOf (drop at (now (items .entry))) 0 64 ⌝ }
+fn byte(x: u8) -> u64
+    ensures { λ r. ⌜ (r ≡ x) × (r < 256) ⌝ }
 {
-    bits::read(&items[at..], 0, 64)
+    x as u64
 }
 
-// The value of the first pair that has this number. One pass over the slice.
-pub fn find(items: &[u8], number: u64) -> Found
-    ensures { λ r. ⌜ r ≡ findIn number (pairsIn (now (items .entry))) ⌝ }
+// The number of the eight bytes from a place on.
+fn eight(items: &[u8], at: usize) -> u64
+    requires { ⌜ at + 8 ≤ length (now items) ⌝ }
+    ensures { λ r. ⌜ r ≡ bitsOf (drop at (now (items .entry))) 0 64 ⌝ }
 {
-    let mut left = items.len() / 16;
-    let mut at: usize = 0;
-    while 0 < left {
-        if eight(items, at) == number {
-            let value = eight(items, at + 8);
-            return Found::Value(value);
-        }
-        at += 16;
-        left -= 1;
+    let mut v: u64 = 0;
+    let mut k: usize = 0;
+    while k < 8 {
+        v = v * 256 + byte(items[at + k]);
+        k += 1;
     }
-    Found::Missing
+    v
+}
+
+// Which of the thirty-seven numbers from `first` on a number is, counted from 0; 37 where it is none of them.
+fn slot(first: u64, number: u64) -> usize
+    ensures { λ r. ⌜ Slot first number r ⌝ }
+{
+    if number < first {
+        return 37;
+    }
+    let k = number - first;
+    if k < 37 { k as usize } else { 37 }
+}
+
+// What is told of the thirty-seven numbers from `first` on. One pass over the slice, the last pair first: of those with the same number the
+// first one stays.
+pub fn gather(items: &[u8], first: u64) -> Told
+    ensures { λ r. ⌜ r ≡ toldFrom first (pairsIn (now (items .entry))) ⌝ }
+{
+    let mut there = [false; 37];
+    let mut values = [0u64; 37];
+    let mut left = items.len() / 16;
+    while 0 < left {
+        left -= 1;
+        let k = slot(first, eight(items, 16 * left));
+        if k < 37 {
+            there[k] = true;
+            values[k] = eight(items, 16 * left + 8);
+        }
+    }
+    Told { there, values }
 }
