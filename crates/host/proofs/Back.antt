@@ -13,7 +13,7 @@ use Rattle.words.specs.Tests.{pick}
 use Rattle.lines.proofs.Tests.{picked, passed, by-test}
 use Rattle.pairs.specs.declared.Found.{Found}
 use Rattle.pairs.specs.declared.Found.the-variants as F
-use Rattle.pairs.specs.Pairs.{Pair, findIn}
+use Rattle.pairs.specs.Pairs.{Pair, findIn, valueOf, isFound, eachFrom}
 use Rattle.reports.specs.declared.Search.{Search}
 use Rattle.reports.specs.declared.Strobe.{Strobe}
 use Rattle.reports.specs.declared.Map.{Map}
@@ -34,7 +34,7 @@ use Rattle.reports.specs.Layouts.{Fits, layoutOf, lastWord}
 use Rattle.host.specs.declared.items.Item.{Item}
 use Rattle.host.specs.declared.items.Item.the-variants as I
 use Rattle.host.specs.Items.{heightItems, lookup, itemOf}
-use Rattle.host.specs.Given.{asSigned, itemFrom, told, bare, isFound, valuesFrom, valuesIn, plainGiven, cdGiven, mtdHeightGiven, rdasHeightGiven, dabsGiven, atcrbsGiven, built, builtFrom}
+use Rattle.host.specs.Given.{asSigned, itemFrom, told, valuesIn, plainGiven, cdGiven, mtdHeightGiven, rdasHeightGiven, dabsGiven, atcrbsGiven, built, builtFrom}
 use Rattle.host.proofs.Signed.{low, high, out}
 
 -- ---- one value
@@ -52,7 +52,7 @@ signed-pos v k e =
     let z : _≡_ {A = ℕ} 0 1 = cc in
     absurd (omega arith))
 
-found-count : (f : Found) (k : ℕ) → itemFrom f ≡ I.Of (pos k) → bare f ≡ k
+found-count : (f : Found) (k : ℕ) → itemFrom f ≡ I.Of (pos k) → valueOf f ≡ k
 found-count (F.Value v) k e = let q : asSigned 9223372036854775808 v ≡ pos k = cc in signed-pos v k q
 found-count F.Missing k e = let z : _≡_ {A = ℕ} 0 1 = cc in absurd (omega arith)
 
@@ -79,20 +79,20 @@ signed-small v z s e =
     let a : suc (18446744073709551615 - v) ≡ natAbs z = ap natAbs q in
     high 32768 v (omega arith) (omega arith) ∙ q)
 
-found-small : (f : Found) (z : ℤ) → natAbs z ≤ 2047 → itemFrom f ≡ I.Of z → asSigned 32768 (bare f) ≡ z
+found-small : (f : Found) (z : ℤ) → natAbs z ≤ 2047 → itemFrom f ≡ I.Of z → asSigned 32768 (valueOf f) ≡ z
 found-small (F.Value v) z s e = let q : asSigned 9223372036854775808 v ≡ z = cc in signed-small v z s q
 found-small F.Missing z s e = let y : _≡_ {A = ℕ} 0 1 = cc in absurd (omega arith)
 
 -- ---- the values of the items of a list
 
 module _ (ps : List Pair) where
-  count-back : (n k : ℕ) (w : ℕ) → told ps n ≡ I.Of (pos k) → k < w → bare (findIn n ps) % w ≡ k
+  count-back : (n k : ℕ) (w : ℕ) → told ps n ≡ I.Of (pos k) → k < w → valueOf (findIn n ps) % w ≡ k
   unfolding told
   count-back n k w e h =
-      let b : bare (findIn n ps) ≡ k = found-count (findIn n ps) k e in
+      let b : valueOf (findIn n ps) ≡ k = found-count (findIn n ps) k e in
       rw b (mod-eq-of-lt h)
 
-  flag-back : (n : ℕ) (b : Bool) → told ps n ≡ I.Of (pos (pick b 1 0)) → eqb (bare (findIn n ps)) 1 ≡ b
+  flag-back : (n : ℕ) (b : Bool) → told ps n ≡ I.Of (pos (pick b 1 0)) → eqb (valueOf (findIn n ps)) 1 ≡ b
   unfolding told
   flag-back n true e = rw (found-count (findIn n ps) 1 e) refl
   flag-back n false e = rw (found-count (findIn n ps) 0 e) refl
@@ -120,7 +120,7 @@ Said ps r = (n : ℕ) → 0 < n → n ≤ 36 → told ps n ≡ itemOf r n
 
 module _ (ps : List Pair) where
   search-back : (s : Search) → Fits signMagnitude (R.Search s) → Said ps (R.Search s) → builtFrom 101 ps ≡ R.Search s
-  unfolding built valuesIn valuesFrom
+  unfolding built valuesIn eachFrom
   search-back s f t =
       let a = both _ _ f in
       let b = both _ _ (a .1) in
@@ -145,7 +145,7 @@ module _ (ps : List Pair) where
       refl
 
   strobe-back : (s : Strobe) → Fits signMagnitude (R.Strobe s) → Said ps (R.Strobe s) → builtFrom 102 ps ≡ R.Strobe s
-  unfolding built valuesIn valuesFrom
+  unfolding built valuesIn eachFrom
   strobe-back s f t =
       let a = both _ _ f in
       let b = both _ _ (a .1) in
@@ -166,7 +166,7 @@ module _ (ps : List Pair) where
       refl
 
   map-back : (m : Map) → Fits signMagnitude (R.Map m) → Said ps (R.Map m) → builtFrom 103 ps ≡ R.Map m
-  unfolding built valuesIn valuesFrom
+  unfolding built valuesIn eachFrom
   map-back m f t =
       let z = both _ _ f in
       let a = both _ _ (z .1) in
@@ -188,7 +188,7 @@ module _ (ps : List Pair) where
       refl
 
   status-back : (s : Status) → Fits signMagnitude (R.Status s) → Said ps (R.Status s) → builtFrom 104 ps ≡ R.Status s
-  unfolding built valuesIn valuesFrom
+  unfolding built valuesIn eachFrom
   status-back s f t =
       let a = both _ _ f in
       let b = both _ _ (a .1) in
@@ -207,7 +207,7 @@ module _ (ps : List Pair) where
       refl
 
   rtqc-back : (s : Rtqc) → Fits signMagnitude (R.Rtqc s) → Said ps (R.Rtqc s) → builtFrom 105 ps ≡ R.Rtqc s
-  unfolding built valuesIn valuesFrom
+  unfolding built valuesIn eachFrom
   rtqc-back s f t =
       let a = both _ _ f in
       let b = both _ _ (a .1) in
@@ -247,7 +247,7 @@ module _ (ps : List Pair) where
       → told ps 7 ≡ lookup 7 (heightItems h) → told ps 18 ≡ lookup 18 (heightItems h) → told ps 31 ≡ lookup 31 (heightItems h)
       → told ps 32 ≡ lookup 32 (heightItems h) → told ps 33 ≡ lookup 33 (heightItems h)
       → heightFor h ≡ h
-  unfolding valuesIn valuesFrom told
+  unfolding valuesIn eachFrom told
   height-back (Ht.Altitude z) f t7 t18 t31 t32 t33 =
       let small : natAbs z ≤ 2047 = altitude-small z (one _ _ f) in
       rw (found-has (findIn 31 ps) z t31, found-small (findIn 31 ps) z small t31) refl
@@ -283,7 +283,7 @@ module _ (ps : List Pair) where
   -- ---- seven words
 
   dabs-fields : (d : Dabs) → Fits signMagnitude (R.Dabs d) → Said ps (R.Dabs d) → dabsGiven (valuesIn ps) (d .height) ≡ d
-  unfolding valuesIn valuesFrom
+  unfolding valuesIn eachFrom
   dabs-fields d f t =
       let a = both _ _ f in
       let b = both _ _ (a .1) in
@@ -319,7 +319,7 @@ module _ (ps : List Pair) where
       ∙ ap R.Dabs (dabs-fields d f t)
 
   atcrbs-fields : (a : Atcrbs) → Fits signMagnitude (R.Atcrbs a) → Said ps (R.Atcrbs a) → atcrbsGiven (valuesIn ps) (a .height) ≡ a
-  unfolding valuesIn valuesFrom
+  unfolding valuesIn eachFrom
   atcrbs-fields a f t =
       let w = both _ _ f in
       let b = both _ _ (w .1) in
@@ -360,7 +360,7 @@ module _ (ps : List Pair) where
       ∙ ap R.Atcrbs (atcrbs-fields a f t)
 
   mtd-back : (m : Mtd) → Fits signMagnitude (R.Mtd m) → Said ps (R.Mtd m) → builtFrom 114 ps ≡ R.Mtd m
-  unfolding built valuesIn valuesFrom
+  unfolding built valuesIn eachFrom
   mtd-back m f t =
       let w = both _ _ f in
       let b = both _ _ (w .1) in
@@ -395,7 +395,7 @@ module _ (ps : List Pair) where
       refl
 
   rdas-back : (x : Rdas) → Fits signMagnitude (R.Rdas x) → Said ps (R.Rdas x) → builtFrom 115 ps ≡ R.Rdas x
-  unfolding built valuesIn valuesFrom
+  unfolding built valuesIn eachFrom
   rdas-back x f t =
       let w = both _ _ f in
       let b = both _ _ (w .1) in

@@ -1,18 +1,23 @@
--- How the values are gathered and the test goes from number to number. Assumes nothing.
+-- How the test of the items goes, from number to number. Assumes nothing.
 use mathlib.Core.Path.{_≡_, refl, ap, sym, _∙_}
 use mathlib.Core.Bool.{Bool, true, false}
 use mathlib.Core.List.{List, _∷_, [], _++_}
-use Prim.Native.Nat.{ℕ, zero, suc, _-_, _≤_, _<_}
+use Prim.Native.Nat.{ℕ, zero, suc, _-_, _^_, _≤_, _<_}
 use native.Mathlib.Omega.{arith}
-use lib.ListN.{length, getD, take, set, replicate, length-replicate}
-use lib.Seq.{take-suc, append-snoc, set-at, length-take-le}
+use lib.ListN.{length}
+use native.Mathlib.Nat.{zero-add}
 use borrow.Author.Tests.{eq-eqb, ne-eqb}
 use Rattle.words.specs.Tests.{pick}
 use Rattle.lines.proofs.Tests.{picked, passed}
-use Rattle.pairs.specs.Pairs.{Pair, findIn}
+use Rattle.pairs.specs.declared.Found.{Found}
+use Rattle.pairs.specs.declared.Found.the-variants as F
+use Rattle.pairs.specs.Pairs.{Pair, findIn, isFound, valueOf, toldFrom}
+use Rattle.pairs.proofs.Laws.{each-at}
 use Rattle.reports.specs.declared.Report.{Report}
 use Rattle.host.specs.Items.{itemOf, itemsOf}
-use Rattle.host.specs.Given.{told, bare, valuesFrom, sameItem, agreeTo, agree, builtFrom, unfit, givenBy}
+use Rattle.host.specs.Given.{asSigned, itemFrom, told, itemTold, sameItem, agreeTo, agree, builtFrom, unfit, givenBy}
+use Rattle.host.specs.declared.items.Item.{Item}
+use Rattle.host.specs.declared.items.Item.the-variants as I
 use Rattle.host.proofs.Sizes.{few}
 
 -- ---- the whole test, by its outcome
@@ -32,53 +37,55 @@ module _ (kind : ℕ) (ps : List Pair) (r : Report) (is : r ≡ builtFrom kind p
   pub by-size : (length ps ≡ length (itemsOf r) → ⊥) → givenBy kind ps ≡ unfit
   by-size h = by-count kind ps (λ e. h (e ∙ sym sizes))
 
-  agreed : {t : Bool} → length ps ≡ length (itemsOf r) → agreeTo 36 r ps ≡ t → agree (builtFrom kind ps) ps ≡ pick t true false
+  agreed : {t : Bool} → length ps ≡ length (itemsOf r) → agreeTo 36 r (told ps) ≡ t → agree (builtFrom kind ps) ps ≡ pick t true false
   unfolding agree
   agreed {t} n e =
       picked _ _ (eq-eqb (length ps) (length (itemsOf (builtFrom kind ps))) (n ∙ sizes))
-      ∙ ap (λ (x : Bool). pick x true false) (ap (λ (x : Report). agreeTo 36 x ps) (sym is) ∙ e)
+      ∙ ap (λ (x : Bool). pick x true false) (ap (λ (x : Report). agreeTo 36 x (told ps)) (sym is) ∙ e)
 
-  pub by-items : length ps ≡ length (itemsOf r) → agreeTo 36 r ps ≡ false → givenBy kind ps ≡ unfit
+  pub by-items : length ps ≡ length (itemsOf r) → agreeTo 36 r (told ps) ≡ false → givenBy kind ps ≡ unfit
   unfolding givenBy
   by-items n e = passed _ _ (agreed n e)
 
-  pub by-all : length ps ≡ length (itemsOf r) → agreeTo 36 r ps ≡ true → givenBy kind ps ≡ r
+  pub by-all : length ps ≡ length (itemsOf r) → agreeTo 36 r (told ps) ≡ true → givenBy kind ps ≡ r
   unfolding givenBy
   by-all n e = picked _ _ (agreed n e) ∙ sym is
 
--- ---- values
-
--- one value more, before those that are there
-pub fill : (n : ℕ) (ps : List Pair) → 0 < n → n ≤ 37
-    → set (take n (replicate 37 0) ++ valuesFrom n (37 - n) ps) (n - 1) (bare (findIn (n - 1) ps))
-    ≡ take (n - 1) (replicate 37 0) ++ valuesFrom (n - 1) (37 - (n - 1)) ps
-unfolding valuesFrom
-fill zero ps h l = absurd (omega arith)
-fill (suc m) ps h l =
-    let z : List ℕ = replicate 37 0 in
-    let n : length z ≡ 37 = length-replicate {A = ℕ} 37 0 in
-    let e : suc m - 1 ≡ m = omega arith in
-    let k : 37 - m ≡ suc (37 - suc m) = omega arith in
-    let vs = valuesFrom (suc m) (37 - suc m) ps in
-    rw (e, k)
-    (ap (λ (s : List ℕ). set (s ++ vs) m (bare (findIn m ps))) (take-suc z m 0 (omega arith))
-    ∙ ap (λ (s : List ℕ). set s m (bare (findIn m ps))) (append-snoc (take m z) (getD z m 0) vs)
-    ∙ set-at (take m z) (getD z m 0) vs (bare (findIn m ps)) m (length-take-le m z (omega arith)))
-
 -- ---- item by item
 
-pub agree-hit : (n : ℕ) (r : Report) (ps : List Pair) → 0 < n → sameItem (itemOf r n) (told ps n) ≡ true → agreeTo n r ps ≡ agreeTo (n - 1) r ps
-unfolding agreeTo
-agree-hit zero r ps h e = absurd (omega arith)
-agree-hit (suc n) r ps h e =
-    let k : suc n - 1 ≡ n = omega arith in
-    rw k (picked _ _ e)
+module _ (r : Report) (said : ℕ → Item) where
+  pub agree-hit : (n : ℕ) → 0 < n → sameItem (itemOf r n) (said n) ≡ true → agreeTo n r said ≡ agreeTo (n - 1) r said
+  unfolding agreeTo
+  agree-hit zero h e = absurd (omega arith)
+  agree-hit (suc n) h e =
+      let k : suc n - 1 ≡ n = omega arith in
+      rw k (picked _ _ e)
 
-pub agree-miss : (n : ℕ) (r : Report) (ps : List Pair) → 0 < n → sameItem (itemOf r n) (told ps n) ≡ false → agreeTo n r ps ≡ false
-unfolding agreeTo
-agree-miss zero r ps h e = absurd (omega arith)
-agree-miss (suc n) r ps h e = passed _ _ e
+  pub agree-miss : (n : ℕ) → 0 < n → sameItem (itemOf r n) (said n) ≡ false → agreeTo n r said ≡ false
+  unfolding agreeTo
+  agree-miss zero h e = absurd (omega arith)
+  agree-miss (suc n) h e = passed _ _ e
 
-pub agree-none : (n : ℕ) (r : Report) (ps : List Pair) → n ≡ 0 → agreeTo n r ps ≡ true
+  pub agree-none : (n : ℕ) → n ≡ 0 → agreeTo n r said ≡ true
+  unfolding agreeTo
+  agree-none n e = rw e refl
+
+-- what is gathered says what the pairs say
+item-from : (f : Found) → pick (isFound f) (I.Of (asSigned (2 ^ 63) (valueOf f))) I.Missing ≡ itemFrom f
+item-from (F.Value v) = refl
+item-from F.Missing = refl
+
+told-of : (ps : List Pair) (n : ℕ) → n ≤ 36 → itemTold (toldFrom 0 ps) n ≡ told ps n
+unfolding itemTold toldFrom told
+told-of ps n h =
+    rw (each-at isFound 0 37 n false ps (omega arith), each-at valueOf 0 37 n 0 ps (omega arith), zero-add n) (item-from (findIn n ps))
+
+same-to : (m : ℕ) (r : Report) (f g : ℕ → Item) → ((n : ℕ) → n ≤ m → f n ≡ g n) → agreeTo m r f ≡ agreeTo m r g
 unfolding agreeTo
-agree-none n r ps e = rw e refl
+same-to zero r f g h = refl
+same-to (suc m) r f g h =
+    ap (λ (x : Item). pick (sameItem (itemOf r (suc m)) x) (agreeTo m r f) false) (h (suc m) (omega arith))
+    ∙ ap (λ (b : Bool). pick (sameItem (itemOf r (suc m)) (g (suc m))) b false) (same-to m r f g (λ n l. h n (omega arith)))
+
+pub gathered : (r : Report) (ps : List Pair) → agreeTo 36 r (itemTold (toldFrom 0 ps)) ≡ agreeTo 36 r (told ps)
+gathered r ps = same-to 36 r (itemTold (toldFrom 0 ps)) (told ps) (told-of ps)

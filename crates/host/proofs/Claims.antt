@@ -12,7 +12,7 @@ use lib.IntN.{ℤ, pos, negsuc}
 use lib.ListN.{length}
 use Rattle.words.specs.Tests.{pick}
 use Rattle.lines.proofs.Tests.{picked, passed, by-test}
-use Rattle.pairs.specs.Pairs.{Pair, pairsIn, findIn}
+use Rattle.pairs.specs.Pairs.{Pair, pairsIn, findIn, isFound}
 use Rattle.reports.specs.declared.Report.{Report}
 use Rattle.reports.specs.declared.Report.the-variants as R
 use Rattle.reports.specs.Altitude.{signMagnitude}
@@ -21,7 +21,7 @@ use Rattle.reports.specs.Layouts.{Fits}
 use Rattle.host.specs.declared.items.Item.{Item}
 use Rattle.host.specs.declared.items.Item.the-variants as I
 use Rattle.host.specs.Items.{itemsOf, itemOf}
-use Rattle.host.specs.Given.{told, isFound, valuesIn, plainGiven, built, builtFrom, sameNumber, sameItem, agreeTo, agree, givenBy, given, unfit}
+use Rattle.host.specs.Given.{told, valuesIn, plainGiven, built, builtFrom, sameNumber, sameItem, agreeTo, agree, givenBy, given, unfit}
 use Rattle.host.specs.Claims.{ItemsOf, GivenExactly, NoneIsTaken}
 use Rattle.host.proofs.Back.{both, back}
 
@@ -46,23 +46,24 @@ is-same I.Missing = refl
 
 -- ---- number by number
 
-each-of : (m : ℕ) (r : Report) (ps : List Pair) → agreeTo m r ps ≡ true → (n : ℕ) → 0 < n → n ≤ m → told ps n ≡ itemOf r n
-unfolding agreeTo
-each-of zero r ps e n h l = absurd (omega arith)
-each-of (suc m) r ps e n h l = go (decLt n (suc m)) (λ k. each-of m r ps (both (sameItem (itemOf r (suc m)) (told ps (suc m))) (agreeTo m r ps) e .1) n h k)
-  where
-    go : Dec (n < suc m) → (n ≤ m → told ps n ≡ itemOf r n) → told ps n ≡ itemOf r n
-    go (yes k) before = before (omega arith)
-    go (no k) before =
-        let q : n ≡ suc m = omega arith in
-        rw q (same-is _ _ (both (sameItem (itemOf r (suc m)) (told ps (suc m))) (agreeTo m r ps) e .0))
+module _ (r : Report) (said : ℕ → Item) where
+  each-of : (m : ℕ) → agreeTo m r said ≡ true → (n : ℕ) → 0 < n → n ≤ m → said n ≡ itemOf r n
+  unfolding agreeTo
+  each-of zero e n h l = absurd (omega arith)
+  each-of (suc m) e n h l = go (decLt n (suc m)) (λ k. each-of m (both (sameItem (itemOf r (suc m)) (said (suc m))) (agreeTo m r said) e .1) n h k)
+    where
+      go : Dec (n < suc m) → (n ≤ m → said n ≡ itemOf r n) → said n ≡ itemOf r n
+      go (yes k) before = before (omega arith)
+      go (no k) before =
+          let q : n ≡ suc m = omega arith in
+          rw q (same-is _ _ (both (sameItem (itemOf r (suc m)) (said (suc m))) (agreeTo m r said) e .0))
 
-of-each : (m : ℕ) (r : Report) (ps : List Pair) → ((n : ℕ) → 0 < n → n ≤ m → told ps n ≡ itemOf r n) → agreeTo m r ps ≡ true
-unfolding agreeTo
-of-each zero r ps h = refl
-of-each (suc m) r ps h =
-    picked _ _ (ap (sameItem (itemOf r (suc m))) (h (suc m) (omega arith) (omega arith)) ∙ is-same (itemOf r (suc m)))
-    ∙ of-each m r ps (λ n a b. h n a (omega arith))
+  of-each : (m : ℕ) → ((n : ℕ) → 0 < n → n ≤ m → said n ≡ itemOf r n) → agreeTo m r said ≡ true
+  unfolding agreeTo
+  of-each zero h = refl
+  of-each (suc m) h =
+      picked _ _ (ap (sameItem (itemOf r (suc m))) (h (suc m) (omega arith) (omega arith)) ∙ is-same (itemOf r (suc m)))
+      ∙ of-each m (λ n a b. h n a (omega arith))
 
 -- ---- the kind
 
@@ -133,7 +134,7 @@ module _ (r : Report) (fit : Fits signMagnitude r) (kind : ℕ) (items : List �
         record {
           whole = eqb-true _ _ (p .0);
           many = eqb-true _ _ (n .0) ∙ ap (λ (x : Report). length (itemsOf x)) b;
-          each = each-of 36 r ps (ap (λ (x : Report). agreeTo 36 x ps) (sym b) ∙ both _ _ (n .1) .0);
+          each = each-of r (told ps) 36 (ap (λ (x : Report). agreeTo 36 x (told ps)) (sym b) ∙ both _ _ (n .1) .0);
         },
       )
 
@@ -142,7 +143,7 @@ module _ (r : Report) (fit : Fits signMagnitude r) (kind : ℕ) (items : List �
   here (k, i) =
       let b : builtFrom kind ps ≡ r = ap (λ (x : ℕ). builtFrom x ps) k ∙ back ps r fit (i .each) in
       let a : agree (builtFrom kind ps) ps ≡ true =
-      ap (λ (x : Report). agree x ps) b ∙ picked _ _ (eq-eqb _ _ (i .many)) ∙ picked _ _ (of-each 36 r ps (i .each)) in
+      ap (λ (x : Report). agree x ps) b ∙ picked _ _ (eq-eqb _ _ (i .many)) ∙ picked _ _ (of-each r (told ps) 36 (i .each)) in
       picked _ _ (eq-eqb _ _ (i .whole)) ∙ picked _ _ a ∙ b
 
 pub given-exactly : GivenExactly

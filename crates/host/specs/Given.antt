@@ -10,7 +10,8 @@ use lib.ListN.{length, getD}
 use Rattle.words.specs.Tests.{pick, all}
 use Rattle.pairs.specs.declared.Found.{Found}
 use Rattle.pairs.specs.declared.Found.the-variants as F
-use Rattle.pairs.specs.Pairs.{Pair, pairsIn, findIn}
+use Rattle.pairs.specs.declared.Told.{Told}
+use Rattle.pairs.specs.Pairs.{Pair, pairsIn, findIn, valueOf, isFound, eachFrom}
 use Rattle.reports.specs.declared.Search.{Search}
 use Rattle.reports.specs.declared.Strobe.{Strobe}
 use Rattle.reports.specs.declared.Map.{Map}
@@ -45,23 +46,13 @@ itemFrom F.Missing = I.Missing
 unfoldable pub told : List Pair → ℕ → Item
 told ps n = itemFrom (findIn n ps)
 
--- its eight bytes as they stand; 0 where there are none
-abbrev pub bare : Found → ℕ
-bare (F.Value v) = v
-bare F.Missing = 0
+-- the same of what is gathered for the numbers from 0 on
+unfoldable pub itemTold : Told → ℕ → Item
+itemTold t n = pick (getD (t .there) n false) (I.Of (asSigned (2 ^ 63) (getD (t .values) n 0))) I.Missing
 
-abbrev pub isFound : Found → Bool
-isFound (F.Value v) = true
-isFound F.Missing = false
-
--- for k numbers from n on
-unfoldable pub valuesFrom : ℕ → ℕ → List Pair → List ℕ
-valuesFrom n zero ps = []
-valuesFrom n (suc k) ps = bare (findIn n ps) ∷ valuesFrom (suc n) k ps
-
--- for every item's number, and 0 which is none's
+-- the eight bytes as they stand, for every item's number, and 0 which is none's
 unfoldable pub valuesIn : List Pair → List ℕ
-valuesIn ps = valuesFrom 0 37 ps
+valuesIn ps = eachFrom valueOf 0 37 ps
 
 -- ---- the record that values make: nothing is tested here
 
@@ -250,14 +241,14 @@ sameItem (I.Of x) I.Missing = false
 sameItem I.Missing (I.Of y) = false
 sameItem I.Missing I.Missing = true
 
--- for each of the numbers 1 to n the record has what the pairs say
-unfoldable pub agreeTo : ℕ → Report → List Pair → Bool
-agreeTo zero r ps = true
-agreeTo (suc n) r ps = pick (sameItem (itemOf r (suc n)) (told ps (suc n))) (agreeTo n r ps) false
+-- for each of the numbers 1 to n the record has what is said of it
+unfoldable pub agreeTo : ℕ → Report → (ℕ → Item) → Bool
+agreeTo zero r said = true
+agreeTo (suc n) r said = pick (sameItem (itemOf r (suc n)) (said (suc n))) (agreeTo n r said) false
 
--- and there are as many: so none is foreign, and none is there twice
+-- by the pairs, and there are as many: so none is foreign, and none is there twice
 unfoldable pub agree : Report → List Pair → Bool
-agree r ps = all (eqb (length ps) (length (itemsOf r)) ∷ agreeTo 36 r ps ∷ [])
+agree r ps = all (eqb (length ps) (length (itemsOf r)) ∷ agreeTo 36 r (told ps) ∷ [])
 
 -- the record of a kind's number and these pairs
 unfoldable pub givenBy : ℕ → List Pair → Report

@@ -5,10 +5,11 @@
 ghost use mathlib.Core.Path.{_≡_};
 ghost use Prim.Native.Nat.{_^_, _≤_};
 ghost use lib.ListN.{length};
-ghost use Rattle.pairs.specs.Pairs.{pairsIn, findIn};
+ghost use Rattle.words.specs.Tests.{pick};
+ghost use Rattle.pairs.specs.Pairs.{pairsIn};
 ghost use Rattle.reports.specs.declared.Report.the-variants as R;
 ghost use Rattle.host.specs.Items.{itemsOf, heightItems};
-ghost use Rattle.host.specs.Given.{asSigned, itemFrom, told, bare, isFound, valuesIn, searchGiven, strobeGiven, mapGiven, statusGiven, rtqcGiven, plainGiven, cdGiven, mtdHeightGiven, rdasHeightGiven, dabsGiven, atcrbsGiven, mtdGiven, rdasGiven, unfit, built, sameNumber, sameItem, agreeTo, givenBy, given};
+ghost use Rattle.host.specs.Given.{asSigned, itemTold, searchGiven, strobeGiven, mapGiven, statusGiven, rtqcGiven, plainGiven, cdGiven, mtdHeightGiven, rdasHeightGiven, dabsGiven, atcrbsGiven, mtdGiven, rdasGiven, unfit, built, sameNumber, sameItem, agreeTo, givenBy, given};
 use crate::items::Item;
 use crate::items::item_of;
 use measures::CoarseAzimuth;
@@ -17,7 +18,7 @@ use measures::FineAzimuth;
 use measures::FineRange;
 use measures::RunLength;
 use measures::Time;
-use pairs::Found;
+use pairs::Told;
 use reports::Atcrbs;
 use reports::Dabs;
 use reports::Height;
@@ -62,51 +63,14 @@ fn altitude_of(v: u64) -> i16
     }
 }
 
-fn item_from(found: Found) -> Item
-    ensures { λ r. ⌜ r ≡ itemFrom found ⌝ }
+fn item_told(there: bool, v: u64) -> Item
+    ensures { λ r. ⌜ r ≡ pick there (Item.Of (asSigned (2 ^ 63) v)) Item.Missing ⌝ }
 {
-    match found {
-        Found::Value(v) => Item::Of(signed_of(v)),
-        Found::Missing => Item::Missing,
+    if there {
+        Item::Of(signed_of(v))
+    } else {
+        Item::Missing
     }
-}
-
-fn told_by(items: &[u8], n: u32) -> Item
-    ensures { λ r. ⌜ r ≡ told (pairsIn (now (items .entry))) n ⌝ }
-{
-    item_from(pairs::find(items, n as u64))
-}
-
-fn value_in(items: &[u8], n: usize) -> u64
-    ensures { λ r. ⌜ r ≡ bare (findIn n (pairsIn (now (items .entry)))) ⌝ }
-{
-    let found = pairs::find(items, n as u64);
-    match found {
-        Found::Value(v) => v,
-        Found::Missing => 0,
-    }
-}
-
-fn has(items: &[u8], n: usize) -> bool
-    ensures { λ r. ⌜ r ≡ isFound (findIn n (pairsIn (now (items .entry)))) ⌝ }
-{
-    let found = pairs::find(items, n as u64);
-    match found {
-        Found::Value(_) => true,
-        Found::Missing => false,
-    }
-}
-
-fn values_in(items: &[u8]) -> [u64; 37]
-    ensures { λ r. ⌜ r ≡ valuesIn (pairsIn (now (items .entry))) ⌝ }
-{
-    let mut v: [u64; 37] = [0; 37];
-    let mut n: usize = 37;
-    while 0 < n {
-        n -= 1;
-        v[n] = value_in(items, n);
-    }
-    v
 }
 
 // ---- the record that values make: four words
@@ -417,15 +381,17 @@ fn same(a: Item, b: Item) -> bool
     }
 }
 
-// For each item number the report has what the items say.
-fn agrees(report: Report, items: &[u8]) -> bool
-    ensures { λ r. ⌜ r ≡ agreeTo 36 report (pairsIn (now (items .entry))) ⌝ }
+// For each item number the report has what is told of it.
+fn agrees(report: Report, told: Told) -> bool
+    ensures { λ r. ⌜ r ≡ agreeTo 36 report (itemTold told) ⌝ }
 {
+    let there = told.there;
+    let values = told.values;
     let mut n: u32 = 36;
     while 0 < n {
         let own = item_of(report, n);
-        let told = told_by(items, n);
-        if same(own, told) {
+        let given = item_told(there[n as usize], values[n as usize]);
+        if same(own, given) {
             n -= 1;
         } else {
             return false;
@@ -442,13 +408,14 @@ fn given_by(kind: u32, items: &[u8]) -> Report
     if MOST_ITEMS < count {
         return no_record();
     }
-    let high = has(items, 31);
-    let v = values_in(items);
-    let report = built_of(kind, high, v);
+    let told = pairs::gather(items, 0);
+    let there = told.there;
+    let values = told.values;
+    let report = built_of(kind, there[31], values);
     if count != size_of(report) {
         return no_record();
     }
-    if agrees(report, items) {
+    if agrees(report, told) {
         report
     } else {
         no_record()

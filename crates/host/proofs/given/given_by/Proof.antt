@@ -1,13 +1,16 @@
 -- `host::given::given_by` meets its contract, outcome by outcome. Assumes nothing.
 use mathlib.Core.Path.{_≡_, ap, sym, _∙_}
-use mathlib.Core.Bool.{Bool}
-use Prim.Native.Nat.{_<_}
+use mathlib.Core.Bool.{Bool, false}
+use mathlib.Core.List.{List}
+use Prim.Native.Nat.{ℕ, _<_}
 use native.Mathlib.Omega.{arith}
-use lib.ListN.{length}
-use Rattle.pairs.specs.Pairs.{pairsIn, findIn}
+use lib.ListN.{length, getD}
+use Rattle.pairs.specs.declared.Told.{Told}
+use Rattle.pairs.specs.Pairs.{Pair, pairsIn, eachFrom, toldFrom}
+use Rattle.reports.specs.declared.Report.{Report}
 use Rattle.host.specs.Items.{itemsOf}
-use Rattle.host.specs.Given.{isFound, built, builtFrom}
-use Rattle.host.proofs.Builds.{by-many, by-size, by-items, by-all}
+use Rattle.host.specs.Given.{told, valuesIn, itemTold, agreeTo, built, builtFrom}
+use Rattle.host.proofs.Builds.{by-many, by-size, by-items, by-all, gathered}
 use borrow.Author.Needs.{needs}
 use Rattle.host.proofs.given.given_by.Statement.{statement}
 use Rattle.host.proofs.given.given_by.Tie as tie
@@ -26,11 +29,11 @@ returns c =
     let h : 40 < length ps = omega arith in
     c .no-record .ensures ∙ sym (by-many (a .kind) ps h)
 
-has-requires : tie.Need-has-requires
-has-requires c κs = search needs
+gather-requires : tie.Need-gather-requires
+gather-requires c κs = search needs
 
-values-in-requires : tie.Need-values-in-requires
-values-in-requires c κs = search needs
+array-read-built-of : tie.Need-array-read-built-of
+array-read-built-of c = search needs
 
 built-of-requires : tie.Need-built-of-requires
 built-of-requires c κs = search needs
@@ -42,20 +45,21 @@ no-record-requires-2 : tie.Need-no-record-requires-2
 no-record-requires-2 c κs = search needs
 
 -- the record is the one that the pairs make
+by-told : (kind : ℕ) (ps : List Pair) (t : Told) → t ≡ toldFrom 0 ps → built kind (getD (t .there) 31 false) (t .values) ≡ builtFrom kind ps
+unfolding toldFrom eachFrom valuesIn
+by-told kind ps t e = ap (λ (x : Told). built kind (getD (x .there) 31 false) (x .values)) e
+
 is : (c : tie.After-built-of) →
-    let a = c .before .before .before .before .before .before .args in
+    let a = c .before .before .before .before .before .before .before .args in
     c .built-of .result ≡ builtFrom (a .kind) (pairsIn (a .items .now))
 is c =
-    let a = c .before .before .before .before .before .before .args in
-    let ps = pairsIn (a .items .now) in
-    c .built-of .ensures
-    ∙ ap (λ (b : Bool). built (a .kind) b (c .before .values-in .result)) (c .before .before .has .ensures)
-    ∙ ap (built (a .kind) (isFound (findIn 31 ps))) (c .before .values-in .ensures)
+    let a = c .before .before .before .before .before .before .before .args in
+    c .built-of .ensures ∙ by-told (a .kind) (pairsIn (a .items .now)) _ (c .before .before .before .gather .ensures)
 
 returns-2 : tie.Need-returns-2
 returns-2 c =
     let t = c .before .before in
-    let n = t .before .before .before .before .before in
+    let n = t .before .before .before .before .before .before in
     c .no-record2 .ensures
     ∙ sym (by-size _ _ (t .before .built-of .result) (is (t .before)) (λ e. c .before .if2 .taken (n .count .ensures ∙ e ∙ sym (t .size-of .ensures))))
 
@@ -68,22 +72,26 @@ no-record-requires-3 c κs = search needs
 -- as many
 many : (c : tie.Else2) →
     let t = c .before in
-    let a = t .before .before .before .before .before .before .before .args in
+    let a = t .before .before .before .before .before .before .before .before .args in
     length (pairsIn (a .items .now)) ≡ length (itemsOf (t .before .built-of .result))
 many c =
     let t = c .before in
-    sym (t .before .before .before .before .before .count .ensures) ∙ c .if2 .left ∙ t .size-of .ensures
+    sym (t .before .before .before .before .before .before .count .ensures) ∙ c .if2 .left ∙ t .size-of .ensures
+
+-- the test by what is gathered is the test by the pairs
+tested : (r : Report) (ps : List Pair) (t : Told) (b : Bool) → t ≡ toldFrom 0 ps → b ≡ agreeTo 36 r (itemTold t) → agreeTo 36 r (told ps) ≡ b
+tested r ps t b e h = sym (gathered r ps) ∙ ap (λ (x : Told). agreeTo 36 r (itemTold x)) (sym e) ∙ sym h
 
 returns-3 : tie.Need-returns-3
 returns-3 c =
     let e = c .before .before in
-    sym (by-all _ _ (e .before .before .built-of .result) (is (e .before .before)) (many e) (sym (c .before .agrees .ensures) ∙ c .if3 .taken))
+    sym (by-all _ _ (e .before .before .built-of .result) (is (e .before .before)) (many e) (tested _ _ _ _ (e .before .before .before .before .before .gather .ensures) (c .before .agrees .ensures) ∙ c .if3 .taken))
 
 returns-4 : tie.Need-returns-4
 returns-4 c =
     let e = c .before .before .before in
     c .no-record3 .ensures
-    ∙ sym (by-items _ _ (e .before .before .built-of .result) (is (e .before .before)) (many e) (sym (c .before .before .agrees .ensures) ∙ c .before .if3 .left))
+    ∙ sym (by-items _ _ (e .before .before .built-of .result) (is (e .before .before)) (many e) (tested _ _ _ _ (e .before .before .before .before .before .gather .ensures) (c .before .before .agrees .ensures) ∙ c .before .if3 .left))
 
 pub given-by-spec : {M : Type 1} → statement M
 given-by-spec =
@@ -92,8 +100,8 @@ given-by-spec =
     count-requires
     no-record-requires
     returns
-    has-requires
-    values-in-requires
+    gather-requires
+    array-read-built-of
     built-of-requires
     size-of-requires
     no-record-requires-2
