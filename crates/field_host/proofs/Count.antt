@@ -11,7 +11,7 @@ use lib.ListN.{length}
 use borrow.Author.Tests.{eq-eqb, ne-eqb, eqb-true}
 use Rattle.pairs.specs.declared.Found.{Found}
 use Rattle.pairs.specs.declared.Found.the-variants.{Value, Missing}
-use Rattle.pairs.specs.Pairs.{Pair, findIn}
+use Rattle.pairs.specs.Pairs.{Pair, findIn, toldFrom}
 use Rattle.fields.specs.declared.Field.{Field}
 use Rattle.fields.specs.declared.Field.the-variants as F
 use Rattle.fields.specs.declared.Record.{Record}
@@ -19,8 +19,8 @@ use Rattle.fields.specs.declared.Record.the-variants.{Single, Relay}
 use Rattle.fields.specs.Table.{table, rows, placeFrom}
 use Rattle.fields.proofs.Rows.{both-left, both-right}
 use Rattle.field_host.specs.Items.{itemTable, itemsAt, pairsBy, fieldItems, itemsOf}
-use Rattle.field_host.specs.Writing.{sameFound, agree}
-use Rattle.field_host.proofs.Own.{no-sensor}
+use Rattle.field_host.specs.Writing.{foundIn, sameFound, covers}
+use Rattle.field_host.proofs.Own.{no-sensor, found-of}
 
 -- ---- pairs with numbers that differ
 
@@ -37,6 +37,17 @@ abbrev pub apart : List Pair → Bool
 apart [] = true
 apart (p ∷ ps) = (leb 201 (p .0) && leb (p .0) 237) && (missing (findIn (p .0) ps) && apart ps)
 
+-- the first of such pairs has an item's number, and those behind are such pairs
+first : (q : Pair) (qs : List Pair) → T (apart (q ∷ qs)) → (201 ≤ q .0) × (q .0 ≤ 237) × (findIn (q .0) qs ≡ Missing) × T (apart qs)
+first q qs t =
+    let a = both-left (leb 201 (q .0) && leb (q .0) 237) (missing (findIn (q .0) qs) && apart qs) t in
+    let b = both-right (leb 201 (q .0) && leb (q .0) 237) (missing (findIn (q .0) qs) && apart qs) t in (
+      leb→le 201 (q .0) (both-left (leb 201 (q .0)) (leb (q .0) 237) a),
+      leb→le (q .0) 237 (both-right (leb 201 (q .0)) (leb (q .0) 237) a),
+      missing-is _ (both-left (missing (findIn (q .0) qs)) (apart qs) b),
+      both-right (missing (findIn (q .0) qs)) (apart qs) b,
+    )
+
 -- a search passes over a pair with another number
 past : (p : Pair) (ps : List Pair) (n : ℕ) → (p .0 ≡ n → ⊥) → findIn n (p ∷ ps) ≡ findIn n ps
 unfolding findIn
@@ -45,19 +56,6 @@ past p ps n h = rw (ne-eqb (p .0) n h) refl
 here : (p : Pair) (ps : List Pair) (n : ℕ) → p .0 ≡ n → findIn n (p ∷ ps) ≡ Value (p .1)
 unfolding findIn
 here p ps n h = rw (eq-eqb (p .0) n h) refl
-
--- what is found has an item's number
-pub within : (ps : List Pair) → T (apart ps) → (n v : ℕ) → findIn n ps ≡ Value v → (201 ≤ n) × (n ≤ 237)
-unfolding findIn
-within [] t n v e = absurd (let z : _≡_ {A = ℕ} 0 1 = cc in omega arith)
-within (p ∷ ps) t n v e =
-    let a = both-left (leb 201 (p .0) && leb (p .0) 237) (missing (findIn (p .0) ps) && apart ps) t in
-    let b = both-right (missing (findIn (p .0) ps)) (apart ps) (both-right (leb 201 (p .0) && leb (p .0) 237) (missing (findIn (p .0) ps) && apart ps) t) in
-    go (ℕ-discrete (p .0) n) (leb→le 201 (p .0) (both-left (leb 201 (p .0)) (leb (p .0) 237) a)) (leb→le (p .0) 237 (both-right (leb 201 (p .0)) (leb (p .0) 237) a)) (within ps b n v)
-  where
-    go : Dec (p .0 ≡ n) → 201 ≤ p .0 → p .0 ≤ 237 → (findIn n ps ≡ Value v → (201 ≤ n) × (n ≤ 237)) → (201 ≤ n) × (n ≤ 237)
-    go (yes q) l m h = (omega arith, omega arith)
-    go (no q) l m h = h (sym (past p ps n q) ∙ e)
 
 -- ---- counting
 
@@ -95,20 +93,25 @@ Apart (q ∷ qs) = (findIn (q .0) qs ≡ Missing) × Apart qs
 
 apart-is : (ps : List Pair) → T (apart ps) → Apart ps
 apart-is [] t = tt
-apart-is (p ∷ ps) t =
-    let b = both-right (leb 201 (p .0) && leb (p .0) 237) (missing (findIn (p .0) ps) && apart ps) t in
-    (missing-is _ (both-left (missing (findIn (p .0) ps)) (apart ps) b), apart-is ps (both-right (missing (findIn (p .0) ps)) (apart ps) b))
+apart-is (p ∷ ps) t = let f = first p ps t in (f .2, apart-is ps (f .3))
+
+-- what is found behind a pair has another number than it
+other : (q : Pair) (qs : List Pair) → findIn (q .0) qs ≡ Missing → (n v : ℕ) → findIn n qs ≡ Value v → q .0 ≡ n → ⊥
+other q qs a n v f d = never (findIn n qs) v f (ap (λ (k : ℕ). findIn k qs) (sym d) ∙ a)
+  where
+    never : (x : Found) (v : ℕ) → x ≡ Value v → x ≡ Missing → ⊥
+    never x v f g = let z : _≡_ {A = ℕ} 0 1 = cc in omega arith
+
+-- what covers pairs covers those behind the first
+behind : (q : Pair) (qs ps : List Pair) → findIn (q .0) qs ≡ Missing → Covers ps (q ∷ qs) → Covers ps qs
+behind q qs ps a h n v f = h n v (past q qs n (other q qs a n v f) ∙ f)
 
 fewer : (qs ps : List Pair) → Apart qs → Covers ps qs → length qs ≤ length ps
 fewer [] ps a h = zero-le
 fewer (q ∷ qs) ps a h =
     let e = h (q .0) (q .1) (here q qs (q .0) refl) in
-    let differs : (n v : ℕ) → findIn n qs ≡ Value v → q .0 ≡ n → ⊥ = λ n v f d. never (findIn n qs) v f (ap (λ (k : ℕ). findIn k qs) (sym d) ∙ a .0) in
-    let less : length qs ≤ length (without (q .0) ps) = fewer qs (without (q .0) ps) (a .1) (λ n v f. without-other (q .0) n ps (differs n v f) ∙ h n v (past q qs n (differs n v f) ∙ f)) in
+    let less : length qs ≤ length (without (q .0) ps) = fewer qs (without (q .0) ps) (a .1) (λ n v f. without-other (q .0) n ps (other q qs (a .0) n v f) ∙ behind q qs ps (a .0) h n v f) in
     omega (arith, without-length (q .0) (q .1) ps e)
-  where
-    never : (x : Found) (v : ℕ) → x ≡ Value v → x ≡ Missing → ⊥
-    never x v f g = let z : _≡_ {A = ℕ} 0 1 = cc in omega arith
 
 -- nothing else is there
 pub nothing-else : (qs ps : List Pair) → T (apart qs) → Covers ps qs → length ps ≡ length qs → (n : ℕ) → findIn n ps ≡ findIn n qs
@@ -138,16 +141,27 @@ pub both : (a b : Bool) → (a && b) ≡ true → (a ≡ true) × (b ≡ true)
 both true b e = (refl, e)
 both false b e = absurd (let z : _≡_ {A = ℕ} 0 1 = cc in omega arith)
 
-pub agree-at : (ps qs : List Pair) (n k : ℕ) → agree ps qs n k ≡ true → (m : ℕ) → n ≤ m → m < n + k → findIn m ps ≡ findIn m qs
-unfolding agree
-agree-at ps qs n zero e m l h = absurd (omega arith)
-agree-at ps qs n (suc k) e m l h =
-    let b = both (sameFound (findIn n ps) (findIn n qs)) (agree ps qs (n + 1) k) e in
-    go (ℕ-discrete n m) (same-is _ _ (b .0)) (agree-at ps qs (n + 1) k (b .1) m)
+-- what is told covers the items that the test says it covers
+pub covers-is : (ps qs : List Pair) → T (apart qs) → covers (toldFrom 201 ps) qs ≡ true → Covers ps qs
+unfolding findIn covers
+covers-is ps [] t e n v f = absurd (let z : _≡_ {A = ℕ} 0 1 = cc in omega arith)
+covers-is ps (q ∷ qs) t e n v f =
+    let i = first q qs t in
+    let b = both (sameFound (foundIn (toldFrom 201 ps) (q .0)) (Value (q .1))) (covers (toldFrom 201 ps) qs) e in
+    go (ℕ-discrete (q .0) n) (sym (found-of ps (q .0) (i .0) (i .1)) ∙ same-is _ _ (b .0)) (covers-is ps qs (i .3) (b .1) n v)
   where
-    go : Dec (n ≡ m) → findIn n ps ≡ findIn n qs → (n + 1 ≤ m → m < n + 1 + k → findIn m ps ≡ findIn m qs) → findIn m ps ≡ findIn m qs
-    go (yes q) s r = ap (λ (j : ℕ). findIn j ps) (sym q) ∙ s ∙ ap (λ (j : ℕ). findIn j qs) q
-    go (no q) s r = r (omega arith) (omega arith)
+    go : Dec (q .0 ≡ n) → findIn (q .0) ps ≡ Value (q .1) → (findIn n qs ≡ Value v → findIn n ps ≡ Value v) → findIn n ps ≡ Value v
+    go (yes d) g h = ap (λ (k : ℕ). findIn k ps) (sym d) ∙ g ∙ sym (here q qs n d) ∙ f
+    go (no d) g h = h (sym (past q qs n d) ∙ f)
+
+-- and the test says it of all that it covers
+pub is-covered : (ps qs : List Pair) → T (apart qs) → Covers ps qs → covers (toldFrom 201 ps) qs ≡ true
+unfolding covers
+is-covered ps [] t h = refl
+is-covered ps (q ∷ qs) t h =
+    let i = first q qs t in
+    let g : foundIn (toldFrom 201 ps) (q .0) ≡ Value (q .1) = found-of ps (q .0) (i .0) (i .1) ∙ h (q .0) (q .1) (here q qs (q .0) refl) in
+    rw (g, eq-eqb (q .1) (q .1) refl) (is-covered ps qs (i .3) (behind q qs ps (i .2) h))
 
 -- ---- a record's items
 

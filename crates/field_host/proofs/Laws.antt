@@ -11,13 +11,14 @@ use lib.Seq.{drop-cons}
 use borrow.Author.Tests.{eq-eqb, ne-eqb}
 use Rattle.bits.specs.Bits.{bitsOf}
 use Rattle.pairs.specs.declared.Found.the-variants.{Value, Missing}
-use Rattle.pairs.specs.Pairs.{Pair, findIn}
+use Rattle.pairs.specs.declared.Told.{Told}
+use Rattle.pairs.specs.Pairs.{findIn}
 use Rattle.fields.specs.declared.Field.{Field}
 use Rattle.fields.specs.declared.Field.the-variants as F
 use Rattle.fields.specs.Records.{numbersOf}
 use Rattle.fields.proofs.Rows.{below-at}
 use Rattle.field_host.specs.Items.{itemTable, itemsAt, tallyOf, pairsBy}
-use Rattle.field_host.specs.Writing.{sameFound, agree, signedOf, numbersFrom}
+use Rattle.field_host.specs.Writing.{foundIn, sameFound, covers, signedOf, numbersFrom}
 
 -- ---- a search among parts
 
@@ -40,6 +41,19 @@ module _ (ks vs : List ℕ) (i : ℕ) (h : i < length ks) (l : i < length vs) wh
       go : (b : Bool) → findIn n (cond b (pairsBy (drop (i + 1) ks) (drop (i + 1) vs)) ((getD ks i 0, getD vs i 0) ∷ pairsBy (drop (i + 1) ks) (drop (i + 1) vs))) ≡ findIn n (pairsBy (drop (i + 1) ks) (drop (i + 1) vs))
       go true = refl
       go false = rw (ne-eqb (getD ks i 0) n e) refl
+
+  -- what is told covers the parts from i on
+  pub covers-step : (t : Told) →
+      covers t (pairsBy (drop i ks) (drop i vs))
+      ≡ (cond (eqb (getD ks i 0) 0) true (sameFound (foundIn t (getD ks i 0)) (Value (getD vs i 0))) && covers t (pairsBy (drop (i + 1) ks) (drop (i + 1) vs)))
+  unfolding covers
+  covers-step t = rw step (go (eqb (getD ks i 0) 0))
+    where
+      go : (b : Bool) →
+          covers t (cond b (pairsBy (drop (i + 1) ks) (drop (i + 1) vs)) ((getD ks i 0, getD vs i 0) ∷ pairsBy (drop (i + 1) ks) (drop (i + 1) vs)))
+          ≡ (cond b true (sameFound (foundIn t (getD ks i 0)) (Value (getD vs i 0))) && covers t (pairsBy (drop (i + 1) ks) (drop (i + 1) vs)))
+      go true = refl
+      go false = refl
 
 -- no item has the number 0
 pub no-zero : (ks vs : List ℕ) → findIn 0 (pairsBy ks vs) ≡ Missing
@@ -96,15 +110,6 @@ type-small (F.Capability a b c d) = omega arith
 type-small (F.IdCode a c) = omega arith
 type-small (F.TestResponse a) = omega arith
 type-small (F.ControllerAlert a b c d e f g h i j) = omega arith
-
--- ---- the comparison, number by number
-
-pub agree-step : (ps qs : List Pair) (n k : ℕ) → 0 < k → agree ps qs n k ≡ (sameFound (findIn n ps) (findIn n qs) && agree ps qs (n + 1) (k - 1))
-unfolding agree
-agree-step ps qs n zero h = absurd (omega arith)
-agree-step ps qs n (suc k) h =
-    let p : suc k - 1 ≡ k = omega arith in
-    rw p refl
 
 -- ---- the list, number by number
 

@@ -1,20 +1,25 @@
 -- What a record's own items say of each record: which place its type has, and that what is made of the items is the record. By cases of the
 -- record, each of which antt computes. Assumes nothing.
-use Prim.Native.Nat.{ℕ}
-use mathlib.Core.Path.{_≡_, refl}
+use Prim.Native.Nat.{ℕ, _+_, _-_, _≤_}
+use mathlib.Core.Path.{_≡_, refl, _∙_}
 use mathlib.Core.List.{List}
-use mathlib.Core.Bool.{not}
-use lib.Dec.{T, eqb}
+use mathlib.Core.Bool.{false, cond, _&&_}
+use native.Mathlib.Omega.{arith}
+use lib.Dec.{T, leb, leb→le}
 use lib.ListN.{getD}
-use Rattle.pairs.specs.declared.Found.the-variants.{Missing}
-use Rattle.pairs.specs.Pairs.{Pair, findIn}
+use borrow.Author.Tests.{le-leb}
+use Rattle.pairs.specs.declared.Found.{Found}
+use Rattle.pairs.specs.declared.Found.the-variants.{Value, Missing}
+use Rattle.pairs.specs.Pairs.{Pair, findIn, isFound, valueOf, toldFrom}
+use Rattle.pairs.proofs.Laws.{each-at}
 use Rattle.fields.specs.declared.Place.the-variants.{At}
 use Rattle.fields.specs.declared.Field.{Field}
 use Rattle.fields.specs.declared.Field.the-variants as F
 use Rattle.fields.specs.Table.{table, rows, placeFrom, placeOf}
 use Rattle.fields.specs.Records.{fieldAt, numbersOf}
+use Rattle.fields.proofs.Rows.{both-left, both-right}
 use Rattle.field_host.specs.Items.{itemTable, itemsAt, pairsBy, fieldItems}
-use Rattle.field_host.specs.Writing.{fieldGiven}
+use Rattle.field_host.specs.Writing.{foundIn, fieldGiven}
 use Rattle.field_host.specs.Claims.{ItemsByName}
 
 -- the place of a field's type
@@ -90,15 +95,27 @@ no-sensor (F.IdCode a c) = refl
 no-sensor (F.TestResponse a) = refl
 no-sensor (F.ControllerAlert a b c d e f g h i j) = refl
 
--- such an item
-says : (f : Field) (ps : List Pair) → ((n : ℕ) → (n ≡ 237 → ⊥) → findIn n ps ≡ findIn n (fieldItems f)) → (n : ℕ) → T (not (eqb n 237)) → findIn n ps ≡ findIn n (fieldItems f)
-says f ps h n t = h n (other n t)
+-- what is gathered says of an item what the pairs say
+pub found-of : (ps : List Pair) (n : ℕ) → 201 ≤ n → n ≤ 237 → foundIn (toldFrom 201 ps) n ≡ findIn n ps
+unfolding foundIn toldFrom
+found-of ps n l h =
+    let e : 201 + (n - 201) ≡ n = omega arith in
+    rw (le-leb 201 n l, each-at isFound 201 37 (n - 201) false ps (omega arith), each-at valueOf 201 37 (n - 201) 0 ps (omega arith), e) (whole (findIn n ps))
   where
-    other : (n : ℕ) → T (not (eqb n 237)) → n ≡ 237 → ⊥
-    other n t e = absurd (let z : T (not (eqb 237 237)) = (rw e at t) in z)
+    whole : (x : Found) → cond (isFound x) (Value (valueOf x)) Missing ≡ x
+    whole (Value v) = refl
+    whole Missing = refl
+
+-- such an item, where it is not the sensor
+says : (f : Field) (ps : List Pair) → ((n : ℕ) → (n ≡ 237 → ⊥) → findIn n ps ≡ findIn n (fieldItems f)) → (n : ℕ) → T (leb 201 n && leb n 236)
+    → foundIn (toldFrom 201 ps) n ≡ findIn n (fieldItems f)
+says f ps h n t =
+    let l = leb→le 201 n (both-left (leb 201 n) (leb n 236) t) in
+    let m = leb→le n 236 (both-right (leb 201 n) (leb n 236) t) in
+    found-of ps n l (omega arith) ∙ h n (λ e. omega arith)
 
 -- pairs that say of each item but the sensor what the field says make the field
-pub made : (f : Field) (ps : List Pair) → ((n : ℕ) → (n ≡ 237 → ⊥) → findIn n ps ≡ findIn n (fieldItems f)) → fieldGiven ps (placeNo f) ≡ f
+pub made : (f : Field) (ps : List Pair) → ((n : ℕ) → (n ≡ 237 → ⊥) → findIn n ps ≡ findIn n (fieldItems f)) → fieldGiven (toldFrom 201 ps) (placeNo f) ≡ f
 unfolding fieldGiven fieldAt findIn pairsBy fieldItems placeFrom rows table itemTable itemsAt
 made (F.TacticalUplink a b c d e) ps q = rw (says (F.TacticalUplink a b c d e) ps q 201 tt, says (F.TacticalUplink a b c d e) ps q 202 tt, says (F.TacticalUplink a b c d e) ps q 203 tt, says (F.TacticalUplink a b c d e) ps q 204 tt, says (F.TacticalUplink a b c d e) ps q 205 tt) refl
 made (F.ElmUplink a b c d f) ps q = rw (says (F.ElmUplink a b c d f) ps q 201 tt, says (F.ElmUplink a b c d f) ps q 202 tt, says (F.ElmUplink a b c d f) ps q 203 tt, says (F.ElmUplink a b c d f) ps q 204 tt, says (F.ElmUplink a b c d f) ps q 206 tt) refl

@@ -46,11 +46,6 @@ abbrev pub isThere : Found → ℕ
 isThere (F.Value x) = 1
 isThere F.Missing = 0
 
--- 0 where there is none
-abbrev pub valueOf : Found → ℕ
-valueOf (F.Value x) = x
-valueOf F.Missing = 0
-
 -- ---- lists
 
 -- how many entries an accepted field of that type and count has: 9B has 16+8(N+1) bits, 9A and 96 have 16+24 times their entries

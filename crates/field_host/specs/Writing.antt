@@ -2,13 +2,14 @@
 use Prim.Native.Nat.{ℕ, zero, suc, _+_, _-_, _%_}
 use mathlib.Core.Bool.{Bool, true, false, cond, _&&_}
 use mathlib.Core.List.{List, [], _∷_}
-use lib.Dec.{eqb, ltb}
+use lib.Dec.{eqb, ltb, leb}
 use lib.IntN.{ℤ, pos, negsuc}
 use lib.ListN.{length, getD}
 use Rattle.bits.specs.Bits as B
 use Rattle.pairs.specs.declared.Found.{Found}
 use Rattle.pairs.specs.declared.Found.the-variants.{Value, Missing}
-use Rattle.pairs.specs.Pairs.{Pair, pairsIn, findIn}
+use Rattle.pairs.specs.declared.Told.{Told}
+use Rattle.pairs.specs.Pairs.{Pair, pairsIn, valueOf, toldFrom}
 use Rattle.fields.specs.declared.Field.{Field}
 use Rattle.fields.specs.declared.Field.the-variants.{AtcFailure}
 use Rattle.fields.specs.declared.Record.{Record}
@@ -17,33 +18,38 @@ use Rattle.fields.specs.declared.Written.{Written}
 use Rattle.fields.specs.declared.Written.the-variants.{Bits, Refused}
 use Rattle.fields.specs.Table.{placeOf, byPlace}
 use Rattle.fields.specs.Records.{fieldAt}
-use Rattle.field_host.specs.Items.{sensor, itemsAt, itemsOf}
-use Rattle.field_host.specs.Reading.{innerOf, valueOf}
+use Rattle.field_host.specs.Items.{address, sensor, itemsAt, itemsOf}
+use Rattle.field_host.specs.Reading.{innerOf}
 
 -- ---- the record that is made of the pairs given
 
--- the value of part k, of parts with these items; 0 where it is not given
-abbrev pub partGiven : List Pair → List ℕ → ℕ → ℕ
-partGiven ps ks k = valueOf (findIn (getD ks k 0) ps)
+-- what is told of the number n, of what is gathered from the first item on; nothing of what is no item
+unfoldable pub foundIn : Told → ℕ → Found
+foundIn t n =
+    cond (leb address n) (cond (getD (t .there) (n - address) false) (Value (getD (t .values) (n - address) 0)) Missing) Missing
 
-abbrev pub fieldBy : List Pair → List ℕ → ℕ → Field
-fieldBy ps ks i =
-    fieldAt i (partGiven ps ks 1) (partGiven ps ks 2) (partGiven ps ks 3) (partGiven ps ks 4) (partGiven ps ks 5) (partGiven ps ks 6)
-    (partGiven ps ks 7) (partGiven ps ks 8) (partGiven ps ks 9) (partGiven ps ks 10)
+-- the value of part k, of parts with these items; 0 where it is not given
+abbrev pub partGiven : Told → List ℕ → ℕ → ℕ
+partGiven t ks k = valueOf (foundIn t (getD ks k 0))
+
+abbrev pub fieldBy : Told → List ℕ → ℕ → Field
+fieldBy t ks i =
+    fieldAt i (partGiven t ks 1) (partGiven t ks 2) (partGiven t ks 3) (partGiven t ks 4) (partGiven t ks 5) (partGiven t ks 6)
+    (partGiven t ks 7) (partGiven t ks 8) (partGiven t ks 9) (partGiven t ks 10)
 
 -- of the type at place i
-unfoldable pub fieldGiven : List Pair → ℕ → Field
-fieldGiven ps i = fieldBy ps (itemsAt i) i
+unfoldable pub fieldGiven : Told → ℕ → Field
+fieldGiven t i = fieldBy t (itemsAt i) i
 
 -- a sensor that is given makes a relay of it
 abbrev pub relayBy : Found → Field → Record
 relayBy (Value x) f = Relay x f
 relayBy Missing f = Single f
 
-abbrev pub recordGiven : List Pair → ℕ → Record
-recordGiven ps i = relayBy (findIn sensor ps) (fieldGiven ps i)
+abbrev pub recordGiven : Told → ℕ → Record
+recordGiven t i = relayBy (foundIn t sensor) (fieldGiven t i)
 
--- ---- the pairs given are the record's items: each item's number says the same of both, and there are as many
+-- ---- the pairs given are the record's items: each of those is given, with its value, and there are as many
 
 abbrev pub sameFound : Found → Found → Bool
 sameFound (Value x) (Value y) = eqb x y
@@ -51,21 +57,23 @@ sameFound (Value x) Missing = false
 sameFound Missing (Value y) = false
 sameFound Missing Missing = true
 
--- for k numbers from n on
-unfoldable pub agree : List Pair → List Pair → ℕ → ℕ → Bool
-agree ps qs n zero = true
-agree ps qs n (suc k) = sameFound (findIn n ps) (findIn n qs) && agree ps qs (n + 1) k
+unfoldable pub covers : Told → List Pair → Bool
+covers t [] = true
+covers t (q ∷ qs) = sameFound (foundIn t (q .0)) (Value (q .1)) && covers t qs
 
--- 201 to 237 are all items
-unfoldable pub fits : ℕ → List Pair → Record → Bool
-fits t ps r = eqb (innerOf r) t && (eqb (length ps) (length (itemsOf r)) && agree ps (itemsOf r) 201 37)
+-- of a type, so many pairs and what they tell
+unfoldable pub fits : ℕ → ℕ → Told → Record → Bool
+fits c n t r = eqb (innerOf r) c && (eqb n (length (itemsOf r)) && covers t (itemsOf r))
 
 -- what is no record: one that is refused with 30, whatever list and text go with it, since state 0 is not in use
 abbrev pub unfit : Record
 unfit = Single (AtcFailure 0)
 
+abbrev pub checkedBy : ℕ → ℕ → Told → ℕ → Record
+checkedBy c n t i = cond (fits c n t (recordGiven t i)) (recordGiven t i) unfit
+
 unfoldable pub checkedAt : ℕ → List Pair → ℕ → Record
-checkedAt t ps i = cond (fits t ps (recordGiven ps i)) (recordGiven ps i) unfit
+checkedAt c ps i = checkedBy c (length ps) (toldFrom address ps) i
 
 -- of a type, the bytes of its items, and the bytes of a list, which are thirty numbers of eight
 unfoldable pub given : ℕ → List ℕ → List ℕ → Record

@@ -1,14 +1,15 @@
 // The calls that write a link data field: a type, its items as pairs of numbers, a list of thirty numbers and a text, into lent bytes.
-// The record is made of the items that its type has, by what is given for them, and is then compared with all that is given: an item that is
-// missing, foreign or given twice is found by one rule. What is no record becomes one that the writer refuses with 30.
+// What the pairs tell is gathered once. The record is made of the items that its type has, by what is told of them; each of its items must be
+// told, and there must be as many pairs: so an item that is missing, foreign or given twice is found by one rule. What is no record becomes one that the writer refuses with 30.
 // Relies on fields for the writer, pairs for what is given, items for the parts; specs/Writing.antt says what each call answers and leaves.
 ghost use mathlib.Core.Path.{_≡_};
 ghost use Prim.Native.Nat.{_<_};
-ghost use Rattle.pairs.specs.Pairs.{findIn, pairsIn};
+ghost use mathlib.Core.Bool.{true, cond};
+ghost use lib.Dec.{eqb};
+ghost use Rattle.pairs.specs.Pairs.{pairsIn, valueOf};
 ghost use Rattle.fields.specs.Writing.{writtenOf, leftOf, writtenNumber};
-ghost use Rattle.field_host.specs.Items.{itemsOf};
-ghost use Rattle.field_host.specs.Reading.{valueOf};
-ghost use Rattle.field_host.specs.Writing.{fieldGiven, recordGiven, sameFound, agree, fits, unfit, checkedAt, given, signedOf, listGiven, bitsOf};
+ghost use Rattle.field_host.specs.Items.{pairsBy, fieldItems, itemsOf};
+ghost use Rattle.field_host.specs.Writing.{foundIn, fieldGiven, recordGiven, sameFound, covers, fits, unfit, checkedBy, checkedAt, given, signedOf, listGiven, bitsOf};
 use crate::items;
 use fields::Field;
 use fields::Place;
@@ -16,20 +17,43 @@ use fields::Record;
 use fields::Written;
 use fields::records;
 use pairs::Found;
+use pairs::Told;
+
+// The first item's number: there are thirty-seven.
+const FIRST: u64 = 201;
 
 // ---- the record
 
-// The value that is given for an item; 0 where none is.
-fn value(told: &[u8], item: u64) -> u64
-    ensures { λ r. ⌜ r ≡ valueOf (findIn item (pairsIn (now (told .entry)))) ⌝ }
+// What is told of an item; nothing of a number that is none.
+fn found(told: Told, item: u64) -> Found
+    ensures { λ r. ⌜ r ≡ foundIn told item ⌝ }
 {
-    items::value(pairs::find(told, item))
+    let there = told.there;
+    let values = told.values;
+    if item < FIRST {
+        return Found::Missing;
+    }
+    let k = item - FIRST;
+    if 37 <= k {
+        return Found::Missing;
+    }
+    if there[k as usize] {
+        Found::Value(values[k as usize])
+    } else {
+        Found::Missing
+    }
 }
 
-// The field of the type at place i, of what is given for its items.
-fn field_given(told: &[u8], i: usize) -> Field
+fn value(told: Told, item: u64) -> u64
+    ensures { λ r. ⌜ r ≡ valueOf (foundIn told item) ⌝ }
+{
+    items::value(found(told, item))
+}
+
+// The field of the type at place i, of what is told of its items.
+fn field_given(told: Told, i: usize) -> Field
     requires { ⌜ i < 22 ⌝ }
-    ensures { λ r. ⌜ r ≡ fieldGiven (pairsIn (now (told .entry))) i ⌝ }
+    ensures { λ r. ⌜ r ≡ fieldGiven told i ⌝ }
 {
     let k = items::items_at(i);
     records::field_at(
@@ -48,12 +72,12 @@ fn field_given(told: &[u8], i: usize) -> Field
 }
 
 // A sensor that is given makes a relay of it.
-fn record_given(told: &[u8], i: usize) -> Record
+fn record_given(told: Told, i: usize) -> Record
     requires { ⌜ i < 22 ⌝ }
-    ensures { λ r. ⌜ r ≡ recordGiven (pairsIn (now (told .entry))) i ⌝ }
+    ensures { λ r. ⌜ r ≡ recordGiven told i ⌝ }
 {
     let f = field_given(told, i);
-    let s = pairs::find(told, items::SENSOR);
+    let s = found(told, items::SENSOR);
     match s {
         Found::Value(x) => Record::Relay {
             sensor: x,
@@ -65,29 +89,36 @@ fn record_given(told: &[u8], i: usize) -> Record
 
 // ---- the comparison
 
-fn same(a: Found, b: Found) -> bool
-    ensures { λ r. ⌜ r ≡ sameFound a b ⌝ }
+// An item is told, with this value.
+fn tells(told: Told, item: u64, value: u64) -> bool
+    ensures { λ r. ⌜ r ≡ sameFound (foundIn told item) (Found.Value value) ⌝ }
 {
-    match a {
-        Found::Value(x) => match b {
-            Found::Value(y) => x == y,
-            Found::Missing => false,
-        },
-        Found::Missing => match b {
-            Found::Value(_) => false,
-            Found::Missing => true,
-        },
+    let f = found(told, item);
+    match f {
+        Found::Value(x) => x == value,
+        Found::Missing => false,
     }
 }
 
-// Each item's number says the same of what is given and of the record.
-fn agrees(told: &[u8], r: Record) -> bool
-    ensures { λ b. ⌜ b ≡ agree (pairsIn (now (told .entry))) (itemsOf r) 201 37 ⌝ }
+// A part is no item, or is told with this value.
+fn tells_part(told: Told, item: u64, value: u64) -> bool
+    ensures { λ r. ⌜ r ≡ cond (eqb item 0) true (sameFound (foundIn told item) (Found.Value value)) ⌝ }
 {
-    let mut n: u64 = 201;
-    while n < 238 {
-        if same(pairs::find(told, n), items::item_of(r, n)) {
-            n += 1;
+    if item == 0 {
+        true
+    } else {
+        tells(told, item, value)
+    }
+}
+
+// All of these parts that are items are told, with these values.
+fn tells_parts(told: Told, items: [u64; 11], v: [u64; 11]) -> bool
+    ensures { λ r. ⌜ r ≡ covers told (pairsBy items v) ⌝ }
+{
+    let mut i: usize = 0;
+    while i < 11 {
+        if tells_part(told, items[i], v[i]) {
+            i += 1;
         } else {
             return false;
         }
@@ -95,17 +126,43 @@ fn agrees(told: &[u8], r: Record) -> bool
     true
 }
 
-// What is given are the items of this record, and the type is the record's.
-fn fits(told: &[u8], code: u32, r: Record) -> bool
-    ensures { λ b. ⌜ b ≡ fits code (pairsIn (now (told .entry))) r ⌝ }
+fn tells_field(told: Told, f: Field) -> bool
+    ensures { λ r. ⌜ r ≡ covers told (fieldItems f) ⌝ }
+{
+    let v = records::numbers(f);
+    let Place::At(i) = records::place(v[0]) else {
+        return true;
+    };
+    tells_parts(told, items::items_at(i), v)
+}
+
+// Each of the record's items is told, with its value.
+fn tells_all(told: Told, r: Record) -> bool
+    ensures { λ b. ⌜ b ≡ covers told (itemsOf r) ⌝ }
+{
+    match r {
+        Record::Single(f) => tells_field(told, f),
+        Record::Relay { sensor, inner } => {
+            if tells(told, items::SENSOR, sensor) {
+                tells_field(told, inner)
+            } else {
+                false
+            }
+        }
+    }
+}
+
+// Of so many pairs what they tell are the items of this record, and the type is the record's.
+fn fits(code: u32, count: usize, told: Told, r: Record) -> bool
+    ensures { λ b. ⌜ b ≡ fits code count told r ⌝ }
 {
     if items::inner(r) != code {
         return false;
     }
-    if pairs::count(told) != items::count_of(r) {
+    if count != items::count_of(r) {
         return false;
     }
-    agrees(told, r)
+    tells_all(told, r)
 }
 
 // A record that the writer refuses with 30, whatever list and text are given: state 0 is not in use.
@@ -115,15 +172,23 @@ fn unfit() -> Record
     Record::Single(Field::AtcFailure { state: 0 })
 }
 
-fn checked(told: &[u8], code: u32, i: usize) -> Record
+fn checked_by(code: u32, count: usize, told: Told, i: usize) -> Record
     requires { ⌜ i < 22 ⌝ }
-    ensures { λ r. ⌜ r ≡ checkedAt code (pairsIn (now (told .entry))) i ⌝ }
+    ensures { λ r. ⌜ r ≡ checkedBy code count told i ⌝ }
 {
     let r = record_given(told, i);
-    if fits(told, code, r) {
+    if fits(code, count, told, r) {
         return r;
     }
     unfit()
+}
+
+fn checked(given: &[u8], code: u32, i: usize) -> Record
+    requires { ⌜ i < 22 ⌝ }
+    ensures { λ r. ⌜ r ≡ checkedAt code (pairsIn (now (given .entry))) i ⌝ }
+{
+    let count = pairs::count(given);
+    checked_by(code, count, pairs::gather(given, FIRST), i)
 }
 
 // The record of that type and these items, which goes with a list of thirty numbers.

@@ -34,7 +34,7 @@ none f n s e =
 
 -- it tells of one of the numbers, or of none
 module _ {X : Type 0} (f : Found → X) (first : ℕ) (s : List ℕ) (left n k : ℕ) (l : List X) (h : 0 < left) (m : left ≤ length s / 16)
-  (e : l ≡ eachFrom f first 37 (behind s left)) (p : n ≡ eight (drop (16 * (left - 1)) s)) (o : Slot first n k) where
+    (e : l ≡ eachFrom f first 37 (behind s left)) (p : n ≡ eight (drop (16 * (left - 1)) s)) (o : Slot first n k) where
   q : left ≡ suc (left - 1)
   q = omega arith
 

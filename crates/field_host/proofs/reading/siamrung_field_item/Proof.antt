@@ -2,7 +2,8 @@
 use borrow.Author.Needs.{needs}
 use mathlib.Core.Path.{ap, _∙_}
 use Rattle.fields.specs.declared.Answer.{Answer}
-use Rattle.field_host.specs.Reading.{itemIn, valueOf}
+use Rattle.field_host.specs.Reading.{itemIn}
+use Rattle.pairs.specs.Pairs.{valueOf}
 use Rattle.field_host.proofs.reading.siamrung_field_item.Statement.{statement}
 use Rattle.field_host.proofs.reading.siamrung_field_item.Tie as tie
 

@@ -13,9 +13,6 @@ returns : tie.Need-returns
 unfolding fits
 returns c = rw (← c .before .inner .ensures, ne-eqb _ _ (c .if1 .taken)) refl
 
-count-requires : tie.Need-count-requires
-count-requires c κs = search needs
-
 count-of-requires : tie.Need-count-of-requires
 count-of-requires c κs = search needs
 
@@ -23,16 +20,16 @@ returns-2 : tie.Need-returns-2
 unfolding fits
 returns-2 c =
     let k = c .before .before in
-    rw (← k .before .before .inner .ensures, eq-eqb _ _ (k .before .if1 .left), ← k .count .ensures, ← c .before .count-of .ensures, ne-eqb _ _ (c .if2 .taken)) refl
+    rw (← k .before .inner .ensures, eq-eqb _ _ (k .if1 .left), ← c .before .count-of .ensures, ne-eqb _ _ (c .if2 .taken)) refl
 
-agrees-requires : tie.Need-agrees-requires
-agrees-requires c κs = search needs
+tells-all-requires : tie.Need-tells-all-requires
+tells-all-requires c κs = search needs
 
 returns-3 : tie.Need-returns-3
 unfolding fits
 returns-3 c =
     let k = c .before .before .before in
-    rw (← k .before .before .inner .ensures, eq-eqb _ _ (k .before .if1 .left), ← k .count .ensures, ← c .before .before .count-of .ensures, eq-eqb _ _ (c .before .if2 .left)) (c .agrees .ensures)
+    rw (← k .before .inner .ensures, eq-eqb _ _ (k .if1 .left), ← c .before .before .count-of .ensures, eq-eqb _ _ (c .before .if2 .left)) (c .tells-all .ensures)
 
 pub fits-spec : {M : Type 1} → statement M
-fits-spec = tie.close (tie.spec inner-requires returns count-requires count-of-requires returns-2 agrees-requires returns-3)
+fits-spec = tie.close (tie.spec inner-requires returns count-of-requires returns-2 tells-all-requires returns-3)

@@ -1,18 +1,18 @@
 -- `field_host::writing::value` meets its contract. Assumes nothing.
 use mathlib.Core.Path.{ap, _∙_}
-use Rattle.field_host.specs.Reading.{valueOf}
+use Rattle.pairs.specs.Pairs.{valueOf}
 use borrow.Author.Needs.{needs}
 use Rattle.field_host.proofs.writing.value.Statement.{statement}
 use Rattle.field_host.proofs.writing.value.Tie as tie
 
-find-requires : tie.Need-find-requires
-find-requires c κs = search needs
+found-requires : tie.Need-found-requires
+found-requires c κs = search needs
 
 value-requires : tie.Need-value-requires
 value-requires c κs = search needs
 
 returns : tie.Need-returns
-returns c = c .value .ensures ∙ ap valueOf (c .before .find .ensures)
+returns c = c .value .ensures ∙ ap valueOf (c .before .found .ensures)
 
 pub value-spec : {M : Type 1} → statement M
-value-spec = tie.close (tie.spec find-requires value-requires returns)
+value-spec = tie.close (tie.spec found-requires value-requires returns)
