@@ -1,40 +1,59 @@
 -- Laws of the table: what is looked up, row by row.
 -- Assumes nothing.
-use mathlib.Core.Path.{_≡_, refl, sym, ap, _∙_}
+use mathlib.Core.Path.{_≡_, refl, sym}
 use mathlib.Core.List.{List, [], _∷_}
 use mathlib.Core.Bool.{Bool, true, false, cond, not, _&&_, _||_}
 use Prim.Native.Nat.{ℕ, zero, suc, _+_, _-_, _*_, _≤_, _<_, _^_, zero-le}
-use native.Mathlib.Numerals.{add-one}
 use native.Mathlib.Nat.{not-suc-le-zero, le-of-suc-le-suc, lt-of-lt-of-le}
 use native.Mathlib.Decide.{ℕ-discrete}
 use native.Mathlib.Omega.{arith}
-use lib.ListN.{length, drop, getD, List·getD-eq-default}
+use lib.ListN.{length, getD, List·getD-eq-default}
 use lib.Dec.{T, eqb, leb, leb→le}
 use lib.Pow.{pow-mono}
-use lib.Seq.{drop-cons}
-use Rattle.bits.specs.Bits.{bitsOf}
 use Rattle.bits.proofs.Laws.{bitsOf-lt}
-use borrow.Author.Tests.{eq-eqb, ne-eqb, eqb-true}
+use borrow.Author.Tests.{ne-eqb, eqb-true}
 use Rattle.fields.specs.declared.Row.{Row}
 use Rattle.fields.specs.declared.Place.{Place}
 use Rattle.fields.specs.declared.Place.the-variants.{At, Nowhere}
 use Rattle.fields.specs.declared.Field.the-variants.{ControllerAlert}
-use Rattle.fields.specs.Table.{table, rows, noRow, rowAt, widths, widthsAt, rules, rulesAt, placeFrom, valuesOf, countIn, RowSmall}
+use Rattle.fields.specs.Table.{table, rows, noRow, rowAt, widths, widthsAt, placeFrom, valuesOf, countIn, RowSmall}
 use Rattle.fields.specs.Records.{fieldsBy, fieldAt}
 use Rattle.fields.specs.Reading.{blockCount, typeNotCarried}
 
--- the row at i is the one tested next
-pub placeFrom-step : (c : ℕ) (rs : List Row) (i : ℕ) (d : Row) → i < length rs →
-    placeFrom c (drop i rs) i ≡ cond (eqb (getD rs i d .code) c) (At i) (placeFrom c (drop (i + 1) rs) (i + 1))
+-- the number c is none of the codes of these rows, as the last arm of a `match` has it: T, and then a code after the other
+abbrev Avoids : Type 0 → ℕ → List Row → Type 0
+Avoids T c [] = T
+Avoids T c (r ∷ rs) = Avoids (T × (c ≡ r .code → ⊥)) c rs
+
+avoided : (T : Type 0) (c : ℕ) (rs : List Row) (i : ℕ) → Avoids T c rs → T × (placeFrom c rs i ≡ Nowhere)
 unfolding placeFrom
-placeFrom-step c rs i d h = rw (drop-cons rs i d h, add-one) refl
+avoided T c [] i t = (t, refl)
+avoided T c (r ∷ rs) i t =
+    let h = avoided (T × (c ≡ r .code → ⊥)) c rs (i + 1) t in
+    (h .0 .0, rw (ne-eqb _ _ (λ e. h .0 .1 (sym e))) (h .1))
 
-pub placeFrom-hit : (c : ℕ) (rs : List Row) (i : ℕ) (d : Row) → i < length rs → getD rs i d .code ≡ c → placeFrom c (drop i rs) i ≡ At i
-placeFrom-hit c rs i d h e = rw (placeFrom-step c rs i d h, eq-eqb _ _ e) refl
+-- what is no row's code has no place
+pub placeFrom-none : (c : ℕ) (rs : List Row) → Avoids (Unit {0}) c rs → placeFrom c rs 0 ≡ Nowhere
+placeFrom-none c rs t = avoided (Unit {0}) c rs 0 t .1
 
-pub placeFrom-miss : (c : ℕ) (rs : List Row) (i : ℕ) (d : Row) → i < length rs → (getD rs i d .code ≡ c → ⊥) →
-    placeFrom c (drop i rs) i ≡ placeFrom c (drop (i + 1) rs) (i + 1)
-placeFrom-miss c rs i d h e = rw (placeFrom-step c rs i d h, ne-eqb _ _ e) refl
+-- the number i is none of the first n, as the last arm of a `match` has it
+abbrev NotBelow : ℕ → ℕ → Type 0
+NotBelow i zero = Unit {0}
+NotBelow i (suc n) = NotBelow i n × (i ≡ n → ⊥)
+
+not-below : (i n : ℕ) → NotBelow i n → n ≤ i
+not-below i zero t = zero-le
+not-below i (suc n) t = next (not-below i n (t .0)) (t .1)
+  where
+    next : n ≤ i → (i ≡ n → ⊥) → suc n ≤ i
+    next h ne = omega arith
+
+-- of the first n + 1 numbers it is then the last
+pub last-is : (i n : ℕ) → i < suc n → NotBelow i n → i ≡ n
+last-is i n h t = last (not-below i n t)
+  where
+    last : n ≤ i → i ≡ n
+    last l = omega arith
 
 -- within a list the value past its end does not matter
 pub getD-any : {A : Type 0} (l : List A) (i : ℕ) (d e : A) → i < length l → getD l i d ≡ getD l i e

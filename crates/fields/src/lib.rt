@@ -34,6 +34,12 @@ pub enum Place {
     Nowhere,
 }
 
+// What is wrong with the parts of a field: a spare bit is one; a value is not in use.
+pub struct Faults {
+    pub spare: bool,
+    pub unused: bool,
+}
+
 // A field that is no relay: for each type what its bits say, in the document's words. What the type tells is not said again, and spares are
 // left out. The entries of a list and the text of an ELM stand beside the record.
 pub enum Field {

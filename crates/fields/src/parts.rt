@@ -1,10 +1,12 @@
 // The parts of a field by the table's widths and rules: their values, their faults, and what the counted ones say.
 // Relies on `bits` and the table; specs/Table.antt says what each function means.
 ghost use mathlib.Core.Path.{_≡_};
+ghost use mathlib.Core.Bool.{_||_};
 ghost use Prim.Native.Nat.{ℕ, _≤_};
 ghost use lib.ListN.{getD};
 ghost use Rattle.fields.specs.Table.{valuesOf, hasFault, countIn, RowSmall};
 ghost use Rattle.fields.specs.Reading.{listedBy};
+use crate::Faults;
 use crate::Row;
 use crate::table;
 
@@ -25,18 +27,26 @@ pub fn values(b: &[u8], before: usize, widths: [u8; 11]) -> [u64; 11]
     v
 }
 
-// A part has that fault: 1 a spare bit is one, 2 its value is not in use.
-pub fn has_fault(kind: u64, rules: [u8; 11], v: [u64; 11]) -> bool
-    ensures { λ r. ⌜ r ≡ hasFault kind rules v ⌝ }
+fn either(a: bool, b: bool) -> bool
+    ensures { λ r. ⌜ r ≡ (a || b) ⌝ }
 {
+    if a { true } else { b }
+}
+
+// What is wrong with the parts, in one pass: both kinds of fault.
+pub fn faults(rules: [u8; 11], v: [u64; 11]) -> Faults
+    ensures { λ r. ⌜ r ≡ record { spare = hasFault 1 rules v; unused = hasFault 2 rules v } ⌝ }
+{
+    let mut spare = false;
+    let mut unused = false;
     let mut i: usize = 0;
     while i < 11 {
-        if table::fault(rules[i], v[i]) == kind {
-            return true;
-        }
+        let f = table::fault(rules[i], v[i]);
+        spare = either(spare, f == 1);
+        unused = either(unused, f == 2);
         i += 1;
     }
-    false
+    Faults { spare, unused }
 }
 
 fn part(v: [u64; 11], k: usize) -> u64

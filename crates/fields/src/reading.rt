@@ -111,11 +111,11 @@ fn judged(b: &[u8], before: usize, i: usize, row: Row, v: [u64; 11]) -> Plain
     requires { ⌜ RowSmall row v × (before ≤ 16) × (i < 22) ⌝ }
     ensures { λ r. ⌜ r ≡ judgedBy (now (b .entry)) before i row v ⌝ }
 {
-    let rules = table::rules_at(i);
-    if parts::has_fault(1, rules, v) {
+    let found = parts::faults(table::rules_at(i), v);
+    if found.spare {
         return Plain::Refused(FieldRefusal::SpareBitSet);
     }
-    if parts::has_fault(2, rules, v) {
+    if found.unused {
         return Plain::Refused(FieldRefusal::ValueNotInUse);
     }
     if lists::any_unused(b, before + row.base, block_count(row, v)) {

@@ -109,7 +109,8 @@ fn takes(i: usize, given: Record, list: [i32; 30], len: usize) -> bool
     if !fit_all(table::widths_at(i), v) {
         return false;
     }
-    if parts::has_fault(2, table::rules_at(i), v) {
+    let found = parts::faults(table::rules_at(i), v);
+    if found.unused {
         return false;
     }
     if !lists::list_fits(step, parts::listed_in(row, v), list) {

@@ -7,6 +7,7 @@ use Prim.Native.Nat.{ℕ, _+_, _≤_}
 use native.Mathlib.Omega.{arith}
 use native.Mathlib.Nat.{le-trans}
 use lib.ListN.{replicate}
+use Rattle.fields.specs.declared.Faults.{Faults}
 use Rattle.fields.specs.Table.{rulesAt, hasFault, valuesOf}
 use Rattle.fields.specs.Lists.{anyUnused}
 use Rattle.fields.specs.Reading.{judgedBy, blockCount, blocksBy}
@@ -17,31 +18,28 @@ use Rattle.fields.proofs.reading.judged.Tie as tie
 rules-at-requires : tie.Need-rules-at-requires
 rules-at-requires c κs = search needs
 
-has-fault-requires : tie.Need-has-fault-requires
-has-fault-requires c κs = search needs
+faults-requires : tie.Need-faults-requires
+faults-requires c κs = search needs
 
 -- a spare bit is one, as the table's rules have it
-spare : (c : tie.After-has-fault) →
+spare : (c : tie.After-faults) →
     let a = c .before .before .before .args in
-    hasFault 1 (rulesAt (a .i)) (a .t5) ≡ c .has-fault .result
-spare c = rw (← c .before .rules-at .ensures) (sym (c .has-fault .ensures))
+    hasFault 1 (rulesAt (a .i)) (a .t5) ≡ c .faults .result .spare
+spare c = rw (← c .before .rules-at .ensures) (sym (ap (λ (f : Faults). f .spare) (c .faults .ensures)))
+
+-- a value is not in use
+unused : (c : tie.After-faults) →
+    let a = c .before .before .before .args in
+    hasFault 2 (rulesAt (a .i)) (a .t5) ≡ c .faults .result .unused
+unused c = rw (← c .before .rules-at .ensures) (sym (ap (λ (f : Faults). f .unused) (c .faults .ensures)))
 
 returns : tie.Need-returns
 unfolding judgedBy
 returns c = rw (spare (c .before) ∙ c .if1 .taken)
 
-has-fault-requires-2 : tie.Need-has-fault-requires-2
-has-fault-requires-2 c κs = search needs
-
--- a value is not in use
-unused : (c : tie.After-has-fault2) →
-    let a = c .before .before .before .before .before .args in
-    hasFault 2 (rulesAt (a .i)) (a .t5) ≡ c .has-fault2 .result
-unused c = rw (← c .before .before .before .rules-at .ensures) (sym (c .has-fault2 .ensures))
-
 returns-2 : tie.Need-returns-2
 unfolding judgedBy
-returns-2 c = rw (spare (c .before .before .before) ∙ c .before .before .if1 .left, unused (c .before) ∙ c .if2 .taken)
+returns-2 c = let f = c .before .before in rw (spare f ∙ c .before .if1 .left, unused f ∙ c .if2 .taken)
 
 add-any-unused : tie.Need-add-any-unused
 add-any-unused c = search needs
@@ -51,13 +49,13 @@ block-count-requires c κs = search needs
 
 any-unused-requires : tie.Need-any-unused-requires
 any-unused-requires c κs =
-    let s = c .before .before .before .before .before .before .before .before in
+    let s = c .before .before .before .before .before .before .before in
     let p = s .pre .0 in
     (omega arith, rw (c .block-count .ensures) (block-count-small _ _ p))
 
 -- a block is not in use
 block : (c : tie.After-any-unused) →
-    let a = c .before .before .before .before .before .before .before .before .before .args in
+    let a = c .before .before .before .before .before .before .before .before .args in
     anyUnused (blocksBy (a .b .now) (a .before) (a .row) (a .t5)) ≡ c .any-unused .result
 block c = rw (← c .before .block-count .ensures) (sym (c .any-unused .ensures))
 
@@ -65,7 +63,8 @@ returns-3 : tie.Need-returns-3
 unfolding judgedBy
 returns-3 c =
     let e = c .before .before .before .before in
-    rw (spare (e .before .before .before) ∙ e .before .before .if1 .left, unused (e .before) ∙ e .if2 .left, block (c .before) ∙ c .if3 .taken)
+    let f = e .before .before in
+    rw (spare f ∙ e .before .if1 .left, unused f ∙ e .if2 .left, block (c .before) ∙ c .if3 .taken)
 
 array-read-field-at : tie.Need-array-read-field-at
 array-read-field-at c = search needs
@@ -105,9 +104,10 @@ unfolding judgedBy
 returns-4 c =
     let t = c .before in
     let e = t .before .before .before .before in
-    rw (spare (e .before .before .before) ∙ e .before .before .if1 .left, unused (e .before) ∙ e .if2 .left, block (t .before) ∙ t .if3 .left, c .field-at .ensures)
+    let f = e .before .before in
+    rw (spare f ∙ e .before .if1 .left, unused f ∙ e .if2 .left, block (t .before) ∙ t .if3 .left, c .field-at .ensures)
 
 pub judged-spec : {M : Type 1} → statement M
 judged-spec =
     tie.close
-    (tie.spec rules-at-requires has-fault-requires returns has-fault-requires-2 returns-2 add-any-unused block-count-requires any-unused-requires returns-3 array-read-field-at array-read-field-at-2 array-read-field-at-3 array-read-field-at-4 array-read-field-at-5 array-read-field-at-6 array-read-field-at-7 array-read-field-at-8 array-read-field-at-9 array-read-field-at-10 field-at-requires returns-4)
+    (tie.spec rules-at-requires faults-requires returns returns-2 add-any-unused block-count-requires any-unused-requires returns-3 array-read-field-at array-read-field-at-2 array-read-field-at-3 array-read-field-at-4 array-read-field-at-5 array-read-field-at-6 array-read-field-at-7 array-read-field-at-8 array-read-field-at-9 array-read-field-at-10 field-at-requires returns-4)

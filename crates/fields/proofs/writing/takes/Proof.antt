@@ -3,6 +3,7 @@ use borrow.Author.Needs.{needs}
 use borrow.Author.Tests.{not-true, not-false}
 use mathlib.Core.Path.{_≡_, refl, sym, ap, _∙_}
 use Prim.Native.Nat.{ℕ}
+use Rattle.fields.specs.declared.Faults.{Faults}
 use Rattle.fields.specs.Table.{rowAt, widthsAt, rulesAt, hasFault, RowSmall}
 use Rattle.fields.specs.Records.{numbersOf}
 use Rattle.fields.specs.Lists.{listFits}
@@ -52,13 +53,13 @@ returns-2 c =
 rules-at-requires : tie.Need-rules-at-requires
 rules-at-requires c κs = search needs
 
-has-fault-requires : tie.Need-has-fault-requires
-has-fault-requires c κs = search needs
+faults-requires : tie.Need-faults-requires
+faults-requires c κs = search needs
 
-unused : (c : tie.After-has-fault) →
+unused : (c : tie.After-faults) →
     let a = c .before .before .before .before .before .before .before .before .before .before .args in
-    hasFault 2 (rulesAt (a .i)) (numbersIn (a .given)) ≡ c .has-fault .result
-unused c = rw (← c .before .rules-at .ensures, ← numbers-are (c .before .before .before .before .before .before .before)) (sym (c .has-fault .ensures))
+    hasFault 2 (rulesAt (a .i)) (numbersIn (a .given)) ≡ c .faults .result .unused
+unused c = rw (← c .before .rules-at .ensures, ← numbers-are (c .before .before .before .before .before .before .before)) (sym (ap (λ (f : Faults). f .unused) (c .faults .ensures)))
 
 returns-3 : tie.Need-returns-3
 unfolding takesAt
@@ -111,4 +112,4 @@ returns-5 c =
 pub takes-spec : {M : Type 1} → statement M
 takes-spec =
     tie.close
-    (tie.spec row-at-requires field-in-requires numbers-requires head-fits-requires returns widths-at-requires fit-all-requires returns-2 rules-at-requires has-fault-requires returns-3 listed-in-requires list-fits-requires returns-4 text-length-requires returns-5)
+    (tie.spec row-at-requires field-in-requires numbers-requires head-fits-requires returns widths-at-requires fit-all-requires returns-2 rules-at-requires faults-requires returns-3 listed-in-requires list-fits-requires returns-4 text-length-requires returns-5)
