@@ -3,7 +3,7 @@
 // Relies on nothing; specs/Bits.antt says what each answer means.
 ghost use mathlib.Core.Path.{_≡_};
 ghost use Prim.Native.Nat.{_+_, _-_, _*_, _/_, _%_, _≤_, _<_, _^_};
-ghost use lib.ListN.{getD};
+ghost use lib.ListN.{length};
 ghost use Rattle.bits.specs.Bits.{bitAt, bitsOf, withDigit, withPart, putBit, putBits};
 
 fn wide(x: u8) -> u64
@@ -67,55 +67,96 @@ fn weight(k: usize) -> u64
     1u64 << k
 }
 
-// The byte at i, 0 past the end.
-fn byte_at(b: &[u8], i: usize) -> u64
-    ensures { λ r. ⌜ (r ≡ getD (now (b .entry)) i 0) × (r < 256) ⌝ }
+// The number that two bytes make, from the one at j on.
+fn two(b: &[u8], j: usize) -> u64
+    requires { ⌜ j + 2 ≤ length (now b) ⌝ }
+    ensures { λ r. ⌜ (r ≡ bitsOf (now (b .entry)) (j * 8) 16) × (r < 65536) ⌝ }
 {
-    if i < b.len() { wide(b[i]) } else { 0 }
+    wide(b[j]) * 256 + wide(b[j + 1])
 }
 
-// The number that m whole bytes make, from the one at j on.
-fn window(b: &[u8], j: usize, m: usize) -> u64
-    requires { ⌜ (j ≤ 1099511627776) × (m ≤ 8) ⌝ }
-    ensures { λ r. ⌜ r ≡ bitsOf (now (b .entry)) (j * 8) (m * 8) ⌝ }
+fn four(b: &[u8], j: usize) -> u64
+    requires { ⌜ j + 4 ≤ length (now b) ⌝ }
+    ensures { λ r. ⌜ (r ≡ bitsOf (now (b .entry)) (j * 8) 32) × (r < 4294967296) ⌝ }
 {
-    let mut v: u64 = 0;
-    let mut k: usize = 0;
-    while k < m {
-        v = v * 256 + byte_at(b, j + k);
-        k += 1;
+    two(b, j) * 65536 + two(b, j + 2)
+}
+
+// Of these eight bytes, without a test or a loop, the compiler makes one load.
+fn eight(b: &[u8], j: usize) -> u64
+    requires { ⌜ j + 8 ≤ length (now b) ⌝ }
+    ensures { λ r. ⌜ r ≡ bitsOf (now (b .entry)) (j * 8) 64 ⌝ }
+{
+    four(b, j) * 4294967296 + four(b, j + 4)
+}
+
+// The first 64 bits of fewer than eight bytes: the bytes there are from both ends, and zeros.
+fn few(b: &[u8]) -> u64
+    requires { ⌜ length (now b) < 8 ⌝ }
+    ensures { λ r. ⌜ r ≡ bitsOf (now (b .entry)) 0 64 ⌝ }
+{
+    let len = b.len();
+    if 4 <= len {
+        return four(b, 0) * 4294967296 + (four(b, len - 4) << (64 - 8 * len)) % 4294967296;
     }
-    v
+    if 2 <= len {
+        return (two(b, 0) * 65536 + (two(b, len - 2) << (32 - 8 * len)) % 65536) * 4294967296;
+    }
+    if len == 1 {
+        return wide(b[0]) << 56;
+    }
+    0
 }
 
-// A field of at most 32 bits: out of the bytes that it stands in.
-fn near(b: &[u8], before: usize, n: usize) -> u64
-    requires { ⌜ (before ≤ 8589934592) × (n ≤ 32) ⌝ }
-    ensures { λ r. ⌜ r ≡ bitsOf (now (b .entry)) before n ⌝ }
+// The n bits of a number of 64 bits that stand behind its first `at`.
+fn cut(w: u64, at: usize, n: usize) -> u64
+    requires { ⌜ (0 < n) × (at + n ≤ 64) ⌝ }
+    ensures { λ r. ⌜ r ≡ w / 2 ^ (64 - at - n) % 2 ^ n ⌝ }
 {
-    let inside = before % 8 + n;
-    let m = (inside + 7) / 8;
-    (window(b, before / 8, m) >> (8 * m - inside)) % weight(n)
+    w << at >> (64 - n)
+}
+
+// The byte at i, or an earlier one that has seven behind it.
+fn eight_from(i: usize, len: usize) -> usize
+    requires { ⌜ 8 ≤ len ⌝ }
+    ensures { λ r. ⌜ (r ≤ i) × (r + 8 ≤ len) ⌝ }
+{
+    if i <= len - 8 { i } else { len - 8 }
+}
+
+// A field that no eight bytes of the slice hold: past the end, over it, or over nine bytes.
+fn apart(b: &[u8], before: usize, n: usize) -> u64
+    ensures { λ r. ⌜ r ≡ bitsOf (now (b .entry)) before n % 2 ^ 64 ⌝ }
+{
+    if b.len() <= before / 8 {
+        return 0;
+    }
+    by_digits(b, before, n)
 }
 
 // The number that the n bits after the first `before` make, the first the heaviest; of more than 64 bits, the number that the last 64 make.
+// Out of eight bytes at once where they hold the field, as they do for each that has at most 57 bits and lies in the slice.
 pub fn read(b: &[u8], before: usize, n: usize) -> u64
     ensures { λ r. ⌜ r ≡ bitsOf (now (b .entry)) before n % 2 ^ 64 ⌝ }
 {
     if n == 0 {
         return 0;
     }
-    if 4294967296 < before {
+    if 64 < n {
         return by_digits(b, before, n);
     }
-    if n <= 32 {
-        return near(b, before, n);
+    if b.len() < 8 {
+        if before <= 64 - n {
+            return cut(few(b), before, n);
+        }
+        return apart(b, before, n);
     }
-    if n <= 64 {
-        let m = n - 32;
-        return near(b, before, m) * 4294967296 + near(b, before + m, 32);
+    let j = eight_from(before / 8, b.len());
+    let at = before - 8 * j;
+    if at <= 64 - n {
+        return cut(eight(b, j), at, n);
     }
-    by_digits(b, before, n)
+    apart(b, before, n)
 }
 
 // The byte x with its digit of weight 2 ^ k replaced by v.

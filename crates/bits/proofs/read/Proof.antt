@@ -1,8 +1,8 @@
--- `bits::read` meets its contract: whole bytes for places and widths in use, else bit by bit. Assumes nothing.
-use Prim.Native.Nat.{_^_, _<_}
+-- `bits::read` meets its contract: out of 64 bits that hold the field. Assumes nothing.
+use Prim.Native.Nat.{_-_, _*_}
 use native.Mathlib.Omega.{arith}
+use Rattle.bits.proofs.Laws.{no-bits, in-64}
 use borrow.Author.Needs.{needs}
-use Rattle.bits.proofs.Laws.{bitsOf-below, no-bits, in-two}
 use Rattle.bits.proofs.read.Statement.{statement}
 use Rattle.bits.proofs.read.Tie as tie
 
@@ -15,44 +15,49 @@ by-digits-requires c κs = search needs
 returns-2 : tie.Need-returns-2
 returns-2 c = search needs
 
-near-requires : tie.Need-near-requires
-near-requires c κs = search needs
+few-requires : tie.Need-few-requires
+few-requires c κs = search needs
+
+cut-requires : tie.Need-cut-requires
+cut-requires c κs = search needs
 
 returns-3 : tie.Need-returns-3
-returns-3 c = search needs
+returns-3 c =
+    let a = c .before .before .before .before .before .before .before .args in
+    in-64 (a .b .now) 0 (a .before) (a .before) (a .n) _ _ (c .before .few .ensures) (c .cut .ensures) (omega arith) (omega arith)
 
-sub-m : tie.Need-sub-m
-sub-m c = search needs
-
-near-requires-2 : tie.Need-near-requires-2
-near-requires-2 c κs = search needs
-
--- the first part has 32 bits at most
-first-below : (c : tie.After-near2) → c .near2 .result < 2 ^ 32
-first-below c = rw (c .near2 .ensures) (bitsOf-below 32 _ _ _ (omega arith))
-
-mul-result : tie.Need-mul-result
-mul-result c = omega (arith, first-below c)
-
-add-near : tie.Need-add-near
-add-near c = search needs
-
-near-requires-3 : tie.Need-near-requires-3
-near-requires-3 c κs = search needs
-
-add-result : tie.Need-add-result
-add-result c =
-    let h : c .near3 .result < 2 ^ 32 = rw (c .near3 .ensures) (bitsOf-below 32 _ _ _ (omega arith)) in
-    omega (arith, first-below (c .before))
+apart-requires : tie.Need-apart-requires
+apart-requires c κs = search needs
 
 returns-4 : tie.Need-returns-4
-returns-4 c = in-two _ _ _ _ _ _ (omega arith) (omega arith) (c .before .near2 .ensures) (c .near3 .ensures)
+returns-4 c = search needs
 
-by-digits-requires-2 : tie.Need-by-digits-requires-2
-by-digits-requires-2 c κs = search needs
+eight-from-requires : tie.Need-eight-from-requires
+eight-from-requires c κs = search needs
+
+mul-at : tie.Need-mul-at
+mul-at c = search needs
+
+sub-at : tie.Need-sub-at
+sub-at c = search needs
+
+eight-requires : tie.Need-eight-requires
+eight-requires c κs = search needs
+
+cut-requires-2 : tie.Need-cut-requires-2
+cut-requires-2 c κs = search needs
 
 returns-5 : tie.Need-returns-5
-returns-5 c = search needs
+returns-5 c =
+    let a = c .before .before .before .before .before .before .before .before .args in
+    let j = c .before .before .before .eight-from .result in
+    in-64 (a .b .now) (j * 8) (a .before) (a .before - 8 * j) (a .n) _ _ (c .before .eight .ensures) (c .cut2 .ensures) (omega arith) (omega arith)
+
+apart-requires-2 : tie.Need-apart-requires-2
+apart-requires-2 c κs = search needs
+
+returns-6 : tie.Need-returns-6
+returns-6 c = search needs
 
 pub read-spec : {M : Type 1} → statement M
 read-spec =
@@ -61,14 +66,16 @@ read-spec =
     returns
     by-digits-requires
     returns-2
-    near-requires
+    few-requires
+    cut-requires
     returns-3
-    sub-m
-    near-requires-2
-    mul-result
-    add-near
-    near-requires-3
-    add-result
+    apart-requires
     returns-4
-    by-digits-requires-2
-    returns-5)
+    eight-from-requires
+    mul-at
+    sub-at
+    eight-requires
+    cut-requires-2
+    returns-5
+    apart-requires-2
+    returns-6)
