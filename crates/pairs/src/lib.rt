@@ -2,7 +2,7 @@
 // Every slice is taken; bytes behind the last whole pair are no pair, and `whole` tells of them.
 // Relies on bits for the number that bytes hold; specs/Pairs.antt says what each answer means.
 ghost use mathlib.Core.Path.{_≡_};
-ghost use Prim.Native.Nat.{_+_, _%_, _≤_, _<_};
+ghost use Prim.Native.Nat.{_+_, _%_, _≤_};
 ghost use lib.Dec.{eqb};
 ghost use lib.ListN.{length, drop};
 ghost use Rattle.bits.specs.Bits.{bitsOf};
@@ -33,24 +33,12 @@ pub fn count(items: &[u8]) -> usize
     items.len() / 16
 }
 
-fn byte(x: u8) -> u64
-    ensures { λ r. ⌜ (r ≡ x) × (r < 256) ⌝ }
-{
-    x as u64
-}
-
-// The number of the eight bytes from a place on.
+// The number of the eight bytes from a place on. Read from a part of the slice, so that no slice is too long to count its bits.
 fn eight(items: &[u8], at: usize) -> u64
-    requires { ⌜ at + 8 ≤ length (now items) ⌝ }
+    requires { ⌜ at ≤ length (now items) ⌝ }
     ensures { λ r. ⌜ r ≡ bitsOf (drop at (now (items .entry))) 0 64 ⌝ }
 {
-    let mut v: u64 = 0;
-    let mut k: usize = 0;
-    while k < 8 {
-        v = v * 256 + byte(items[at + k]);
-        k += 1;
-    }
-    v
+    bits::read(&items[at..], 0, 64)
 }
 
 // Which of the thirty-seven numbers from `first` on a number is, counted from 0; 37 where it is none of them.
