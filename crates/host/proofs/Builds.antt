@@ -1,4 +1,4 @@
--- How the test of the items goes, from number to number. Assumes nothing.
+-- The test of the items, by its outcome, and by what is gathered. Assumes nothing.
 use mathlib.Core.Path.{_≡_, refl, ap, sym, _∙_}
 use mathlib.Core.Bool.{Bool, true, false}
 use mathlib.Core.List.{List, _∷_, [], _++_}
@@ -51,24 +51,7 @@ module _ (kind : ℕ) (ps : List Pair) (r : Report) (is : r ≡ builtFrom kind p
   unfolding givenBy
   by-all n e = picked _ _ (agreed n e) ∙ sym is
 
--- ---- item by item
-
-module _ (r : Report) (said : ℕ → Item) where
-  pub agree-hit : (n : ℕ) → 0 < n → sameItem (itemOf r n) (said n) ≡ true → agreeTo n r said ≡ agreeTo (n - 1) r said
-  unfolding agreeTo
-  agree-hit zero h e = absurd (omega arith)
-  agree-hit (suc n) h e =
-      let k : suc n - 1 ≡ n = omega arith in
-      rw k (picked _ _ e)
-
-  pub agree-miss : (n : ℕ) → 0 < n → sameItem (itemOf r n) (said n) ≡ false → agreeTo n r said ≡ false
-  unfolding agreeTo
-  agree-miss zero h e = absurd (omega arith)
-  agree-miss (suc n) h e = passed _ _ e
-
-  pub agree-none : (n : ℕ) → n ≡ 0 → agreeTo n r said ≡ true
-  unfolding agreeTo
-  agree-none n e = rw e refl
+-- ---- by what is gathered
 
 -- what is gathered says what the pairs say
 item-from : (f : Found) → pick (isFound f) (I.Of (asSigned (2 ^ 63) (valueOf f))) I.Missing ≡ itemFrom f

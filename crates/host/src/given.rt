@@ -3,12 +3,13 @@
 // that is neither 0 nor 1, an item that is missing, foreign or given twice; what fails it stands for one record that the writer refuses.
 // Relies on pairs for the items' values, items for a record's own.
 ghost use mathlib.Core.Path.{_≡_};
+ghost use mathlib.Core.Bool.{true};
 ghost use Prim.Native.Nat.{_^_, _≤_};
 ghost use lib.ListN.{length};
 ghost use Rattle.words.specs.Tests.{pick};
 ghost use Rattle.pairs.specs.Pairs.{pairsIn};
 ghost use Rattle.reports.specs.declared.Report.the-variants as R;
-ghost use Rattle.host.specs.Items.{itemsOf, heightItems};
+ghost use Rattle.host.specs.Items.{itemOf, itemsOf, heightItems};
 ghost use Rattle.host.specs.Given.{asSigned, itemTold, searchGiven, strobeGiven, mapGiven, statusGiven, rtqcGiven, plainGiven, cdGiven, mtdHeightGiven, rdasHeightGiven, dabsGiven, atcrbsGiven, mtdGiven, rdasGiven, unfit, built, sameNumber, sameItem, agreeTo, givenBy, given};
 use crate::items::Item;
 use crate::items::item_of;
@@ -60,16 +61,6 @@ fn altitude_of(v: u64) -> i16
         (0 - 1) - (below as i16)
     } else {
         0
-    }
-}
-
-fn item_told(there: bool, v: u64) -> Item
-    ensures { λ r. ⌜ r ≡ pick there (Item.Of (asSigned (2 ^ 63) v)) Item.Missing ⌝ }
-{
-    if there {
-        Item::Of(signed_of(v))
-    } else {
-        Item::Missing
     }
 }
 
@@ -381,23 +372,42 @@ fn same(a: Item, b: Item) -> bool
     }
 }
 
-// For each item number the report has what is told of it.
+// A value that is told of a number is what the report has there.
+fn stands(report: Report, n: u32, there: bool, v: u64) -> bool
+    ensures { λ r. ⌜ r ≡ pick there (sameItem (itemOf report n) (Item.Of (asSigned (2 ^ 63) v))) true ⌝ }
+{
+    if there {
+        let own = item_of(report, n);
+        same(own, Item::Of(signed_of(v)))
+    } else {
+        true
+    }
+}
+
+fn one(there: bool) -> usize
+    ensures { λ r. ⌜ (r ≡ pick there 1 0) × (r ≤ 1) ⌝ }
+{
+    if there { 1 } else { 0 }
+}
+
+// For each item number the report has what is told of it: whatever is told stands in the report, and as many numbers are told as it has items.
 fn agrees(report: Report, told: Told) -> bool
     ensures { λ r. ⌜ r ≡ agreeTo 36 report (itemTold told) ⌝ }
 {
     let there = told.there;
     let values = told.values;
+    let mut count: usize = 0;
     let mut n: u32 = 36;
     while 0 < n {
-        let own = item_of(report, n);
-        let given = item_told(there[n as usize], values[n as usize]);
-        if same(own, given) {
+        let k = n as usize;
+        if stands(report, n, there[k], values[k]) {
+            count += one(there[k]);
             n -= 1;
         } else {
             return false;
         }
     }
-    true
+    count == size_of(report)
 }
 
 // From whole items.
