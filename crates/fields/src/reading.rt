@@ -111,7 +111,8 @@ fn judged(b: &[u8], before: usize, i: usize, row: Row, v: [u64; 11]) -> Plain
     requires { ⌜ RowSmall row v × (before ≤ 16) × (i < 22) ⌝ }
     ensures { λ r. ⌜ r ≡ judgedBy (now (b .entry)) before i row v ⌝ }
 {
-    let found = parts::faults(table::rules_at(i), v);
+    let rules = table::rules_at(i);
+    let found = parts::faults(&rules, &v);
     if found.spare {
         return Plain::Refused(FieldRefusal::SpareBitSet);
     }
