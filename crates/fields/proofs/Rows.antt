@@ -8,10 +8,10 @@ use native.Mathlib.Nat.{not-suc-le-zero, le-of-suc-le-suc, lt-of-lt-of-le}
 use native.Mathlib.Decide.{ℕ-discrete}
 use native.Mathlib.Omega.{arith}
 use lib.ListN.{length, getD, List·getD-eq-default}
-use lib.Dec.{T, eqb, leb, leb→le}
+use lib.Dec.{T, eqb, eqb→eq, leb, leb→le}
 use lib.Pow.{pow-mono}
 use Rattle.bits.proofs.Laws.{bitsOf-lt}
-use borrow.Author.Tests.{ne-eqb, eqb-true}
+use borrow.Author.Tests.{eq-eqb, ne-eqb, eqb-true}
 use Rattle.fields.specs.declared.Row.{Row}
 use Rattle.fields.specs.declared.Place.{Place}
 use Rattle.fields.specs.declared.Place.the-variants.{At, Nowhere}
@@ -115,6 +115,35 @@ narrow-at (w ∷ ws) t (suc k) = narrow-at ws (both-right (leb w 63) (narrow ws)
 pub widths-narrow : (i : ℕ) → i < 22 → (k : ℕ) → getD (widthsAt i) k 0 ≤ 63
 unfolding table widths widthsAt
 widths-narrow i h = narrow-at (widthsAt i) (below-at (λ (j : ℕ). narrow (widthsAt j)) 22 tt i h)
+
+-- widths that are no more once one is none
+abbrev ended : List ℕ → Bool
+ended [] = true
+ended (w ∷ ws) = eqb w 0 && ended ws
+
+abbrev tapers : List ℕ → Bool
+tapers [] = true
+tapers (w ∷ ws) = (not (eqb w 0) || ended ws) && tapers ws
+
+ended-at : (ws : List ℕ) → T (ended ws) → (m : ℕ) → getD ws m 0 ≡ 0
+ended-at [] t m = refl
+ended-at (w ∷ ws) t zero = eqb→eq w 0 (both-left (eqb w 0) (ended ws) t)
+ended-at (w ∷ ws) t (suc m) = ended-at ws (both-right (eqb w 0) (ended ws) t) m
+
+tapers-at : (ws : List ℕ) → T (tapers ws) → (k m : ℕ) → k ≤ m → getD ws k 0 ≡ 0 → getD ws m 0 ≡ 0
+tapers-at [] t k m h e = refl
+tapers-at (w ∷ ws) t zero zero h e = e
+tapers-at (w ∷ ws) t zero (suc m) h e = ended-at ws (rest (eqb w 0) (eq-eqb w 0 e) (both-left (not (eqb w 0) || ended ws) (tapers ws) t)) m
+  where
+    rest : (b : Bool) → b ≡ true → T (not b || ended ws) → T (ended ws)
+    rest true q t = t
+    rest false q t = absurd (let z : _≡_ {A = ℕ} 0 1 = cc in omega arith)
+tapers-at (w ∷ ws) t (suc k) zero h e = absurd (not-suc-le-zero h)
+tapers-at (w ∷ ws) t (suc k) (suc m) h e = tapers-at ws (both-right (not (eqb w 0) || ended ws) (tapers ws) t) k m (le-of-suc-le-suc h) e
+
+pub widths-taper : (i : ℕ) → i < 22 → (k m : ℕ) → k ≤ m → getD (widthsAt i) k 0 ≡ 0 → getD (widthsAt i) m 0 ≡ 0
+unfolding table widths widthsAt
+widths-taper i h = tapers-at (widthsAt i) (below-at (λ (j : ℕ). tapers (widthsAt j)) 22 tt i h)
 
 -- ---- the numbers of a row are small
 

@@ -3,16 +3,17 @@
 ghost use mathlib.Core.Path.{_≡_};
 ghost use mathlib.Core.Bool.{_||_};
 ghost use Prim.Native.Nat.{ℕ, _≤_};
-ghost use lib.ListN.{getD};
+ghost use lib.Dec.{eqb};
+ghost use lib.ListN.{length, getD};
 ghost use Rattle.fields.specs.Table.{valuesOf, hasFault, countIn, RowSmall};
 ghost use Rattle.fields.specs.Reading.{listedBy};
 use crate::Faults;
 use crate::Row;
 use crate::table;
 
-// The parts of a field that begins behind the first `before` bits.
+// The parts of a field that begins behind the first `before` bits. Behind a part of no bits stands none that has any.
 pub fn values(b: &[u8], before: usize, widths: [u8; 11]) -> [u64; 11]
-    requires { ⌜ (before ≤ 4096) × ((k : ℕ) → getD widths k 0 ≤ 63) ⌝ }
+    requires { ⌜ (before ≤ 4096) × ((k : ℕ) → getD widths k 0 ≤ 63) × ((k m : ℕ) → k ≤ m → getD widths k 0 ≡ 0 → getD widths m 0 ≡ 0) ⌝ }
     ensures { λ r. ⌜ r ≡ valuesOf (now (b .entry)) before widths ⌝ }
 {
     let mut v = [0u64; 11];
@@ -20,6 +21,9 @@ pub fn values(b: &[u8], before: usize, widths: [u8; 11]) -> [u64; 11]
     let mut i: usize = 0;
     while i < 11 {
         let w = widths[i] as usize;
+        if w == 0 {
+            return v;
+        }
         v[i] = bits::read(b, at, w);
         at += w;
         i += 1;
@@ -33,24 +37,39 @@ fn either(a: bool, b: bool) -> bool
     if a { true } else { b }
 }
 
-// What is wrong with the parts, in one pass: both kinds of fault.
-pub fn faults(rules: [u8; 11], v: [u64; 11]) -> Faults
-    ensures { λ r. ⌜ r ≡ record { spare = hasFault 1 rules v; unused = hasFault 2 rules v } ⌝ }
+// What was found so far, and the fault of one part more. Most parts have none, and are let through by one test.
+fn noted(found: Faults, fault: u64) -> Faults
+    ensures { λ r. ⌜ r ≡ record { spare = found .spare || eqb fault 1; unused = found .unused || eqb fault 2 } ⌝ }
 {
-    let mut spare = false;
-    let mut unused = false;
-    let mut i: usize = 0;
-    while i < 11 {
-        let f = table::fault(rules[i], v[i]);
-        spare = either(spare, f == 1);
-        unused = either(unused, f == 2);
-        i += 1;
+    if fault == 0 {
+        return found;
     }
-    Faults { spare, unused }
+    Faults {
+        spare: either(found.spare, fault == 1),
+        unused: either(found.unused, fault == 2),
+    }
 }
 
-fn part(v: [u64; 11], k: usize) -> u64
-    ensures { λ r. ⌜ r ≡ getD v k 0 ⌝ }
+// What is wrong with the parts, in one pass: both kinds of fault.
+pub fn faults(rules: &[u8; 11], v: &[u64; 11]) -> Faults
+    requires { ⌜ (length (now rules) ≡ 11) × (length (now v) ≡ 11) ⌝ }
+    ensures { λ r. ⌜ r ≡ record { spare = hasFault 1 (now (rules .entry)) (now (v .entry)); unused = hasFault 2 (now (rules .entry)) (now (v .entry)) } ⌝ }
+{
+    let mut found = Faults {
+        spare: false,
+        unused: false,
+    };
+    let mut i: usize = 0;
+    while i < 11 {
+        found = noted(found, table::fault(rules[i], v[i]));
+        i += 1;
+    }
+    found
+}
+
+fn part(v: &[u64; 11], k: usize) -> u64
+    requires { ⌜ length (now v) ≡ 11 ⌝ }
+    ensures { λ r. ⌜ r ≡ getD (now (v .entry)) k 0 ⌝ }
 {
     if k < 11 { v[k] } else { 0 }
 }
@@ -60,7 +79,7 @@ pub fn count_in(row: Row, v: [u64; 11]) -> usize
     requires { ⌜ RowSmall row v ⌝ }
     ensures { λ r. ⌜ r ≡ countIn row v ⌝ }
 {
-    (row.more + part(v, row.first) + part(v, row.second) + part(v, row.third)) as usize
+    (row.more + part(&v, row.first) + part(&v, row.second) + part(&v, row.third)) as usize
 }
 
 // How many entries a list has: an ELM's steps are text and no entries.

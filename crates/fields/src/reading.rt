@@ -3,9 +3,11 @@
 // Relies on `bits`, the table and the records; specs/Reading.antt says what is answered.
 ghost use mathlib.Core.Path.{_≡_};
 ghost use Prim.Native.Nat.{_≤_, _<_};
+ghost use mathlib.Core.Bool.{_&&_};
+ghost use lib.Dec.{eqb, leb};
 ghost use Rattle.bits.specs.Bits.{bitsOf};
 ghost use Rattle.fields.specs.Table.{placeOf, RowSmall};
-ghost use Rattle.fields.specs.Reading.{fromSensor, sameWay, typeOf, typeNotCarried, unknownOf, notRelayed, sizedBy, blockCount, judgedBy, rowRead, plainOf, answered, relayed, opens, openedOf, outerOf, answerOf, listIn, listOf, readField, textIn, textPlace, textOf, answerNumber};
+ghost use Rattle.fields.specs.Reading.{fromSensor, sameWay, typeOf, typeNotCarried, unknownOf, notRelayed, sizedBy, blockCount, judgedBy, rowRead, plainOf, answered, relayed, openedOf, outerOf, answerOf, listIn, listOf, readField, textIn, textPlace, textOf, answerNumber};
 use crate::Answer;
 use crate::Direction;
 use crate::Found;
@@ -111,7 +113,8 @@ fn judged(b: &[u8], before: usize, i: usize, row: Row, v: [u64; 11]) -> Plain
     requires { ⌜ RowSmall row v × (before ≤ 16) × (i < 22) ⌝ }
     ensures { λ r. ⌜ r ≡ judgedBy (now (b .entry)) before i row v ⌝ }
 {
-    let found = parts::faults(table::rules_at(i), v);
+    let rules = table::rules_at(i);
+    let found = parts::faults(&rules, &v);
     if found.spare {
         return Plain::Refused(FieldRefusal::SpareBitSet);
     }
@@ -156,20 +159,27 @@ fn row_read(b: &[u8], count: usize, before: usize, way: Direction, i: usize) -> 
     judged(b, before, i, row, v)
 }
 
-// Where the type of a field that begins behind the first `before` bits stands in the table.
+// The type of a field that begins behind the first `before` bits.
+fn type_at(b: &[u8], before: usize) -> u64
+    ensures { λ r. ⌜ r ≡ typeOf (now (b .entry)) before ⌝ }
+{
+    bits::read(b, before, 8)
+}
+
+// Where it stands in the table.
 fn place_at(b: &[u8], before: usize) -> Place
     ensures { λ r. ⌜ r ≡ placeOf (typeOf (now (b .entry)) before) ⌝ }
 {
-    table::find(bits::read(b, before, 8))
+    table::find(type_at(b, before))
 }
 
-// A field that is no relay and begins behind the first `before` bits: 23 to 28, or its record.
-fn plain(b: &[u8], count: usize, before: usize, way: Direction) -> Plain
-    requires { ⌜ before ≤ 16 ⌝ }
+// A field of the type `code` that is no relay and begins behind the first `before` bits: 23 to 28, or its record.
+fn plain(b: &[u8], count: usize, before: usize, way: Direction, code: u64) -> Plain
+    requires { ⌜ (before ≤ 16) × (code ≡ typeOf (now b) before) ⌝ }
     ensures { λ r. ⌜ r ≡ plainOf (now (b .entry)) count before way ⌝ }
 {
-    let Place::At(i) = place_at(b, before) else {
-        return Plain::Refused(unknown(bits::read(b, before, 8)));
+    let Place::At(i) = table::find(code) else {
+        return Plain::Refused(unknown(code));
     };
     row_read(b, count, before, way, i)
 }
@@ -187,7 +197,7 @@ fn answer(p: Plain) -> Answer
 fn relay(b: &[u8], count: usize, way: Direction) -> Answer
     ensures { λ r. ⌜ r ≡ relayed (bitsOf (now (b .entry)) 8 8) (plainOf (now (b .entry)) count 16 way) ⌝ }
 {
-    let inner = plain(b, count, 16, way);
+    let inner = plain(b, count, 16, way, type_at(b, 16));
     let Plain::Read(f) = inner else {
         return answer(inner);
     };
@@ -198,10 +208,10 @@ fn relay(b: &[u8], count: usize, way: Direction) -> Answer
 }
 
 // A relay of at least 24 bits that comes from the sensor.
-fn opens(b: &[u8], count: usize, way: Direction) -> bool
-    ensures { λ r. ⌜ r ≡ opens (now (b .entry)) count way ⌝ }
+fn opens(code: u64, count: usize, way: Direction) -> bool
+    ensures { λ r. ⌜ r ≡ (eqb code 0x03 && (fromSensor way && leb 24 count)) ⌝ }
 {
-    if bits::read(b, 0, 8) != 0x03 {
+    if code != 0x03 {
         return false;
     }
     if from_sensor(way) {
@@ -214,10 +224,11 @@ fn opens(b: &[u8], count: usize, way: Direction) -> bool
 fn opened(b: &[u8], count: usize, way: Direction) -> Answer
     ensures { λ r. ⌜ r ≡ openedOf (now (b .entry)) count way ⌝ }
 {
-    if opens(b, count, way) {
+    let code = type_at(b, 0);
+    if opens(code, count, way) {
         return relay(b, count, way);
     }
-    answer(plain(b, count, 0, way))
+    answer(plain(b, count, 0, way, code))
 }
 
 // What the count and the bytes alone tell: 20, 21, 22, or nothing.

@@ -109,7 +109,8 @@ fn takes(i: usize, given: Record, list: [i32; 30], len: usize) -> bool
     if !fit_all(table::widths_at(i), v) {
         return false;
     }
-    let found = parts::faults(table::rules_at(i), v);
+    let rules = table::rules_at(i);
+    let found = parts::faults(&rules, &v);
     if found.unused {
         return false;
     }

@@ -1,4 +1,4 @@
--- `fields::parts::count_in` meets its contract. Assumes nothing.
+-- `fields::parts::count_in` meets its contract: its three parts are looked up. Assumes nothing.
 use borrow.Author.Needs.{needs}
 use Rattle.fields.specs.Table.{countIn}
 use Rattle.fields.proofs.parts.count_in.Statement.{statement}
@@ -24,8 +24,16 @@ add-result-3 c = search needs
 
 returns : tie.Need-returns
 unfolding countIn
-returns c = rw (c .part3 .ensures, c .before .part2 .ensures, c .before .before .before .part .ensures)
+returns c = rw (c .part3 .ensures, c .before .before .part2 .ensures, c .before .before .before .before .before .part .ensures)
 
 pub count-in-spec : {M : Type 1} → statement M
 count-in-spec =
-    tie.close (tie.spec part-requires add-result part-requires-2 add-result-2 part-requires-3 add-result-3 returns)
+    tie.close
+    (tie.spec
+    part-requires
+    add-result
+    part-requires-2
+    add-result-2
+    part-requires-3
+    add-result-3
+    returns)

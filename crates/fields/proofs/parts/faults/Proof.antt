@@ -1,44 +1,42 @@
 -- `fields::parts::faults` meets its contract: what was seen before i or is found from i on is what all parts say. Assumes nothing.
 use borrow.Author.Needs.{needs}
-use mathlib.Core.Path.{_≡_, refl, sym, _∙_}
+use mathlib.Core.Path.{_≡_, refl, sym, ap, _∙_}
 use mathlib.Core.Bool.{Bool, _||_}
 use Prim.Native.Nat.{ℕ, _-_, _≤_}
 use native.Mathlib.Omega.{arith}
-use lib.ListN.{length, drop}
+use lib.ListN.{drop}
+use Rattle.fields.specs.declared.Faults.{Faults}
 use Rattle.fields.specs.Table.{hasFault}
 use Rattle.fields.proofs.Values.{hasFault-next, hasFault-end}
 use Rattle.fields.proofs.parts.faults.Statement.{statement}
 use Rattle.fields.proofs.parts.faults.Tie as tie
 
 abbrev Inv-loop : tie.InvT-loop
-Inv-loop rules v spare₀ unused₀ i₀ spare unused i =
+Inv-loop rules v found₀ i₀ found i =
     (i ≤ 11)
-    × ((spare || hasFault 1 (drop i rules) (drop i v)) ≡ hasFault 1 rules v)
-    × ((unused || hasFault 2 (drop i rules) (drop i v)) ≡ hasFault 2 rules v)
+    × ((found .spare || hasFault 1 (drop i rules) (drop i v)) ≡ hasFault 1 rules v)
+    × ((found .unused || hasFault 2 (drop i rules) (drop i v)) ≡ hasFault 2 rules v)
 
 abbrev μ-loop : tie.MeasureT-loop
-μ-loop rules v spare₀ unused₀ i₀ spare unused i = 11 - i
+μ-loop rules v found₀ i₀ found i = 11 - i
 
 loop-holds : tie.Need-loop-holds Inv-loop μ-loop
 loop-holds c = (omega arith, refl, refl)
 
-array-read-fault : tie.Need-array-read-fault Inv-loop μ-loop
-array-read-fault c = omega arith
+element-copy-out-fault : tie.Need-element-copy-out-fault Inv-loop μ-loop
+element-copy-out-fault c = omega arith
 
 mul-fault : tie.Need-mul-fault Inv-loop μ-loop
 mul-fault c = omega arith
 
-array-read-fault-2 : tie.Need-array-read-fault-2 Inv-loop μ-loop
-array-read-fault-2 c = omega arith
+element-copy-out-fault-2 : tie.Need-element-copy-out-fault-2 Inv-loop μ-loop
+element-copy-out-fault-2 c = omega arith
 
 fault-requires : tie.Need-fault-requires Inv-loop μ-loop
 fault-requires c κs = search needs
 
-either-requires : tie.Need-either-requires Inv-loop μ-loop
-either-requires c κs = search needs
-
-either-requires-2 : tie.Need-either-requires-2 Inv-loop μ-loop
-either-requires-2 c κs = search needs
+noted-requires : tie.Need-noted-requires Inv-loop μ-loop
+noted-requires c κs = search needs
 
 add-i : tie.Need-add-i Inv-loop μ-loop
 add-i c = omega arith
@@ -48,24 +46,25 @@ loop-less c = omega arith
 
 loop-again : tie.Need-loop-again Inv-loop μ-loop
 loop-again c =
-    let l = c .before .before .before .before .loop in
-    let a = c .before .before .before .before .before .args in
-    let n : length (a .t1) ≡ 11 = search needs in
-    let m : length (a .t2) ≡ 11 = search needs in
-    let f = c .before .before .fault in (
+    let l = c .before .before .before .before .before .loop in
+    let a = c .before .before .before .before .before .before .args in
+    let r = a .rules .now in
+    let v = a .v .now in
+    let f = c .before .fault .ensures in
+    let s = ap (λ (x : Faults). x .spare) (c .noted .ensures) in
+    let u = ap (λ (x : Faults). x .unused) (c .noted .ensures) in (
       omega arith,
-      sym (hasFault-next 1 (a .t1) (a .t2) (l .i) (l .spare) _ _ (omega arith) (omega arith) (f .ensures) (c .before .either .ensures)) ∙ l .inv .1,
-      sym (hasFault-next 2 (a .t1) (a .t2) (l .i) (l .unused) _ _ (omega arith) (omega arith) (f .ensures) (c .either2 .ensures)) ∙ l .inv .2,
+      sym (hasFault-next 1 r v (l .i) (l .found .spare) _ _ (omega arith) (omega arith) f s) ∙ l .inv .1,
+      sym (hasFault-next 2 r v (l .i) (l .found .unused) _ _ (omega arith) (omega arith) f u) ∙ l .inv .2,
     )
 
 returns : tie.Need-returns Inv-loop μ-loop
 returns c =
     let l = c .before .loop in
     let a = c .before .before .args in
-    let n : length (a .t1) ≡ 11 = search needs in
-    let s = sym (hasFault-end 1 (a .t1) (a .t2) (l .i) (l .spare) (omega arith)) ∙ l .inv .1 in
-    let u = sym (hasFault-end 2 (a .t1) (a .t2) (l .i) (l .unused) (omega arith)) ∙ l .inv .2 in
-    rw (s, u)
+    let s = sym (hasFault-end 1 (a .rules .now) (a .v .now) (l .i) (l .found .spare) (omega arith)) ∙ l .inv .1 in
+    let u = sym (hasFault-end 2 (a .rules .now) (a .v .now) (l .i) (l .found .unused) (omega arith)) ∙ l .inv .2 in
+    rw (← s, ← u)
 
 pub faults-spec : {M : Type 1} → statement M
 faults-spec =
@@ -74,12 +73,11 @@ faults-spec =
     Inv-loop
     μ-loop
     loop-holds
-    array-read-fault
+    element-copy-out-fault
     mul-fault
-    array-read-fault-2
+    element-copy-out-fault-2
     fault-requires
-    either-requires
-    either-requires-2
+    noted-requires
     add-i
     loop-less
     loop-again

@@ -1,36 +1,44 @@
 -- `fields::parts::values` meets its contract: after i turns the first i values are those of the first i parts. Assumes nothing.
 use borrow.Author.Needs.{needs}
-use mathlib.Core.Path.{_≡_, refl, ap}
+use mathlib.Core.Path.{_≡_, refl, ap, _∙_}
 use mathlib.Core.List.{[], _∷_, _++_}
 use Prim.Native.Nat.{ℕ, _+_, _-_, _*_, _≤_}
 use native.Mathlib.Numerals.{add-one}
 use native.Mathlib.Nat.{add-zero, add-assoc}
 use native.Mathlib.Omega.{arith}
 use lib.ListN.{length, take, getD, length-set}
-use lib.Seq.{take-suc, take-suc-set, take-all}
+use lib.Seq.{take-suc, take-suc-set, take-all, getD-set-other}
 use Rattle.bits.proofs.Laws.{whole}
 use Rattle.fields.specs.Table.{valuesOf}
-use Rattle.fields.proofs.Values.{sumOf-snoc, valuesOf-snoc}
+use Rattle.fields.proofs.Values.{sumOf-snoc, valuesOf-snoc, values-are, zeros-at}
 use Rattle.fields.specs.Writing.{sumOf}
 use Rattle.fields.proofs.parts.values.Statement.{statement}
 use Rattle.fields.proofs.parts.values.Tie as tie
 
 abbrev Inv-loop : tie.InvT-loop
 Inv-loop b before widths v₀ at₀ i₀ v at i =
-    (i ≤ 11) × (length v ≡ 11) × (at ≤ before + i * 64) × (at ≡ before + sumOf (take i widths)) × (take i v ≡ valuesOf b before (take i widths))
+    (i ≤ 11) × (length v ≡ 11) × (at ≤ before + i * 64) × (at ≡ before + sumOf (take i widths)) × (take i v ≡ valuesOf b before (take i widths)) × ((k : ℕ) → i ≤ k → getD v k 0 ≡ 0)
 
 abbrev μ-loop : tie.MeasureT-loop
 μ-loop b before widths v₀ at₀ i₀ v at i = 11 - i
 
 loop-holds : tie.Need-loop-holds Inv-loop μ-loop
 unfolding valuesOf
-loop-holds c = (omega arith, refl, omega arith, omega arith, refl)
+loop-holds c = (omega arith, refl, omega arith, omega arith, refl, λ k h. zeros-at 11 k)
 
 array-read-w : tie.Need-array-read-w Inv-loop μ-loop
 array-read-w c = omega arith
 
 cast-w : tie.Need-cast-w Inv-loop μ-loop
 cast-w c = omega (arith, c .before .before .before .pre .1 (c .before .loop .i))
+
+returns : tie.Need-returns Inv-loop μ-loop
+returns c =
+    let l = c .before .before .loop in
+    let s = c .before .before .before .before in
+    let a = s .args in
+    let n : length (a .t3) ≡ 11 = search needs in
+    values-are (a .b .now) (a .before) (a .t3) (l .v) (l .i) (omega (arith, l .inv .1)) (l .inv .4) (l .inv .5) (λ k h. s .pre .2 (l .i) k h (c .if1 .taken))
 
 read-requires : tie.Need-read-requires Inv-loop μ-loop
 read-requires c κs = search needs
@@ -42,7 +50,7 @@ array-write-v : tie.Need-array-write-v Inv-loop μ-loop
 array-write-v c = omega arith
 
 add-at : tie.Need-add-at Inv-loop μ-loop
-add-at c = omega (arith, c .before .before .before .before .pre .1 (c .before .before .loop .i))
+add-at c = omega (arith, c .before .before .before .before .before .pre .1 (c .before .before .before .loop .i))
 
 add-i : tie.Need-add-i Inv-loop μ-loop
 add-i c = omega arith
@@ -52,8 +60,8 @@ loop-less c = omega arith
 
 loop-again : tie.Need-loop-again Inv-loop μ-loop
 loop-again c =
-    let l = c .before .before .loop in
-    let s = c .before .before .before .before in
+    let l = c .before .before .before .loop in
+    let s = c .before .before .before .before .before in
     let a = s .args in
     let w = getD (a .t3) (l .i) 0 in
     let n : length (a .t3) ≡ 11 = search needs in
@@ -63,10 +71,11 @@ loop-again c =
       omega (arith, s .pre .1 (l .i)),
       rw (t, sumOf-snoc) (omega (arith, l .inv .3)),
       rw (t, valuesOf-snoc, ← l .inv .3, ← l .inv .4, ← whole (a .b .now) (l .at) w (omega (arith, s .pre .1 (l .i))), ← c .read .ensures, add-one) (take-suc-set (l .v) (l .i) _ (omega arith)),
+      λ k h. getD-set-other (l .v) (l .i) k _ 0 (λ e. omega arith) ∙ l .inv .5 k (omega arith),
     )
 
-returns : tie.Need-returns Inv-loop μ-loop
-returns c =
+returns-2 : tie.Need-returns-2 Inv-loop μ-loop
+returns-2 c =
     let l = c .before .loop in
     let a = c .before .before .before .args in
     let n : length (a .t3) ≡ 11 = search needs in
@@ -82,6 +91,7 @@ values-spec =
     loop-holds
     array-read-w
     cast-w
+    returns
     read-requires
     mul-v
     array-write-v
@@ -89,4 +99,4 @@ values-spec =
     add-i
     loop-less
     loop-again
-    returns)
+    returns-2)

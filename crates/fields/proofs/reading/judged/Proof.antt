@@ -23,15 +23,15 @@ faults-requires c κs = search needs
 
 -- a spare bit is one, as the table's rules have it
 spare : (c : tie.After-faults) →
-    let a = c .before .before .before .args in
+    let a = c .before .before .before .before .before .args in
     hasFault 1 (rulesAt (a .i)) (a .t5) ≡ c .faults .result .spare
-spare c = rw (← c .before .rules-at .ensures) (sym (ap (λ (f : Faults). f .spare) (c .faults .ensures)))
+spare c = rw (← c .before .before .before .rules-at .ensures) (sym (ap (λ (f : Faults). f .spare) (c .faults .ensures)))
 
 -- a value is not in use
 unused : (c : tie.After-faults) →
-    let a = c .before .before .before .args in
+    let a = c .before .before .before .before .before .args in
     hasFault 2 (rulesAt (a .i)) (a .t5) ≡ c .faults .result .unused
-unused c = rw (← c .before .rules-at .ensures) (sym (ap (λ (f : Faults). f .unused) (c .faults .ensures)))
+unused c = rw (← c .before .before .before .rules-at .ensures) (sym (ap (λ (f : Faults). f .unused) (c .faults .ensures)))
 
 returns : tie.Need-returns
 unfolding judgedBy
@@ -49,13 +49,13 @@ block-count-requires c κs = search needs
 
 any-unused-requires : tie.Need-any-unused-requires
 any-unused-requires c κs =
-    let s = c .before .before .before .before .before .before .before in
+    let s = c .before .before .before .before .before .before .before .before .before in
     let p = s .pre .0 in
     (omega arith, rw (c .block-count .ensures) (block-count-small _ _ p))
 
 -- a block is not in use
 block : (c : tie.After-any-unused) →
-    let a = c .before .before .before .before .before .before .before .before .args in
+    let a = c .before .before .before .before .before .before .before .before .before .before .args in
     anyUnused (blocksBy (a .b .now) (a .before) (a .row) (a .t5)) ≡ c .any-unused .result
 block c = rw (← c .before .block-count .ensures) (sym (c .any-unused .ensures))
 

@@ -8,7 +8,7 @@ use Rattle.fields.specs.declared.Row.{Row}
 use Rattle.fields.specs.Table.{rowAt, widthsAt, valuesOf, countIn, RowSmall}
 use Rattle.fields.specs.Lists.{entriesIn}
 use Rattle.fields.specs.Reading.{listIn, listedBy}
-use Rattle.fields.proofs.Rows.{found-within, row-base, row-step, row-small, values-fit, widths-narrow}
+use Rattle.fields.proofs.Rows.{found-within, row-base, row-step, row-small, values-fit, widths-narrow, widths-taper}
 use Rattle.fields.proofs.reading.list_in.Statement.{statement}
 use Rattle.fields.proofs.reading.list_in.Tie as tie
 
@@ -51,7 +51,9 @@ widths-at-requires : tie.Need-widths-at-requires
 widths-at-requires c κs = within (c .before .before)
 
 values-requires : tie.Need-values-requires
-values-requires c κs = (omega arith, rw (c .widths-at .ensures) (widths-narrow _ (within (c .before .before .before))))
+values-requires c κs =
+    let h = within (c .before .before .before) in
+    (omega arith, rw (c .widths-at .ensures) (widths-narrow _ h), rw (c .widths-at .ensures) (widths-taper _ h))
 
 -- the values are those of the type's parts
 values-are : (c : tie.After-values) →

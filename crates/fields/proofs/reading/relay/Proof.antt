@@ -7,8 +7,11 @@ use Rattle.bits.proofs.Laws.{whole}
 use Rattle.fields.proofs.reading.relay.Statement.{statement}
 use Rattle.fields.proofs.reading.relay.Tie as tie
 
+type-at-requires : tie.Need-type-at-requires
+type-at-requires c κs = search needs
+
 plain-requires : tie.Need-plain-requires
-plain-requires c κs = search needs
+plain-requires c κs = (omega arith, c .type-at .ensures)
 
 enum-known-inner : tie.Need-enum-known-inner
 enum-known-inner c = search needs
@@ -37,4 +40,4 @@ returns-2 c =
 pub relay-spec : {M : Type 1} → statement M
 relay-spec =
     tie.close
-    (tie.spec plain-requires enum-known-inner enum-told answer-requires returns read-requires returns-2)
+    (tie.spec type-at-requires plain-requires enum-known-inner enum-told answer-requires returns read-requires returns-2)
