@@ -6,13 +6,16 @@ use mathlib.Core.Bool.{Bool, true, false, cond, not, _&&_, _||_}
 use Prim.Native.Nat.{ℕ, zero, suc, _+_, _-_, _*_, _≤_, _<_, _^_, zero-le}
 use native.Mathlib.Nat.{not-suc-le-zero, le-of-suc-le-suc, lt-of-lt-of-le}
 use native.Mathlib.Decide.{ℕ-discrete}
+use native.Mathlib.Numerals.{add-one}
 use native.Mathlib.Omega.{arith}
-use lib.ListN.{length, getD, List·getD-eq-default}
+use lib.ListN.{length, getD, List·getD-eq-default, drop}
+use lib.Seq.{drop-cons}
 use lib.Dec.{T, eqb, eqb→eq, leb, leb→le}
 use lib.Pow.{pow-mono}
 use Rattle.bits.proofs.Laws.{bitsOf-lt}
 use borrow.Author.Tests.{eq-eqb, ne-eqb, eqb-true}
 use Rattle.fields.specs.declared.Row.{Row}
+use Rattle.fields.specs.declared.table.Known.{Known}
 use Rattle.fields.specs.declared.Place.{Place}
 use Rattle.fields.specs.declared.Place.the-variants.{At, Nowhere}
 use Rattle.fields.specs.declared.Field.the-variants.{ControllerAlert}
@@ -20,21 +23,18 @@ use Rattle.fields.specs.Table.{table, rows, noRow, rowAt, widths, widths
 use Rattle.fields.specs.Records.{fieldsBy, fieldAt}
 use Rattle.fields.specs.Reading.{blockCount, typeNotCarried}
 
--- the number c is none of the codes of these rows, as the last arm of a `match` has it: T, and then a code after the other
-abbrev Avoids : Type 0 → ℕ → List Row → Type 0
-Avoids T c [] = T
-Avoids T c (r ∷ rs) = Avoids (T × (c ≡ r .code → ⊥)) c rs
-
-avoided : (T : Type 0) (c : ℕ) (rs : List Row) (i : ℕ) → Avoids T c rs → T × (placeFrom c rs i ≡ Nowhere)
+-- the row at i is the one tested next
+pub placeFrom-step : (c : ℕ) (rs : List Row) (i : ℕ) (d : Row) → i < length rs →
+    placeFrom c (drop i rs) i ≡ cond (eqb (getD rs i d .code) c) (At i) (placeFrom c (drop (i + 1) rs) (i + 1))
 unfolding placeFrom
-avoided T c [] i t = (t, refl)
-avoided T c (r ∷ rs) i t =
-    let h = avoided (T × (c ≡ r .code → ⊥)) c rs (i + 1) t in
-    (h .0 .0, rw (ne-eqb _ _ (λ e. h .0 .1 (sym e))) (h .1))
+placeFrom-step c rs i d h = rw (drop-cons rs i d h, add-one) refl
 
--- what is no row's code has no place
-pub placeFrom-none : (c : ℕ) (rs : List Row) → Avoids (Unit {0}) c rs → placeFrom c rs 0 ≡ Nowhere
-placeFrom-none c rs t = avoided (Unit {0}) c rs 0 t .1
+pub placeFrom-hit : (c : ℕ) (rs : List Row) (i : ℕ) (d : Row) → i < length rs → getD rs i d .code ≡ c → placeFrom c (drop i rs) i ≡ At i
+placeFrom-hit c rs i d h e = rw (placeFrom-step c rs i d h, eq-eqb _ _ e) refl
+
+pub placeFrom-miss : (c : ℕ) (rs : List Row) (i : ℕ) (d : Row) → i < length rs → (getD rs i d .code ≡ c → ⊥) →
+    placeFrom c (drop i rs) i ≡ placeFrom c (drop (i + 1) rs) (i + 1)
+placeFrom-miss c rs i d h e = rw (placeFrom-step c rs i d h, ne-eqb _ _ e) refl
 
 -- the number i is none of the first n, as the last arm of a `match` has it
 abbrev NotBelow : ℕ → ℕ → Type 0
@@ -60,6 +60,29 @@ pub getD-any : {A : Type 0} (l : List A) (i : ℕ) (d e : A) → i < length l �
 getD-any [] i d e h = absurd (not-suc-le-zero h)
 getD-any (x ∷ xs) zero d e h = refl
 getD-any (x ∷ xs) (suc i) d e h = getD-any xs i d e (le-of-suc-le-suc h)
+
+-- a row in smaller numbers, as it stands in the code
+abbrev small : Row → Known
+small r = record { code = r .code; way = r .way; base = r .base; step = r .step; more = r .more; first = r .first; second = r .second; third = r .third }
+
+abbrev pub wide : Known → Row
+wide k = record { code = k .code; way = k .way; base = k .base; step = k .step; more = k .more; first = k .first; second = k .second; third = k .third }
+
+abbrev smaller : List Row → List Known
+smaller [] = []
+smaller (r ∷ rs) = small r ∷ smaller rs
+
+unfoldable pub known : List Known
+known = smaller rows
+
+smaller-at : (rs : List Row) (i : ℕ) (d : Known) → i < length rs → wide (getD (smaller rs) i d) ≡ getD rs i noRow
+smaller-at [] i d h = absurd (not-suc-le-zero h)
+smaller-at (r ∷ rs) zero d h = refl
+smaller-at (r ∷ rs) (suc i) d h = smaller-at rs i d (le-of-suc-le-suc h)
+
+pub wide-at : (i : ℕ) (d : Known) → i < 22 → wide (getD known i d) ≡ rowAt i
+unfolding known rowAt rows table
+wide-at i d h = smaller-at rows i d h
 
 -- the last type stands at every place from 20 on
 pub fieldAt-last : (at a b c d e f g h i j : ℕ) → 20 ≤ at → fieldAt at a b c d e f g h i j ≡ ControllerAlert a b c d e f g h i j

@@ -1,6 +1,6 @@
 // The known types (document 01, "Link data fields"): one table, looked up by the reader and the writer alike, by the place of a type's row. A
 // type's parts stand in two arrays of eleven, with their widths and their rules; a type with fewer has parts of no bits behind them.
-// Each table is a `match` on the place and no constant array, since of a constant array the compiler builds the whole at each look into it.
+// Widths and rules are a `match` on the place and no constant array, since of a constant array the compiler makes a copy at each look into it.
 // Types that are known but not carried have no row: `unknown` names them.
 // Relies on nothing but the names; specs/Table.antt says what the table holds.
 ghost use mathlib.Core.Path.{_≡_};
@@ -11,7 +11,7 @@ use crate::Place;
 use crate::Row;
 
 // No part.
-const NONE: usize = 11;
+const NONE: u8 = 11;
 
 // What a part's value may be; 0 is any.
 const SPARE: u8 = 1;
@@ -26,59 +26,277 @@ const UP_TO_5: u8 = 5;
 
 const ADVISORY: u8 = 6;
 
-// Where a type stands in the table.
-pub fn find(code: u64) -> Place
-    ensures { λ r. ⌜ r ≡ placeOf code ⌝ }
-{
-    match code {
-        0x21 => Place::At(0),
-        0x22 => Place::At(1),
-        0x23 => Place::At(2),
-        0x24 => Place::At(3),
-        0x02 => Place::At(4),
-        0x25 => Place::At(5),
-        0x61 => Place::At(6),
-        0x9B => Place::At(7),
-        0x99 => Place::At(8),
-        0x65 => Place::At(9),
-        0x9A => Place::At(10),
-        0x96 => Place::At(11),
-        0x31 => Place::At(12),
-        0x32 => Place::At(13),
-        0x41 => Place::At(14),
-        0x42 => Place::At(15),
-        0x43 => Place::At(16),
-        0x44 => Place::At(17),
-        0x45 => Place::At(18),
-        0x62 => Place::At(19),
-        0x83 => Place::At(20),
-        0x03 => Place::At(21),
-        _ => Place::Nowhere,
-    }
+// A row as it stands in the table. Each number is below 256: of a constant array that is looked into at a place known only as the program runs,
+// the compiler makes a copy each time, and so it is a small one.
+pub struct Known {
+    pub code: u8,
+    pub way: Direction,
+    pub base: u8,
+    pub step: u8,
+    pub more: u8,
+    pub first: u8,
+    pub second: u8,
+    pub third: u8,
 }
 
-// A row on one line.
-fn row_of(
-    code: u64,
-    way: Direction,
-    base: usize,
-    step: usize,
-    more: u64,
-    first: usize,
-    second: usize,
-    third: usize,
-) -> Row
-    ensures { λ r. ⌜ r ≡ record { code = code; way = way; base = base; step = step; more = more; first = first; second = second; third = third } ⌝ }
+const KNOWN: [Known; 22] = [
+    // tactical: address 9-32, number 33-36, P 37, EXP 38-40, text 41-96
+    Known {
+        code: 0x21,
+        way: Direction::ToSensor,
+        base: 96,
+        step: 0,
+        more: 0,
+        first: NONE,
+        second: NONE,
+        third: NONE,
+    },
+    // ELM: the same to 40, spare 41-44, Length 45-48, text
+    Known {
+        code: 0x22,
+        way: Direction::ToSensor,
+        base: 48,
+        step: 80,
+        more: 1,
+        first: 6,
+        second: NONE,
+        third: NONE,
+    },
+    // request: to 40, MSRC 41-44, spare
+    Known {
+        code: 0x23,
+        way: Direction::ToSensor,
+        base: 48,
+        step: 0,
+        more: 0,
+        first: NONE,
+        second: NONE,
+        third: NONE,
+    },
+    // address, number, spare
+    Known {
+        code: 0x24,
+        way: Direction::ToSensor,
+        base: 40,
+        step: 0,
+        more: 0,
+        first: NONE,
+        second: NONE,
+        third: NONE,
+    },
+    // address, number, spare
+    Known {
+        code: 0x02,
+        way: Direction::ToSensor,
+        base: 40,
+        step: 0,
+        more: 0,
+        first: NONE,
+        second: NONE,
+        third: NONE,
+    },
+    // cancellation: address, number, referenced number 37-40, referenced type 41-48
+    Known {
+        code: 0x25,
+        way: Direction::ToSensor,
+        base: 48,
+        step: 0,
+        more: 0,
+        first: NONE,
+        second: NONE,
+        third: NONE,
+    },
+    // test
+    Known {
+        code: 0x61,
+        way: Direction::ToSensor,
+        base: 56,
+        step: 0,
+        more: 0,
+        first: NONE,
+        second: NONE,
+        third: NONE,
+    },
+    // altimeter: spare 9-12, N 13-16, blocks
+    Known {
+        code: 0x9B,
+        way: Direction::ToSensor,
+        base: 16,
+        step: 8,
+        more: 1,
+        first: 2,
+        second: NONE,
+        third: NONE,
+    },
+    // state 9-10, spare
+    Known {
+        code: 0x99,
+        way: Direction::ToSensor,
+        base: 16,
+        step: 0,
+        more: 0,
+        first: NONE,
+        second: NONE,
+        third: NONE,
+    },
+    // SID 9-12, spare, SSTAT 15-16, spare
+    Known {
+        code: 0x65,
+        way: Direction::ToSensor,
+        base: 24,
+        step: 0,
+        more: 0,
+        first: NONE,
+        second: NONE,
+        third: NONE,
+    },
+    // IP 9-11, IS 12-14, IU 15-16, addresses
+    Known {
+        code: 0x9A,
+        way: Direction::ToSensor,
+        base: 16,
+        step: 24,
+        more: 0,
+        first: 1,
+        second: 2,
+        third: 3,
+    },
+    // ICA 9-12, IUA 13-16, identifiers
+    Known {
+        code: 0x96,
+        way: Direction::ToSensor,
+        base: 16,
+        step: 24,
+        more: 0,
+        first: 1,
+        second: 2,
+        third: NONE,
+    },
+    // address, referenced number 33-36, QUAL 37-39, spare
+    Known {
+        code: 0x31,
+        way: Direction::FromSensor,
+        base: 40,
+        step: 0,
+        more: 0,
+        first: NONE,
+        second: NONE,
+        third: NONE,
+    },
+    // DI at 37, spare
+    Known {
+        code: 0x32,
+        way: Direction::FromSensor,
+        base: 40,
+        step: 0,
+        more: 0,
+        first: NONE,
+        second: NONE,
+        third: NONE,
+    },
+    // tactical
+    Known {
+        code: 0x41,
+        way: Direction::FromSensor,
+        base: 88,
+        step: 0,
+        more: 0,
+        first: NONE,
+        second: NONE,
+        third: NONE,
+    },
+    // ELM: spare 33-36, Length 37-40, text
+    Known {
+        code: 0x42,
+        way: Direction::FromSensor,
+        base: 40,
+        step: 80,
+        more: 1,
+        first: 3,
+        second: NONE,
+        third: NONE,
+    },
+    // spare 33-34, UM
+    Known {
+        code: 0x43,
+        way: Direction::FromSensor,
+        base: 40,
+        step: 0,
+        more: 0,
+        first: NONE,
+        second: NONE,
+        third: NONE,
+    },
+    // CA 33-35, ACA 36-41, ECA 42-93, spare
+    Known {
+        code: 0x44,
+        way: Direction::FromSensor,
+        base: 96,
+        step: 0,
+        more: 0,
+        first: NONE,
+        second: NONE,
+        third: NONE,
+    },
+    // spare 33-36, code 37-48
+    Known {
+        code: 0x45,
+        way: Direction::FromSensor,
+        base: 48,
+        step: 0,
+        more: 0,
+        first: NONE,
+        second: NONE,
+        third: NONE,
+    },
+    // test response
+    Known {
+        code: 0x62,
+        way: Direction::FromSensor,
+        base: 56,
+        step: 0,
+        more: 0,
+        first: NONE,
+        second: NONE,
+        third: NONE,
+    },
+    // alert: ACID 9-32 and 33-56, then twice CS 2, advisory 11, DEL 3, then V1, V2
+    Known {
+        code: 0x83,
+        way: Direction::FromSensor,
+        base: 90,
+        step: 0,
+        more: 0,
+        first: NONE,
+        second: NONE,
+        third: NONE,
+    },
+    // relay: sensor 9-16, then a whole field
+    Known {
+        code: 0x03,
+        way: Direction::FromSensor,
+        base: 16,
+        step: 0,
+        more: 0,
+        first: NONE,
+        second: NONE,
+        third: NONE,
+    },
+];
+
+fn row_of(known: Known) -> Row
+    ensures { λ r. ⌜ r ≡ record { code = known .code; way = known .way; base = known .base; step = known .step; more = known .more; first = known .first; second = known .second; third = known .third } ⌝ }
 {
+    let way = known.way;
     Row {
-        code,
+        code: known.code as u64,
         way,
-        base,
-        step,
-        more,
-        first,
-        second,
-        third,
+        base: known.base as usize,
+        step: known.step as usize,
+        more: known.more as u64,
+        first: known.first as usize,
+        second: known.second as usize,
+        third: known.third as usize,
     }
 }
 
@@ -87,52 +305,22 @@ pub fn row_at(i: usize) -> Row
     requires { ⌜ i < 22 ⌝ }
     ensures { λ r. ⌜ r ≡ rowAt i ⌝ }
 {
-    match i {
-        // tactical: address 9-32, number 33-36, P 37, EXP 38-40, text 41-96
-        0 => row_of(0x21, Direction::ToSensor, 96, 0, 0, NONE, NONE, NONE),
-        // ELM: the same to 40, spare 41-44, Length 45-48, text
-        1 => row_of(0x22, Direction::ToSensor, 48, 80, 1, 6, NONE, NONE),
-        // request: to 40, MSRC 41-44, spare
-        2 => row_of(0x23, Direction::ToSensor, 48, 0, 0, NONE, NONE, NONE),
-        // address, number, spare
-        3 => row_of(0x24, Direction::ToSensor, 40, 0, 0, NONE, NONE, NONE),
-        // address, number, spare
-        4 => row_of(0x02, Direction::ToSensor, 40, 0, 0, NONE, NONE, NONE),
-        // cancellation: address, number, referenced number 37-40, referenced type 41-48
-        5 => row_of(0x25, Direction::ToSensor, 48, 0, 0, NONE, NONE, NONE),
-        // test
-        6 => row_of(0x61, Direction::ToSensor, 56, 0, 0, NONE, NONE, NONE),
-        // altimeter: spare 9-12, N 13-16, blocks
-        7 => row_of(0x9B, Direction::ToSensor, 16, 8, 1, 2, NONE, NONE),
-        // state 9-10, spare
-        8 => row_of(0x99, Direction::ToSensor, 16, 0, 0, NONE, NONE, NONE),
-        // SID 9-12, spare, SSTAT 15-16, spare
-        9 => row_of(0x65, Direction::ToSensor, 24, 0, 0, NONE, NONE, NONE),
-        // IP 9-11, IS 12-14, IU 15-16, addresses
-        10 => row_of(0x9A, Direction::ToSensor, 16, 24, 0, 1, 2, 3),
-        // ICA 9-12, IUA 13-16, identifiers
-        11 => row_of(0x96, Direction::ToSensor, 16, 24, 0, 1, 2, NONE),
-        // address, referenced number 33-36, QUAL 37-39, spare
-        12 => row_of(0x31, Direction::FromSensor, 40, 0, 0, NONE, NONE, NONE),
-        // DI at 37, spare
-        13 => row_of(0x32, Direction::FromSensor, 40, 0, 0, NONE, NONE, NONE),
-        // tactical
-        14 => row_of(0x41, Direction::FromSensor, 88, 0, 0, NONE, NONE, NONE),
-        // ELM: spare 33-36, Length 37-40, text
-        15 => row_of(0x42, Direction::FromSensor, 40, 80, 1, 3, NONE, NONE),
-        // spare 33-34, UM
-        16 => row_of(0x43, Direction::FromSensor, 40, 0, 0, NONE, NONE, NONE),
-        // CA 33-35, ACA 36-41, ECA 42-93, spare
-        17 => row_of(0x44, Direction::FromSensor, 96, 0, 0, NONE, NONE, NONE),
-        // spare 33-36, code 37-48
-        18 => row_of(0x45, Direction::FromSensor, 48, 0, 0, NONE, NONE, NONE),
-        // test response
-        19 => row_of(0x62, Direction::FromSensor, 56, 0, 0, NONE, NONE, NONE),
-        // alert: ACID 9-32 and 33-56, then twice CS 2, advisory 11, DEL 3, then V1, V2
-        20 => row_of(0x83, Direction::FromSensor, 90, 0, 0, NONE, NONE, NONE),
-        // relay: sensor 9-16, then a whole field
-        _ => row_of(0x03, Direction::FromSensor, 16, 0, 0, NONE, NONE, NONE),
+    row_of(KNOWN[i])
+}
+
+// Where a type stands in the table.
+pub fn find(code: u64) -> Place
+    ensures { λ r. ⌜ r ≡ placeOf code ⌝ }
+{
+    let mut i: usize = 0;
+    while i < 22 {
+        let row = row_at(i);
+        if row.code == code {
+            return Place::At(i);
+        }
+        i += 1;
     }
+    Place::Nowhere
 }
 
 // The widths of the parts of the type at place i.
