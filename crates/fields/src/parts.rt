@@ -5,7 +5,7 @@ ghost use mathlib.Core.Bool.{_||_};
 ghost use Prim.Native.Nat.{ℕ, _≤_};
 ghost use lib.Dec.{eqb};
 ghost use lib.ListN.{length, getD};
-ghost use Rattle.fields.specs.Table.{valuesOf, hasFault, countIn, RowSmall};
+ghost use Rattle.fields.specs.Table.{valuesOf, hasFault, Quiet, countIn, RowSmall};
 ghost use Rattle.fields.specs.Reading.{listedBy};
 use crate::Faults;
 use crate::Row;
@@ -50,9 +50,9 @@ fn noted(found: Faults, fault: u64) -> Faults
     }
 }
 
-// What is wrong with the parts, in one pass: both kinds of fault.
-pub fn faults(rules: &[u8; 11], v: &[u64; 11]) -> Faults
-    requires { ⌜ (length (now rules) ≡ 11) × (length (now v) ≡ 11) ⌝ }
+// What is wrong with the parts, in one pass: both kinds of fault. Nothing is wrong from a part of no bits on.
+pub fn faults(widths: &[u8; 11], rules: &[u8; 11], v: &[u64; 11]) -> Faults
+    requires { ⌜ (length (now rules) ≡ 11) × (length (now v) ≡ 11) × Quiet (now widths) (now rules) (now v) ⌝ }
     ensures { λ r. ⌜ r ≡ record { spare = hasFault 1 (now (rules .entry)) (now (v .entry)); unused = hasFault 2 (now (rules .entry)) (now (v .entry)) } ⌝ }
 {
     let mut found = Faults {
@@ -61,6 +61,9 @@ pub fn faults(rules: &[u8; 11], v: &[u64; 11]) -> Faults
     };
     let mut i: usize = 0;
     while i < 11 {
+        if widths[i] == 0 {
+            return found;
+        }
         found = noted(found, table::fault(rules[i], v[i]));
         i += 1;
     }
