@@ -116,6 +116,11 @@ pub widths-narrow : (i : ℕ) → i < 22 → (k : ℕ) → getD (widthsAt i) k 0
 unfolding table widths widthsAt
 widths-narrow i h = narrow-at (widthsAt i) (below-at (λ (j : ℕ). narrow (widthsAt j)) 22 tt i h)
 
+-- the first part is the type
+pub first-width : (i : ℕ) → i < 22 → getD (widthsAt i) 0 0 ≡ 8
+unfolding table widths widthsAt
+first-width i h = eqb→eq _ 8 (below-at (λ (j : ℕ). eqb (getD (widthsAt j) 0 0) 8) 22 tt i h)
+
 -- widths that are no more once one is none
 abbrev ended : List ℕ → Bool
 ended [] = true

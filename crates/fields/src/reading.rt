@@ -139,9 +139,9 @@ fn judged(b: &[u8], before: usize, i: usize, row: Row, widths: &[u8; 11], v: [u6
     ))
 }
 
-// A field whose type stands at place i: 25 to 28, or its record.
-fn row_read(b: &[u8], count: usize, before: usize, way: Direction, i: usize) -> Plain
-    requires { ⌜ (before ≤ 16) × (i < 22) ⌝ }
+// A field whose type is `code` and stands at place i: 25 to 28, or its record.
+fn row_read(b: &[u8], count: usize, before: usize, way: Direction, code: u64, i: usize) -> Plain
+    requires { ⌜ (before ≤ 16) × (i < 22) × (code ≡ typeOf (now b) before) ⌝ }
     ensures { λ r. ⌜ r ≡ rowRead (now (b .entry)) count before way i ⌝ }
 {
     let row = table::row_at(i);
@@ -153,7 +153,7 @@ fn row_read(b: &[u8], count: usize, before: usize, way: Direction, i: usize) -> 
         return Plain::Refused(FieldRefusal::NotRelayed);
     }
     let widths = table::widths_at(i);
-    let v = parts::values(b, before, widths);
+    let v = parts::values(b, before, code, widths);
     if !is_sized(count, before, row, v) {
         return Plain::Refused(FieldRefusal::WrongBitCount);
     }
@@ -182,7 +182,7 @@ fn plain(b: &[u8], count: usize, before: usize, way: Direction, code: u64) -> Pl
     let Place::At(i) = table::find(code) else {
         return Plain::Refused(unknown(code));
     };
-    row_read(b, count, before, way, i)
+    row_read(b, count, before, way, code, i)
 }
 
 fn answer(p: Plain) -> Answer
@@ -266,7 +266,8 @@ pub fn judge(b: &[u8], count: usize, way: Direction) -> Answer
 fn list_in(b: &[u8]) -> [i32; 30]
     ensures { λ r. ⌜ r ≡ listIn (now (b .entry)) ⌝ }
 {
-    let Place::At(i) = place_at(b, 0) else {
+    let code = type_at(b, 0);
+    let Place::At(i) = table::find(code) else {
         return lists::entries(b, 0, 0, 0);
     };
     let row = table::row_at(i);
@@ -275,7 +276,7 @@ fn list_in(b: &[u8]) -> [i32; 30]
     if step == 80 {
         return lists::entries(b, base, 0, 0);
     }
-    let v = parts::values(b, 0, table::widths_at(i));
+    let v = parts::values(b, 0, code, table::widths_at(i));
     lists::entries(b, base, step, parts::count_in(row, v))
 }
 

@@ -8,7 +8,7 @@ use native.Mathlib.Omega.{arith}
 use Rattle.fields.specs.declared.Row.{Row}
 use Rattle.fields.specs.Table.{rowAt, widthsAt, valuesOf, RowSmall}
 use Rattle.fields.specs.Reading.{sameWay, notRelayed, sizedBy, judgedBy, rowRead}
-use Rattle.fields.proofs.Rows.{widths-narrow, widths-taper, row-small, rest-quiet, values-fit}
+use Rattle.fields.proofs.Rows.{first-width, widths-narrow, widths-taper, row-small, rest-quiet, values-fit}
 use Rattle.fields.proofs.reading.row_read.Statement.{statement}
 use Rattle.fields.proofs.reading.row_read.Tie as tie
 
@@ -45,7 +45,7 @@ widths-at-requires c κs = search needs
 values-requires : tie.Need-values-requires
 values-requires c κs =
     let s = c .before .before .before .before .before .before .before in
-    (omega arith, rw (c .widths-at .ensures) (widths-narrow (s .args .i) (s .pre .1)), rw (c .widths-at .ensures) (widths-taper (s .args .i) (s .pre .1)))
+    (omega arith, rw (c .widths-at .ensures, first-width (s .args .i) (s .pre .1)) (s .pre .2), rw (c .widths-at .ensures) (widths-narrow (s .args .i) (s .pre .1)), rw (c .widths-at .ensures) (widths-taper (s .args .i) (s .pre .1)))
 
 -- the values are those of the type's parts
 values-are : (c : tie.After-values) →
