@@ -19,7 +19,7 @@ use Rattle.fields.specs.declared.table.Known.{Known}
 use Rattle.fields.specs.declared.Place.{Place}
 use Rattle.fields.specs.declared.Place.the-variants.{At, Nowhere}
 use Rattle.fields.specs.declared.Field.the-variants.{ControllerAlert}
-use Rattle.fields.specs.Table.{table, rows, noRow, rowAt, widths, widthsAt, placeFrom, valuesOf, countIn, RowSmall}
+use Rattle.fields.specs.Table.{table, rows, noRow, rowAt, widths, widthsAt, rules, rulesAt, placeFrom, valuesOf, hasFault, Quiet, countIn, RowSmall}
 use Rattle.fields.specs.Records.{fieldsBy, fieldAt}
 use Rattle.fields.specs.Reading.{blockCount, typeNotCarried}
 
@@ -139,6 +139,11 @@ pub widths-narrow : (i : ℕ) → i < 22 → (k : ℕ) → getD (widthsAt i) k 0
 unfolding table widths widthsAt
 widths-narrow i h = narrow-at (widthsAt i) (below-at (λ (j : ℕ). narrow (widthsAt j)) 22 tt i h)
 
+-- the first part is the type
+pub first-width : (i : ℕ) → i < 22 → getD (widthsAt i) 0 0 ≡ 8
+unfolding table widths widthsAt
+first-width i h = eqb→eq _ 8 (below-at (λ (j : ℕ). eqb (getD (widthsAt j) 0 0) 8) 22 tt i h)
+
 -- widths that are no more once one is none
 abbrev ended : List ℕ → Bool
 ended [] = true
@@ -153,14 +158,18 @@ ended-at [] t m = refl
 ended-at (w ∷ ws) t zero = eqb→eq w 0 (both-left (eqb w 0) (ended ws) t)
 ended-at (w ∷ ws) t (suc m) = ended-at ws (both-right (eqb w 0) (ended ws) t) m
 
+-- from the first that is none on
+end-from : (w : ℕ) (ws : List ℕ) → w ≡ 0 → T (tapers (w ∷ ws)) → T (ended (w ∷ ws))
+end-from w ws e t = go (eqb w 0) (eq-eqb w 0 e) (both-left (not (eqb w 0) || ended ws) (tapers ws) t)
+  where
+    go : (b : Bool) → b ≡ true → T (not b || ended ws) → T (b && ended ws)
+    go true q t = t
+    go false q t = absurd (let z : _≡_ {A = ℕ} 0 1 = cc in omega arith)
+
 tapers-at : (ws : List ℕ) → T (tapers ws) → (k m : ℕ) → k ≤ m → getD ws k 0 ≡ 0 → getD ws m 0 ≡ 0
 tapers-at [] t k m h e = refl
 tapers-at (w ∷ ws) t zero zero h e = e
-tapers-at (w ∷ ws) t zero (suc m) h e = ended-at ws (rest (eqb w 0) (eq-eqb w 0 e) (both-left (not (eqb w 0) || ended ws) (tapers ws) t)) m
-  where
-    rest : (b : Bool) → b ≡ true → T (not b || ended ws) → T (ended ws)
-    rest true q t = t
-    rest false q t = absurd (let z : _≡_ {A = ℕ} 0 1 = cc in omega arith)
+tapers-at (w ∷ ws) t zero (suc m) h e = ended-at (w ∷ ws) (end-from w ws e t) (suc m)
 tapers-at (w ∷ ws) t (suc k) zero h e = absurd (not-suc-le-zero h)
 tapers-at (w ∷ ws) t (suc k) (suc m) h e = tapers-at ws (both-right (not (eqb w 0) || ended ws) (tapers ws) t) k m (le-of-suc-le-suc h) e
 
@@ -198,6 +207,47 @@ fit-at [] (v ∷ vs) f k = absurd f
 fit-at (w ∷ ws) [] f k = absurd f
 fit-at (w ∷ ws) (v ∷ vs) f zero = f .0
 fit-at (w ∷ ws) (v ∷ vs) f (suc k) = fit-at ws vs (f .1) k
+
+-- where a width is none the rule is that of a spare
+abbrev spared : List ℕ → List ℕ → Bool
+spared [] [] = true
+spared [] (r ∷ rs) = false
+spared (w ∷ ws) [] = false
+spared (w ∷ ws) (r ∷ rs) = (not (eqb w 0) || eqb r 1) && spared ws rs
+
+quiet-all : (ws rs vs : List ℕ) → T (ended ws) → T (spared ws rs) → Fit ws vs → (hasFault 1 rs vs ≡ false) × (hasFault 2 rs vs ≡ false)
+unfolding hasFault
+quiet-all [] [] vs t p f = (refl, refl)
+quiet-all [] (r ∷ rs) vs t p f = absurd p
+quiet-all (w ∷ ws) [] vs t p f = absurd p
+quiet-all (w ∷ ws) (r ∷ rs) [] t p f = absurd f
+quiet-all (w ∷ ws) (r ∷ rs) (v ∷ vs) t p f =
+    let w0 : w ≡ 0 = eqb→eq w 0 (both-left (eqb w 0) (ended ws) t) in
+    let r1 : r ≡ 1 = eqb→eq r 1 (rule-is (eqb w 0) (eq-eqb w 0 w0) (both-left (not (eqb w 0) || eqb r 1) (spared ws rs) p)) in
+    let h = rw w0 at (f .0) in
+    let v0 : v ≡ 0 = omega arith in
+    rw (r1, v0) (quiet-all ws rs vs (both-right (eqb w 0) (ended ws) t) (both-right (not (eqb w 0) || eqb r 1) (spared ws rs) p) (f .1))
+  where
+    rule-is : (b : Bool) → b ≡ true → T (not b || eqb r 1) → T (eqb r 1)
+    rule-is true q t = t
+    rule-is false q t = absurd (let z : _≡_ {A = ℕ} 0 1 = cc in omega arith)
+
+quiet-at : (ws rs vs : List ℕ) → T (tapers ws) → T (spared ws rs) → Fit ws vs → Quiet ws rs vs
+unfolding hasFault
+quiet-at [] [] [] t p f zero e = (refl, refl)
+quiet-at [] [] [] t p f (suc k) e = (refl, refl)
+quiet-at [] [] (v ∷ vs) t p f k e = absurd f
+quiet-at [] (r ∷ rs) vs t p f k e = absurd p
+quiet-at (w ∷ ws) [] vs t p f k e = absurd p
+quiet-at (w ∷ ws) (r ∷ rs) [] t p f k e = absurd f
+quiet-at (w ∷ ws) (r ∷ rs) (v ∷ vs) t p f zero e = quiet-all (w ∷ ws) (r ∷ rs) (v ∷ vs) (end-from w ws e t) p f
+quiet-at (w ∷ ws) (r ∷ rs) (v ∷ vs) t p f (suc k) e =
+    quiet-at ws rs vs (both-right (not (eqb w 0) || ended ws) (tapers ws) t) (both-right (not (eqb w 0) || eqb r 1) (spared ws rs) p) (f .1) k e
+
+pub rest-quiet : (i : ℕ) (vs : List ℕ) → i < 22 → Fit (widthsAt i) vs → Quiet (widthsAt i) (rulesAt i) vs
+unfolding table widths widthsAt rules rulesAt
+rest-quiet i vs h f =
+    quiet-at (widthsAt i) (rulesAt i) vs (below-at (λ (j : ℕ). tapers (widthsAt j)) 22 tt i h) (below-at (λ (j : ℕ). spared (widthsAt j) (rulesAt j)) 22 tt i h) f
 
 pub row-small : (i : ℕ) (vs : List ℕ) → i < 22 → Fit (widthsAt i) vs → RowSmall (rowAt i) vs
 row-small i vs h f =

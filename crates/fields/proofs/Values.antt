@@ -2,7 +2,7 @@
 -- Assumes nothing.
 use mathlib.Core.Path.{_≡_, refl, sym, ap, _∙_}
 use mathlib.Core.List.{List, [], _∷_, _++_}
-use mathlib.Core.Bool.{Bool, _||_, or-assoc, or-false}
+use mathlib.Core.Bool.{Bool, false, _||_, or-assoc, or-false}
 use Prim.Native.Nat.{ℕ, zero, suc, _+_, _-_, _*_, _≤_, _<_, _^_}
 use native.Mathlib.Numerals.{add-one}
 use native.Mathlib.Nat.{add-zero, add-assoc}
@@ -67,6 +67,10 @@ pub hasFault-next : (k : ℕ) (rs vs : List ℕ) (i : ℕ) (a b : Bool) (f : ℕ
 unfolding hasFault
 hasFault-next k rs vs i a b f h l e q =
     rw (q, e, drop-cons rs i 0 h, drop-cons vs i 0 l, add-one) (sym (or-assoc a _ _))
+
+-- nor is one found from where all is quiet on
+pub hasFault-quiet : (k : ℕ) (rs vs : List ℕ) (i : ℕ) (a : Bool) → hasFault k (drop i rs) (drop i vs) ≡ false → (a || hasFault k (drop i rs) (drop i vs)) ≡ a
+hasFault-quiet k rs vs i a h = rw h (or-false a)
 
 -- past the end none is found
 pub hasFault-end : (k : ℕ) (rs vs : List ℕ) (i : ℕ) (a : Bool) → length rs ≤ i → (a || hasFault k (drop i rs) (drop i vs)) ≡ a

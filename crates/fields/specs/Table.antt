@@ -1,10 +1,11 @@
 -- The known types of link data fields (document 01, "Link data fields"; document 004, Table 5-1 and Figures 5-1 and 5-2): which way each
 -- travels, how many bits it has, its parts in order, and what their values may be. Definitions only.
 use Prim.Native.Nat.{ℕ, zero, suc, _+_, _*_, _%_, _^_, _≤_, _<_}
+use mathlib.Core.Path.{_≡_}
 use mathlib.Core.List.{List, [], _∷_, _++_}
 use mathlib.Core.Bool.{Bool, true, false, not, cond, _||_}
 use lib.Dec.{eqb, leb}
-use lib.ListN.{getD, take, replicate}
+use lib.ListN.{getD, take, drop, replicate}
 use Rattle.bits.specs.Bits.{bitsOf}
 use Rattle.fields.specs.declared.Direction.{Direction}
 use Rattle.fields.specs.declared.Direction.the-variants.{ToSensor, FromSensor}
@@ -191,6 +192,10 @@ unfoldable pub hasFault : ℕ → List ℕ → List ℕ → Bool
 hasFault k [] vs = false
 hasFault k (r ∷ rs) [] = false
 hasFault k (r ∷ rs) (v ∷ vs) = eqb (faultOf r v) k || hasFault k rs vs
+
+-- from a part of no bits on none is at fault
+abbrev pub Quiet : List ℕ → List ℕ → List ℕ → Type 0
+Quiet ws rs vs = (k : ℕ) → getD ws k 0 ≡ 0 → (hasFault 1 (drop k rs) (drop k vs) ≡ false) × (hasFault 2 (drop k rs) (drop k vs) ≡ false)
 
 -- how many steps a field of a row with these values has: L + 1, N + 1, IP + IS + IU, ICA + IUA, or none
 unfoldable pub countIn : Row → List ℕ → ℕ

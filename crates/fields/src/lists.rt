@@ -5,6 +5,7 @@ ghost use mathlib.Core.List.{List};
 ghost use Prim.Native.Nat.{_+_, _*_, _<_, _≤_, _^_};
 ghost use lib.IntN.{natAbs};
 ghost use lib.ListN.{replicate};
+ghost use Rattle.bits.specs.Bits.{bitsOf};
 ghost use Rattle.fields.specs.Table.{valuesOf};
 ghost use Rattle.fields.specs.Lists.{negative, signed, blockOf, blockUnused, entryOf, entryAt, entryBits, entryFits, entryOk, anyUnused, entriesIn, listFits, entriesBits};
 ghost use Rattle.fields.specs.Writing.{putAll};
@@ -34,6 +35,22 @@ fn block_unused(x: u64) -> bool
     x == 128
 }
 
+// The n bits behind the first `at`. A block is a byte of its own, and there may be sixteen of them, so it is not read as a bit field.
+fn piece(b: &[u8], at: usize, n: usize) -> u64
+    requires { ⌜ n ≤ 24 ⌝ }
+    ensures { λ r. ⌜ r ≡ bitsOf (now (b .entry)) at n ⌝ }
+{
+    let i = at / 8;
+    if n == 8 {
+        if at % 8 == 0 {
+            if i < b.len() {
+                return b[i] as u64;
+            }
+        }
+    }
+    bits::read(b, at, n)
+}
+
 // One of n blocks, of which the first stands behind `before` bits, is not in use.
 pub fn any_unused(b: &[u8], before: usize, n: usize) -> bool
     requires { ⌜ (before ≤ 4096) × (n ≤ 64) ⌝ }
@@ -41,7 +58,7 @@ pub fn any_unused(b: &[u8], before: usize, n: usize) -> bool
 {
     let mut k: usize = 0;
     while k < n {
-        if block_unused(bits::read(b, before + 8 * k, 8)) {
+        if block_unused(piece(b, before + 8 * k, 8)) {
             return true;
         }
         k += 1;
@@ -66,7 +83,7 @@ fn entry_at(b: &[u8], before: usize, step: usize, n: usize, k: usize) -> i32
     ensures { λ r. ⌜ r ≡ entryAt (now (b .entry)) before step n k ⌝ }
 {
     if k < n {
-        return entry_of(step, bits::read(b, before + step * k, step));
+        return entry_of(step, piece(b, before + step * k, step));
     }
     0
 }

@@ -5,20 +5,23 @@ ghost use mathlib.Core.Bool.{_||_};
 ghost use Prim.Native.Nat.{ℕ, _≤_};
 ghost use lib.Dec.{eqb};
 ghost use lib.ListN.{length, getD};
-ghost use Rattle.fields.specs.Table.{valuesOf, hasFault, countIn, RowSmall};
+ghost use Rattle.bits.specs.Bits.{bitsOf};
+ghost use Rattle.fields.specs.Table.{valuesOf, hasFault, Quiet, countIn, RowSmall};
 ghost use Rattle.fields.specs.Reading.{listedBy};
 use crate::Faults;
 use crate::Row;
 use crate::table;
 
-// The parts of a field that begins behind the first `before` bits. Behind a part of no bits stands none that has any.
-pub fn values(b: &[u8], before: usize, widths: [u8; 11]) -> [u64; 11]
-    requires { ⌜ (before ≤ 4096) × ((k : ℕ) → getD widths k 0 ≤ 63) × ((k m : ℕ) → k ≤ m → getD widths k 0 ≡ 0 → getD widths m 0 ≡ 0) ⌝ }
+// The parts of a field that begins behind the first `before` bits, of which the first, its type, is known. Behind a part of no bits stands
+// none that has any.
+pub fn values(b: &[u8], before: usize, code: u64, widths: [u8; 11]) -> [u64; 11]
+    requires { ⌜ (before ≤ 4096) × (code ≡ bitsOf (now b) before (getD widths 0 0)) × ((k : ℕ) → getD widths k 0 ≤ 63) × ((k m : ℕ) → k ≤ m → getD widths k 0 ≡ 0 → getD widths m 0 ≡ 0) ⌝ }
     ensures { λ r. ⌜ r ≡ valuesOf (now (b .entry)) before widths ⌝ }
 {
     let mut v = [0u64; 11];
-    let mut at: usize = before;
-    let mut i: usize = 0;
+    v[0] = code;
+    let mut at: usize = before + widths[0] as usize;
+    let mut i: usize = 1;
     while i < 11 {
         let w = widths[i] as usize;
         if w == 0 {
@@ -50,9 +53,9 @@ fn noted(found: Faults, fault: u64) -> Faults
     }
 }
 
-// What is wrong with the parts, in one pass: both kinds of fault.
-pub fn faults(rules: &[u8; 11], v: &[u64; 11]) -> Faults
-    requires { ⌜ (length (now rules) ≡ 11) × (length (now v) ≡ 11) ⌝ }
+// What is wrong with the parts, in one pass: both kinds of fault. Nothing is wrong from a part of no bits on.
+pub fn faults(widths: &[u8; 11], rules: &[u8; 11], v: &[u64; 11]) -> Faults
+    requires { ⌜ (length (now rules) ≡ 11) × (length (now v) ≡ 11) × Quiet (now widths) (now rules) (now v) ⌝ }
     ensures { λ r. ⌜ r ≡ record { spare = hasFault 1 (now (rules .entry)) (now (v .entry)); unused = hasFault 2 (now (rules .entry)) (now (v .entry)) } ⌝ }
 {
     let mut found = Faults {
@@ -61,6 +64,9 @@ pub fn faults(rules: &[u8; 11], v: &[u64; 11]) -> Faults
     };
     let mut i: usize = 0;
     while i < 11 {
+        if widths[i] == 0 {
+            return found;
+        }
         found = noted(found, table::fault(rules[i], v[i]));
         i += 1;
     }

@@ -6,7 +6,7 @@ ghost use Prim.Native.Nat.{_≤_, _<_};
 ghost use mathlib.Core.Bool.{_&&_};
 ghost use lib.Dec.{eqb, leb};
 ghost use Rattle.bits.specs.Bits.{bitsOf};
-ghost use Rattle.fields.specs.Table.{placeOf, RowSmall};
+ghost use Rattle.fields.specs.Table.{placeOf, rulesAt, Quiet, RowSmall};
 ghost use Rattle.fields.specs.Reading.{fromSensor, sameWay, typeOf, typeNotCarried, unknownOf, notRelayed, sizedBy, blockCount, judgedBy, rowRead, plainOf, answered, relayed, openedOf, outerOf, answerOf, listIn, listOf, readField, textIn, textPlace, textOf, answerNumber};
 use crate::Answer;
 use crate::Direction;
@@ -109,12 +109,12 @@ fn block_count(row: Row, v: [u64; 11]) -> usize
 }
 
 // A field of the row's type: 27 and 28, or its record.
-fn judged(b: &[u8], before: usize, i: usize, row: Row, v: [u64; 11]) -> Plain
-    requires { ⌜ RowSmall row v × (before ≤ 16) × (i < 22) ⌝ }
+fn judged(b: &[u8], before: usize, i: usize, row: Row, widths: &[u8; 11], v: [u64; 11]) -> Plain
+    requires { ⌜ RowSmall row v × (before ≤ 16) × (i < 22) × Quiet (now widths) (rulesAt i) v ⌝ }
     ensures { λ r. ⌜ r ≡ judgedBy (now (b .entry)) before i row v ⌝ }
 {
     let rules = table::rules_at(i);
-    let found = parts::faults(&rules, &v);
+    let found = parts::faults(widths, &rules, &v);
     if found.spare {
         return Plain::Refused(FieldRefusal::SpareBitSet);
     }
@@ -139,9 +139,9 @@ fn judged(b: &[u8], before: usize, i: usize, row: Row, v: [u64; 11]) -> Plain
     ))
 }
 
-// A field whose type stands at place i: 25 to 28, or its record.
-fn row_read(b: &[u8], count: usize, before: usize, way: Direction, i: usize) -> Plain
-    requires { ⌜ (before ≤ 16) × (i < 22) ⌝ }
+// A field whose type is `code` and stands at place i: 25 to 28, or its record.
+fn row_read(b: &[u8], count: usize, before: usize, way: Direction, code: u64, i: usize) -> Plain
+    requires { ⌜ (before ≤ 16) × (i < 22) × (code ≡ typeOf (now b) before) ⌝ }
     ensures { λ r. ⌜ r ≡ rowRead (now (b .entry)) count before way i ⌝ }
 {
     let row = table::row_at(i);
@@ -152,11 +152,12 @@ fn row_read(b: &[u8], count: usize, before: usize, way: Direction, i: usize) -> 
     if not_relayed(row.code, before) {
         return Plain::Refused(FieldRefusal::NotRelayed);
     }
-    let v = parts::values(b, before, table::widths_at(i));
+    let widths = table::widths_at(i);
+    let v = parts::values(b, before, code, widths);
     if !is_sized(count, before, row, v) {
         return Plain::Refused(FieldRefusal::WrongBitCount);
     }
-    judged(b, before, i, row, v)
+    judged(b, before, i, row, &widths, v)
 }
 
 // The type of a field that begins behind the first `before` bits.
@@ -181,7 +182,7 @@ fn plain(b: &[u8], count: usize, before: usize, way: Direction, code: u64) -> Pl
     let Place::At(i) = table::find(code) else {
         return Plain::Refused(unknown(code));
     };
-    row_read(b, count, before, way, i)
+    row_read(b, count, before, way, code, i)
 }
 
 fn answer(p: Plain) -> Answer
@@ -265,7 +266,8 @@ pub fn judge(b: &[u8], count: usize, way: Direction) -> Answer
 fn list_in(b: &[u8]) -> [i32; 30]
     ensures { λ r. ⌜ r ≡ listIn (now (b .entry)) ⌝ }
 {
-    let Place::At(i) = place_at(b, 0) else {
+    let code = type_at(b, 0);
+    let Place::At(i) = table::find(code) else {
         return lists::entries(b, 0, 0, 0);
     };
     let row = table::row_at(i);
@@ -274,7 +276,7 @@ fn list_in(b: &[u8]) -> [i32; 30]
     if step == 80 {
         return lists::entries(b, base, 0, 0);
     }
-    let v = parts::values(b, 0, table::widths_at(i));
+    let v = parts::values(b, 0, code, table::widths_at(i));
     lists::entries(b, base, step, parts::count_in(row, v))
 }
 

@@ -106,11 +106,12 @@ fn takes(i: usize, given: Record, list: [i32; 30], len: usize) -> bool
     if !head_fits(i, given) {
         return false;
     }
-    if !fit_all(table::widths_at(i), v) {
+    let widths = table::widths_at(i);
+    if !fit_all(widths, v) {
         return false;
     }
     let rules = table::rules_at(i);
-    let found = parts::faults(&rules, &v);
+    let found = parts::faults(&widths, &rules, &v);
     if found.unused {
         return false;
     }

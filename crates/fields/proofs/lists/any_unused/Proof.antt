@@ -5,7 +5,6 @@ use Prim.Native.Nat.{ℕ, _+_, _-_, _*_, _≤_}
 use native.Mathlib.Omega.{arith}
 use lib.ListN.{replicate}
 use Rattle.bits.specs.Bits.{bitsOf}
-use Rattle.bits.proofs.Laws.{whole}
 use Rattle.fields.specs.Table.{valuesOf}
 use Rattle.fields.specs.Lists.{blockUnused, anyUnused}
 use Rattle.fields.proofs.Entries.{anyUnused-hit, anyUnused-miss, anyUnused-none, from-first}
@@ -24,14 +23,14 @@ loop-holds c =
     let a = c .before .args in
     (omega arith, from-first (λ (x : ℕ) (m : ℕ). anyUnused (valuesOf (a .b .now) x (replicate m 8))) (a .before) 8 (a .n))
 
-mul-read : tie.Need-mul-read Inv-loop μ-loop
-mul-read c = omega arith
+mul-piece : tie.Need-mul-piece Inv-loop μ-loop
+mul-piece c = omega arith
 
-add-read : tie.Need-add-read Inv-loop μ-loop
-add-read c = omega arith
+add-piece : tie.Need-add-piece Inv-loop μ-loop
+add-piece c = omega arith
 
-read-requires : tie.Need-read-requires Inv-loop μ-loop
-read-requires c κs = search needs
+piece-requires : tie.Need-piece-requires Inv-loop μ-loop
+piece-requires c κs = search needs
 
 block-unused-requires : tie.Need-block-unused-requires Inv-loop μ-loop
 block-unused-requires c κs = search needs
@@ -42,7 +41,7 @@ told : (c : tie.After-block-unused Inv-loop μ-loop) →
     let a = h .before .before .args in
     blockUnused (bitsOf (a .b .now) (a .before + 8 * h .loop .k) 8) ≡ c .block-unused .result
 told c =
-    ap blockUnused (sym (c .before .read .ensures ∙ whole _ _ 8 (omega arith))) ∙ sym (c .block-unused .ensures)
+    ap blockUnused (sym (c .before .piece .ensures)) ∙ sym (c .block-unused .ensures)
 
 returns : tie.Need-returns Inv-loop μ-loop
 returns c =
@@ -72,4 +71,4 @@ returns-2 c = sym (anyUnused-none _ _ _ _ (c .loop-test .left)) ∙ c .before .l
 pub any-unused-spec : {M : Type 1} → statement M
 any-unused-spec =
     tie.close
-    (tie.spec Inv-loop μ-loop loop-holds mul-read add-read read-requires block-unused-requires returns add-k loop-less loop-again returns-2)
+    (tie.spec Inv-loop μ-loop loop-holds mul-piece add-piece piece-requires block-unused-requires returns add-k loop-less loop-again returns-2)

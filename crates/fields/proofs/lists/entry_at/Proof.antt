@@ -6,46 +6,39 @@ use Prim.Native.Nat.{ℕ, _+_, _*_, _<_, _^_}
 use native.Mathlib.Omega.{arith}
 use mir.Facts.{toZ-ofZ}
 use mir.Syntax.{w32}
-use Rattle.bits.specs.Bits.{bitsOf}
-use Rattle.bits.proofs.Laws.{whole, bitsOf-lt}
+use Rattle.bits.proofs.Laws.{bitsOf-lt}
 use Rattle.fields.specs.Lists.{entryOf, entryAt}
 use Rattle.fields.proofs.Entries.{product}
 use Rattle.fields.proofs.lists.entry_at.Statement.{statement}
 use Rattle.fields.proofs.lists.entry_at.Tie as tie
 
-mul-read : tie.Need-mul-read
-mul-read c =
+mul-piece : tie.Need-mul-piece
+mul-piece c =
     let a = c .before .before .args in
     omega (arith, product (a .step) (a .k) 24 30 (omega arith) (omega arith))
 
-add-read : tie.Need-add-read
-add-read c =
+add-piece : tie.Need-add-piece
+add-piece c =
     let a = c .before .before .args in
     omega (arith, product (a .step) (a .k) 24 30 (omega arith) (omega arith))
 
-read-requires : tie.Need-read-requires
-read-requires c κs = search needs
-
--- the entry's bits
-bits-read : (c : tie.After-read) →
-    let a = c .before .before .before .args in
-    c .read .result ≡ bitsOf (a .b .now) (a .before + a .step * a .k) (a .step)
-bits-read c = c .read .ensures ∙ whole _ _ _ (omega arith)
+piece-requires : tie.Need-piece-requires
+piece-requires c κs = search needs
 
 entry-of-requires : tie.Need-entry-of-requires
 entry-of-requires c κs =
     let a = c .before .before .before .args in
-    (omega arith, subst (λ (x : ℕ). x < 2 ^ a .step) (sym (bits-read c)) (bitsOf-lt _ _ _))
+    (omega arith, subst (λ (x : ℕ). x < 2 ^ a .step) (sym (c .piece .ensures)) (bitsOf-lt _ _ _))
 
 returns : tie.Need-returns
 unfolding entryAt
 returns c =
     simp (lt-ltb _ _ (c .before .before .if1 .taken))
-    (toZ-ofZ {w = w32} (record { sfits = c .entry-of .ok }) ∙ c .entry-of .ensures ∙ ap (entryOf _) (bits-read (c .before)))
+    (toZ-ofZ {w = w32} (record { sfits = c .entry-of .ok }) ∙ c .entry-of .ensures ∙ ap (entryOf _) (c .before .piece .ensures))
 
 returns-2 : tie.Need-returns-2
 unfolding entryAt
 returns-2 c = simp (le-ltb _ _ (c .if1 .left))
 
 pub entry-at-spec : {M : Type 1} → statement M
-entry-at-spec = tie.close (tie.spec mul-read add-read read-requires entry-of-requires returns returns-2)
+entry-at-spec = tie.close (tie.spec mul-piece add-piece piece-requires entry-of-requires returns returns-2)

@@ -7,21 +7,34 @@ use native.Mathlib.Omega.{arith}
 use lib.ListN.{drop}
 use Rattle.fields.specs.declared.Faults.{Faults}
 use Rattle.fields.specs.Table.{hasFault}
-use Rattle.fields.proofs.Values.{hasFault-next, hasFault-end}
+use Rattle.fields.proofs.Values.{hasFault-next, hasFault-quiet, hasFault-end}
 use Rattle.fields.proofs.parts.faults.Statement.{statement}
 use Rattle.fields.proofs.parts.faults.Tie as tie
 
 abbrev Inv-loop : tie.InvT-loop
-Inv-loop rules v found₀ i₀ found i =
+Inv-loop widths rules v found₀ i₀ found i =
     (i ≤ 11)
     × ((found .spare || hasFault 1 (drop i rules) (drop i v)) ≡ hasFault 1 rules v)
     × ((found .unused || hasFault 2 (drop i rules) (drop i v)) ≡ hasFault 2 rules v)
 
 abbrev μ-loop : tie.MeasureT-loop
-μ-loop rules v found₀ i₀ found i = 11 - i
+μ-loop widths rules v found₀ i₀ found i = 11 - i
 
 loop-holds : tie.Need-loop-holds Inv-loop μ-loop
 loop-holds c = (omega arith, refl, refl)
+
+element-copy-out-if1 : tie.Need-element-copy-out-if1 Inv-loop μ-loop
+element-copy-out-if1 c = omega arith
+
+returns : tie.Need-returns Inv-loop μ-loop
+returns c =
+    let l = c .before .before .before .loop in
+    let st = c .before .before .before .before in
+    let a = st .args in
+    let q = st .pre .2 (l .i) (c .if1 .taken) in
+    let s = sym (hasFault-quiet 1 (a .rules .now) (a .v .now) (l .i) (l .found .spare) (q .0)) ∙ l .inv .1 in
+    let u = sym (hasFault-quiet 2 (a .rules .now) (a .v .now) (l .i) (l .found .unused) (q .1)) ∙ l .inv .2 in
+    rw (← s, ← u)
 
 element-copy-out-fault : tie.Need-element-copy-out-fault Inv-loop μ-loop
 element-copy-out-fault c = omega arith
@@ -46,8 +59,8 @@ loop-less c = omega arith
 
 loop-again : tie.Need-loop-again Inv-loop μ-loop
 loop-again c =
-    let l = c .before .before .before .before .before .loop in
-    let a = c .before .before .before .before .before .before .args in
+    let l = c .before .before .before .before .before .before .before .loop in
+    let a = c .before .before .before .before .before .before .before .before .args in
     let r = a .rules .now in
     let v = a .v .now in
     let f = c .before .fault .ensures in
@@ -58,8 +71,8 @@ loop-again c =
       sym (hasFault-next 2 r v (l .i) (l .found .unused) _ _ (omega arith) (omega arith) f u) ∙ l .inv .2,
     )
 
-returns : tie.Need-returns Inv-loop μ-loop
-returns c =
+returns-2 : tie.Need-returns-2 Inv-loop μ-loop
+returns-2 c =
     let l = c .before .loop in
     let a = c .before .before .args in
     let s = sym (hasFault-end 1 (a .rules .now) (a .v .now) (l .i) (l .found .spare) (omega arith)) ∙ l .inv .1 in
@@ -73,6 +86,8 @@ faults-spec =
     Inv-loop
     μ-loop
     loop-holds
+    element-copy-out-if1
+    returns
     element-copy-out-fault
     mul-fault
     element-copy-out-fault-2
@@ -81,4 +96,4 @@ faults-spec =
     add-i
     loop-less
     loop-again
-    returns)
+    returns-2)

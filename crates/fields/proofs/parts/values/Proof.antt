@@ -6,7 +6,7 @@ use Prim.Native.Nat.{ℕ, _+_, _-_, _*_, _≤_}
 use native.Mathlib.Numerals.{add-one}
 use native.Mathlib.Nat.{add-zero, add-assoc}
 use native.Mathlib.Omega.{arith}
-use lib.ListN.{length, take, getD, length-set}
+use lib.ListN.{length, take, getD, replicate, length-set}
 use lib.Seq.{take-suc, take-suc-set, take-all, getD-set-other}
 use Rattle.bits.proofs.Laws.{whole}
 use Rattle.fields.specs.Table.{valuesOf}
@@ -16,29 +16,52 @@ use Rattle.fields.proofs.parts.values.Statement.{statement}
 use Rattle.fields.proofs.parts.values.Tie as tie
 
 abbrev Inv-loop : tie.InvT-loop
-Inv-loop b before widths v₀ at₀ i₀ v at i =
+Inv-loop b before code widths v₀ at₀ i₀ v at i =
     (i ≤ 11) × (length v ≡ 11) × (at ≤ before + i * 64) × (at ≡ before + sumOf (take i widths)) × (take i v ≡ valuesOf b before (take i widths)) × ((k : ℕ) → i ≤ k → getD v k 0 ≡ 0)
 
 abbrev μ-loop : tie.MeasureT-loop
-μ-loop b before widths v₀ at₀ i₀ v at i = 11 - i
+μ-loop b before code widths v₀ at₀ i₀ v at i = 11 - i
+
+array-write-v : tie.Need-array-write-v Inv-loop μ-loop
+array-write-v c = omega arith
+
+array-read-at : tie.Need-array-read-at Inv-loop μ-loop
+array-read-at c = omega arith
+
+cast-at : tie.Need-cast-at Inv-loop μ-loop
+cast-at c = omega (arith, c .before .pre .2 0)
+
+add-at : tie.Need-add-at Inv-loop μ-loop
+add-at c = omega (arith, c .before .pre .2 0)
 
 loop-holds : tie.Need-loop-holds Inv-loop μ-loop
 unfolding valuesOf
-loop-holds c = (omega arith, refl, omega arith, omega arith, refl, λ k h. zeros-at 11 k)
+loop-holds c =
+    let s = c .before in
+    let a = s .args in
+    let n : length (a .t4) ≡ 11 = search needs in
+    let t : take 1 (a .t4) ≡ getD (a .t4) 0 0 ∷ [] = take-suc (a .t4) 0 0 (omega arith) in (
+      omega arith,
+      refl,
+      omega (arith, s .pre .2 0),
+      rw t (omega arith),
+      rw (t, s .pre .1) refl,
+      λ k h. getD-set-other (replicate 11 0) 0 k _ 0 (λ e. omega arith) ∙ zeros-at 11 k,
+    )
 
 array-read-w : tie.Need-array-read-w Inv-loop μ-loop
 array-read-w c = omega arith
 
 cast-w : tie.Need-cast-w Inv-loop μ-loop
-cast-w c = omega (arith, c .before .before .before .pre .1 (c .before .loop .i))
+cast-w c = omega (arith, c .before .before .before .pre .2 (c .before .loop .i))
 
 returns : tie.Need-returns Inv-loop μ-loop
 returns c =
     let l = c .before .before .loop in
     let s = c .before .before .before .before in
     let a = s .args in
-    let n : length (a .t3) ≡ 11 = search needs in
-    values-are (a .b .now) (a .before) (a .t3) (l .v) (l .i) (omega (arith, l .inv .1)) (l .inv .4) (l .inv .5) (λ k h. s .pre .2 (l .i) k h (c .if1 .taken))
+    let n : length (a .t4) ≡ 11 = search needs in
+    values-are (a .b .now) (a .before) (a .t4) (l .v) (l .i) (omega (arith, l .inv .1)) (l .inv .4) (l .inv .5) (λ k h. s .pre .3 (l .i) k h (c .if1 .taken))
 
 read-requires : tie.Need-read-requires Inv-loop μ-loop
 read-requires c κs = search needs
@@ -46,11 +69,11 @@ read-requires c κs = search needs
 mul-v : tie.Need-mul-v Inv-loop μ-loop
 mul-v c = omega arith
 
-array-write-v : tie.Need-array-write-v Inv-loop μ-loop
-array-write-v c = omega arith
+array-write-v-2 : tie.Need-array-write-v-2 Inv-loop μ-loop
+array-write-v-2 c = omega arith
 
-add-at : tie.Need-add-at Inv-loop μ-loop
-add-at c = omega (arith, c .before .before .before .before .before .pre .1 (c .before .before .before .loop .i))
+add-at-2 : tie.Need-add-at-2 Inv-loop μ-loop
+add-at-2 c = omega (arith, c .before .before .before .before .before .pre .2 (c .before .before .before .loop .i))
 
 add-i : tie.Need-add-i Inv-loop μ-loop
 add-i c = omega arith
@@ -63,14 +86,14 @@ loop-again c =
     let l = c .before .before .before .loop in
     let s = c .before .before .before .before .before in
     let a = s .args in
-    let w = getD (a .t3) (l .i) 0 in
-    let n : length (a .t3) ≡ 11 = search needs in
-    let t : take (l .i + 1) (a .t3) ≡ take (l .i) (a .t3) ++ (w ∷ []) = rw add-one (take-suc (a .t3) (l .i) 0 (omega arith)) in (
+    let w = getD (a .t4) (l .i) 0 in
+    let n : length (a .t4) ≡ 11 = search needs in
+    let t : take (l .i + 1) (a .t4) ≡ take (l .i) (a .t4) ++ (w ∷ []) = rw add-one (take-suc (a .t4) (l .i) 0 (omega arith)) in (
       omega arith,
       simp length-set (l .inv .1),
-      omega (arith, s .pre .1 (l .i)),
+      omega (arith, s .pre .2 (l .i)),
       rw (t, sumOf-snoc) (omega (arith, l .inv .3)),
-      rw (t, valuesOf-snoc, ← l .inv .3, ← l .inv .4, ← whole (a .b .now) (l .at) w (omega (arith, s .pre .1 (l .i))), ← c .read .ensures, add-one) (take-suc-set (l .v) (l .i) _ (omega arith)),
+      rw (t, valuesOf-snoc, ← l .inv .3, ← l .inv .4, ← whole (a .b .now) (l .at) w (omega (arith, s .pre .2 (l .i))), ← c .read .ensures, add-one) (take-suc-set (l .v) (l .i) _ (omega arith)),
       λ k h. getD-set-other (l .v) (l .i) k _ 0 (λ e. omega arith) ∙ l .inv .5 k (omega arith),
     )
 
@@ -78,9 +101,9 @@ returns-2 : tie.Need-returns-2 Inv-loop μ-loop
 returns-2 c =
     let l = c .before .loop in
     let a = c .before .before .before .args in
-    let n : length (a .t3) ≡ 11 = search needs in
+    let n : length (a .t4) ≡ 11 = search needs in
     let e : l .i ≡ 11 = omega arith in
-    rw (e, take-all 11 (l .v) (omega arith), take-all 11 (a .t3) (omega arith)) at (l .inv .4)
+    rw (e, take-all 11 (l .v) (omega arith), take-all 11 (a .t4) (omega arith)) at (l .inv .4)
 
 pub values-spec : {M : Type 1} → statement M
 values-spec =
@@ -88,14 +111,18 @@ values-spec =
     (tie.spec
     Inv-loop
     μ-loop
+    array-write-v
+    array-read-at
+    cast-at
+    add-at
     loop-holds
     array-read-w
     cast-w
     returns
     read-requires
     mul-v
-    array-write-v
-    add-at
+    array-write-v-2
+    add-at-2
     add-i
     loop-less
     loop-again

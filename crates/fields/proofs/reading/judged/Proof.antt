@@ -19,18 +19,18 @@ rules-at-requires : tie.Need-rules-at-requires
 rules-at-requires c κs = search needs
 
 faults-requires : tie.Need-faults-requires
-faults-requires c κs = search needs
+faults-requires c κs = (search needs, search needs, rw (c .before .before .rules-at .ensures) (c .before .before .before .before .pre .3))
 
 -- a spare bit is one, as the table's rules have it
 spare : (c : tie.After-faults) →
     let a = c .before .before .before .before .before .args in
-    hasFault 1 (rulesAt (a .i)) (a .t5) ≡ c .faults .result .spare
+    hasFault 1 (rulesAt (a .i)) (a .t6) ≡ c .faults .result .spare
 spare c = rw (← c .before .before .before .rules-at .ensures) (sym (ap (λ (f : Faults). f .spare) (c .faults .ensures)))
 
 -- a value is not in use
 unused : (c : tie.After-faults) →
     let a = c .before .before .before .before .before .args in
-    hasFault 2 (rulesAt (a .i)) (a .t5) ≡ c .faults .result .unused
+    hasFault 2 (rulesAt (a .i)) (a .t6) ≡ c .faults .result .unused
 unused c = rw (← c .before .before .before .rules-at .ensures) (sym (ap (λ (f : Faults). f .unused) (c .faults .ensures)))
 
 returns : tie.Need-returns
@@ -56,7 +56,7 @@ any-unused-requires c κs =
 -- a block is not in use
 block : (c : tie.After-any-unused) →
     let a = c .before .before .before .before .before .before .before .before .before .before .args in
-    anyUnused (blocksBy (a .b .now) (a .before) (a .row) (a .t5)) ≡ c .any-unused .result
+    anyUnused (blocksBy (a .b .now) (a .before) (a .row) (a .t6)) ≡ c .any-unused .result
 block c = rw (← c .before .block-count .ensures) (sym (c .any-unused .ensures))
 
 returns-3 : tie.Need-returns-3

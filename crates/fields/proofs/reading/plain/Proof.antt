@@ -32,7 +32,9 @@ returns c =
     rw (c .unknown .ensures, f .before .before .pre .1, place-is f ∙ e .enum-told .given .1)
 
 row-read-requires : tie.Need-row-read-requires
-row-read-requires c κs = (omega arith, found-within _ _ (place-is (c .before .before .before) ∙ c .before .i .given .1))
+row-read-requires c κs =
+    let f = c .before .before .before in
+    (omega arith, found-within _ _ (place-is f ∙ c .before .i .given .1), f .before .before .pre .1)
 
 returns-2 : tie.Need-returns-2
 unfolding plainOf

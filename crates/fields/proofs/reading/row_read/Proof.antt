@@ -8,7 +8,7 @@ use native.Mathlib.Omega.{arith}
 use Rattle.fields.specs.declared.Row.{Row}
 use Rattle.fields.specs.Table.{rowAt, widthsAt, valuesOf, RowSmall}
 use Rattle.fields.specs.Reading.{sameWay, notRelayed, sizedBy, judgedBy, rowRead}
-use Rattle.fields.proofs.Rows.{widths-narrow, widths-taper, row-small, values-fit}
+use Rattle.fields.proofs.Rows.{first-width, widths-narrow, widths-taper, row-small, rest-quiet, values-fit}
 use Rattle.fields.proofs.reading.row_read.Statement.{statement}
 use Rattle.fields.proofs.reading.row_read.Tie as tie
 
@@ -45,7 +45,7 @@ widths-at-requires c κs = search needs
 values-requires : tie.Need-values-requires
 values-requires c κs =
     let s = c .before .before .before .before .before .before .before in
-    (omega arith, rw (c .widths-at .ensures) (widths-narrow (s .args .i) (s .pre .1)), rw (c .widths-at .ensures) (widths-taper (s .args .i) (s .pre .1)))
+    (omega arith, rw (c .widths-at .ensures, first-width (s .args .i) (s .pre .1)) (s .pre .2), rw (c .widths-at .ensures) (widths-narrow (s .args .i) (s .pre .1)), rw (c .widths-at .ensures) (widths-taper (s .args .i) (s .pre .1)))
 
 -- the values are those of the type's parts
 values-are : (c : tie.After-values) →
@@ -76,12 +76,16 @@ returns-3 c =
     rw (way-is (e .before .before .before) ∙ not-false _ (e .before .before .if1 .left), relayed-is (e .before) ∙ e .if2 .left, sized-is (c .before) ∙ not-true _ (c .if3 .taken))
 
 judged-requires : tie.Need-judged-requires
-judged-requires c κs = (small (c .before .before), omega arith, omega arith)
+judged-requires c κs =
+    let k = c .before .before .before in
+    let s = k .before .before .before .before .before .before .before .before in
+    let a = s .args in
+    (small k, omega arith, omega arith, rw (values-are k, k .before .widths-at .ensures) (rest-quiet (a .i) _ (s .pre .1) (values-fit (a .b .now) (a .before) (widthsAt (a .i)))))
 
 returns-4 : tie.Need-returns-4
 unfolding rowRead
 returns-4 c =
-    let t = c .before in
+    let t = c .before .before in
     let e = t .before .before .before .before in
     rw (way-is (e .before .before .before) ∙ not-false _ (e .before .before .if1 .left), relayed-is (e .before) ∙ e .if2 .left, sized-is (t .before) ∙ not-false _ (t .if3 .left))
     (c .judged .ensures ∙ rw (values-are (t .before .before), t .before .before .before .before .before .before .before .before .row-at .ensures) refl)

@@ -9,8 +9,8 @@ use Rattle.fields.specs.Records.{numbersOf}
 use Rattle.fields.specs.Lists.{listFits}
 use Rattle.fields.specs.Reading.{listed}
 use Rattle.fields.specs.Writing.{numbersIn, headFits, fitAll, takesAt}
-use Rattle.fields.proofs.Rows.{widths-narrow}
-use Rattle.fields.proofs.Taking.{taken-small}
+use Rattle.fields.proofs.Rows.{widths-narrow, rest-quiet}
+use Rattle.fields.proofs.Taking.{fit-numbers, taken-small}
 use Rattle.fields.proofs.writing.takes.Statement.{statement}
 use Rattle.fields.proofs.writing.takes.Tie as tie
 
@@ -54,17 +54,23 @@ rules-at-requires : tie.Need-rules-at-requires
 rules-at-requires c κs = search needs
 
 faults-requires : tie.Need-faults-requires
-faults-requires c κs = search needs
+faults-requires c κs =
+    let r = c .before .before .before in
+    let e = r .before in
+    let n = e .before .before .before .before .before in
+    let st = n .before .before .before in
+    let f = fit-numbers (st .args .i) (st .args .given) (st .pre) (fit (e .before) ∙ not-false _ (e .if2 .left)) in
+    (search needs, search needs, rw (e .before .before .widths-at .ensures, r .rules-at .ensures, numbers-are n) (rest-quiet (st .args .i) _ (st .pre) f))
 
 unused : (c : tie.After-faults) →
-    let a = c .before .before .before .before .before .before .before .before .before .before .before .before .args in
+    let a = c .before .before .before .before .before .before .before .before .before .before .before .before .before .args in
     hasFault 2 (rulesAt (a .i)) (numbersIn (a .given)) ≡ c .faults .result .unused
-unused c = rw (← c .before .before .before .rules-at .ensures, ← numbers-are (c .before .before .before .before .before .before .before .before .before)) (sym (ap (λ (f : Faults). f .unused) (c .faults .ensures)))
+unused c = rw (← c .before .before .before .before .rules-at .ensures, ← numbers-are (c .before .before .before .before .before .before .before .before .before .before)) (sym (ap (λ (f : Faults). f .unused) (c .faults .ensures)))
 
 returns-3 : tie.Need-returns-3
 unfolding takesAt
 returns-3 c =
-    let f = c .before .before .before .before .before in
+    let f = c .before .before .before .before .before .before in
     let e = f .before .before .before in
     rw (sym (e .before .head-fits .ensures) ∙ not-false _ (e .if1 .left), fit (f .before) ∙ not-false _ (f .if2 .left), unused (c .before) ∙ c .if3 .taken)
 
@@ -75,35 +81,35 @@ small c =
     rw (numbers-are n, n .before .before .row-at .ensures) (taken-small (s .args .i) (s .args .given) (s .pre) (fit (c .before) ∙ not-false _ (c .if2 .left)))
 
 listed-in-requires : tie.Need-listed-in-requires
-listed-in-requires c κs = small (c .before .before .before .before .before)
+listed-in-requires c κs = small (c .before .before .before .before .before .before)
 
 list-fits-requires : tie.Need-list-fits-requires
 list-fits-requires c κs = search needs
 
 list-ok : (c : tie.After-list-fits) →
-    let a = c .before .before .before .before .before .before .before .before .before .before .before .before .before .before .before .args in
+    let a = c .before .before .before .before .before .before .before .before .before .before .before .before .before .before .before .before .args in
     listFits (rowAt (a .i) .step) (listed (a .i) (numbersIn (a .given))) (a .list) ≡ c .list-fits .result
 list-ok c =
-    let n = c .before .before .before .before .before .before .before .before .before .before .before .before in
+    let n = c .before .before .before .before .before .before .before .before .before .before .before .before .before in
     rw (← numbers-are n, ← n .before .before .row-at .ensures, ← c .before .listed-in .ensures) (sym (c .list-fits .ensures))
 
 returns-4 : tie.Need-returns-4
 unfolding takesAt
 returns-4 c =
     let u = c .before .before .before in
-    let f = u .before .before .before .before .before in
+    let f = u .before .before .before .before .before .before in
     let e = f .before .before .before in
     rw (sym (e .before .head-fits .ensures) ∙ not-false _ (e .if1 .left), fit (f .before) ∙ not-false _ (f .if2 .left), unused (u .before) ∙ u .if3 .left, list-ok (c .before) ∙ not-true _ (c .if4 .taken))
 
 text-length-requires : tie.Need-text-length-requires
-text-length-requires c κs = small (c .before .before .before .before .before .before .before .before)
+text-length-requires c κs = small (c .before .before .before .before .before .before .before .before .before)
 
 returns-5 : tie.Need-returns-5
 unfolding takesAt
 returns-5 c =
     let k = c .before in
     let u = k .before .before .before in
-    let f = u .before .before .before .before .before in
+    let f = u .before .before .before .before .before .before in
     let e = f .before .before .before in
     let n = e .before .before in
     rw (sym (e .before .head-fits .ensures) ∙ not-false _ (e .if1 .left), fit (f .before) ∙ not-false _ (f .if2 .left), unused (u .before) ∙ u .if3 .left, list-ok (k .before) ∙ not-false _ (k .if4 .left), c .text-length .ensures, numbers-are n, n .before .before .row-at .ensures)
