@@ -6,10 +6,8 @@ use mathlib.Core.Bool.{Bool, true, false, cond, not, _&&_, _||_}
 use Prim.Native.Nat.{ℕ, zero, suc, _+_, _-_, _*_, _≤_, _<_, _^_, zero-le}
 use native.Mathlib.Nat.{not-suc-le-zero, le-of-suc-le-suc, lt-of-lt-of-le}
 use native.Mathlib.Decide.{ℕ-discrete}
-use native.Mathlib.Numerals.{add-one}
 use native.Mathlib.Omega.{arith}
-use lib.ListN.{length, getD, List·getD-eq-default, drop}
-use lib.Seq.{drop-cons}
+use lib.ListN.{length, getD, List·getD-eq-default}
 use lib.Dec.{T, eqb, eqb→eq, leb, leb→le}
 use lib.Pow.{pow-mono}
 use Rattle.bits.proofs.Laws.{bitsOf-lt}
@@ -23,18 +21,21 @@ use Rattle.fields.specs.Table.{table, rows, noRow, rowAt, widths, widths
 use Rattle.fields.specs.Records.{fieldsBy, fieldAt}
 use Rattle.fields.specs.Reading.{blockCount, typeNotCarried}
 
--- the row at i is the one tested next
-pub placeFrom-step : (c : ℕ) (rs : List Row) (i : ℕ) (d : Row) → i < length rs →
-    placeFrom c (drop i rs) i ≡ cond (eqb (getD rs i d .code) c) (At i) (placeFrom c (drop (i + 1) rs) (i + 1))
+-- the number c is none of the codes of these rows, as the last arm of a `match` has it: T, and then a code after the other
+abbrev Avoids : Type 0 → ℕ → List Row → Type 0
+Avoids T c [] = T
+Avoids T c (r ∷ rs) = Avoids (T × (c ≡ r .code → ⊥)) c rs
+
+avoided : (T : Type 0) (c : ℕ) (rs : List Row) (i : ℕ) → Avoids T c rs → T × (placeFrom c rs i ≡ Nowhere)
 unfolding placeFrom
-placeFrom-step c rs i d h = rw (drop-cons rs i d h, add-one) refl
+avoided T c [] i t = (t, refl)
+avoided T c (r ∷ rs) i t =
+    let h = avoided (T × (c ≡ r .code → ⊥)) c rs (i + 1) t in
+    (h .0 .0, rw (ne-eqb _ _ (λ e. h .0 .1 (sym e))) (h .1))
 
-pub placeFrom-hit : (c : ℕ) (rs : List Row) (i : ℕ) (d : Row) → i < length rs → getD rs i d .code ≡ c → placeFrom c (drop i rs) i ≡ At i
-placeFrom-hit c rs i d h e = rw (placeFrom-step c rs i d h, eq-eqb _ _ e) refl
-
-pub placeFrom-miss : (c : ℕ) (rs : List Row) (i : ℕ) (d : Row) → i < length rs → (getD rs i d .code ≡ c → ⊥) →
-    placeFrom c (drop i rs) i ≡ placeFrom c (drop (i + 1) rs) (i + 1)
-placeFrom-miss c rs i d h e = rw (placeFrom-step c rs i d h, ne-eqb _ _ e) refl
+-- what is no row's code has no place
+pub placeFrom-none : (c : ℕ) (rs : List Row) → Avoids (Unit {0}) c rs → placeFrom c rs 0 ≡ Nowhere
+placeFrom-none c rs t = avoided (Unit {0}) c rs 0 t .1
 
 -- the number i is none of the first n, as the last arm of a `match` has it
 abbrev NotBelow : ℕ → ℕ → Type 0
