@@ -240,10 +240,24 @@ fn put_near(s: &mut [u8], before: usize, n: usize, v: u64)
     }
 }
 
+// A whole byte, as a text has them one after the other.
+fn put_byte(s: &mut [u8], before: usize, v: u64)
+    requires { ⌜ before % 8 ≡ 0 ⌝ }
+    ensures { λ _. ⌜ now (s .exit) ≡ putBits (now (s .entry)) before 8 v ⌝ }
+{
+    put_part(s, before, 8, v);
+}
+
 // Replaces the n bits after the first `before` by the n low bits of v, by zeros before them where n is over 64. All other bits stay.
 pub fn write(s: &mut [u8], before: usize, n: usize, v: u64)
     ensures { λ _. ⌜ now (s .exit) ≡ putBits (now (s .entry)) before n v ⌝ }
 {
+    if n == 8 {
+        if before % 8 == 0 {
+            put_byte(s, before, v);
+            return;
+        }
+    }
     if 4294967296 < before {
         put_digits(s, before, n, v);
     } else if n <= 64 {
