@@ -1,6 +1,7 @@
 /*
  * bench.c: what the proved library costs beside plain C. It first compares the answers of both on all inputs (agree.c), then runs both
- * alternately on the same inputs and prints, of each job, how many words or fields a second each does and the ratio of their costs.
+ * alternately on the same inputs and prints, of each job, how many words or fields a second each does and the ratio: below 1 the library is
+ * the slower one.
  *
  * bench [--small] [--emulated]   compare and measure; --small: once, on little; --emulated: each ratio is marked so, and decides nothing
  * bench --passes                 each job once by each library, through `pass`, for a tool that counts instructions
@@ -248,7 +249,7 @@ static void print_row(const struct row *r)
         printf("bench: DIFFERENT: %s\n", r->name);
         exit(1);
     }
-    printf("%-40s %10.2f %10.2f %7.2f%s", r->name, 1e-6 * r->units / a, 1e-6 * r->units / b, a / b, mark);
+    printf("%-40s %10.2f %10.2f %7.2f%s", r->name, 1e-6 * r->units / a, 1e-6 * r->units / b, b / a, mark);
     if (r->small) {
         measure(r->run, r->small, r->pieces, &c, &d);
         printf(" %9.2f %9.2f", a / c, b / d);
@@ -307,7 +308,7 @@ int main(int n, char **words)
     printf("same answers: %lu about lines, ", agree_lines(times));
     printf("%lu about writing, ", agree_writing(times));
     printf("%lu about fields\n", agree_fields(times));
-    printf("millions of words (or fields) a second, the ratio of the costs, and the cost of a word on a line of %.0f words to that on lines of %d\n%-40s %10s %10s %7s %9s %9s\n",
+    printf("millions of words (or fields) a second, their ratio, and the cost of a word on a line of %.0f words to that on lines of %d\n%-40s %10s %10s %7s %9s %9s\n",
            rows[0].units, SHORT_LINE, "", "siamrung", "plain C", "ratio", "siamrung", "plain C");
     for (i = 0; i < row_count; i++)
         print_row(&rows[i]);
