@@ -145,7 +145,8 @@ extern "C" {
 #define SIAMRUNG_ITEM_DOPPLER2 35
 #define SIAMRUNG_ITEM_GROUND 36
 
-/* ---- types of link data fields (hexadecimal in the document): what siamrung_field_type answers, and what siamrung_field_write takes */
+/* ---- types of link data fields (hexadecimal in the document): what siamrung_field_type answers, and, but for RELAY, what siamrung_field_write
+ * takes */
 
 /* to the sensor */
 #define SIAMRUNG_TYPE_TACTICAL_UPLINK 0x21
@@ -194,7 +195,7 @@ extern "C" {
 #define SIAMRUNG_FIELD_REFUSAL_SPARE_BIT_SET 27
 /* a value not in use */
 #define SIAMRUNG_FIELD_REFUSAL_VALUE_NOT_IN_USE 28
-/* writing: a value too large or not in use; an item, the list or the text that is not this type's */
+/* writing: a value too large or not in use; an item, the list or the text that is not this type's; a sensor with a type that is not relayed */
 #define SIAMRUNG_FIELD_REFUSAL_NOT_WRITABLE 30
 /* writing: too few bytes */
 #define SIAMRUNG_FIELD_REFUSAL_NO_ROOM 31
@@ -367,8 +368,9 @@ size_t siamrung_field_text_length(const uint8_t *bytes, size_t length, size_t co
  * Writes the field of that type with these items to the start of the bytes, and zeros to the end of the byte that it begins last. Answers
  * the number of its bits. Refused, it leaves every byte as it was and answers 0; siamrung_field_write_refusal tells.
  *
- * The type is no relay's: the item SENSOR among the items makes a relay of the field. list is thirty numbers, eight bytes each, high byte
- * first: the entries, and zeros behind them; all zero for a type without a list. text is an ELM's, and empty for every other type.
+ * The type is no relay's: the item SENSOR among the items makes a relay of the field; a type to the sensor and a test response are not
+ * relayed. list is thirty numbers, eight bytes each, high byte first, a negative one in two's complement: the entries, and zeros behind them;
+ * all zero for a type without a list. text is an ELM's, and empty for every other type.
  */
 size_t siamrung_field_write(uint8_t *bytes, size_t length, uint32_t type, const uint8_t *items, size_t items_length, const uint8_t *list,
                             size_t list_length, const uint8_t *text, size_t text_length);

@@ -197,7 +197,7 @@ pairsBy [] vs = []
 pairsBy (k ∷ ks) [] = []
 pairsBy (k ∷ ks) (v ∷ vs) = cond (eqb k 0) (pairsBy ks vs) ((k, v) ∷ pairsBy ks vs)
 
--- a part's item is what stands at its place
+-- a part's item is what stands at its place; every field's type has one
 unfoldable pub fieldItems : Field → List Pair
 fieldItems f = byPlace [] (λ i. pairsBy (itemsAt i) (numbersOf f)) (placeOf (getD (numbersOf f) 0 0))
 

@@ -81,6 +81,8 @@ takesAt i r l t =
 unfoldable pub takes : Record → List ℤ → List ℕ → Bool
 takes r l t = byPlace false (λ i. takesAt i r l (length t)) (placeOf (getD (numbersIn r) 0 0))
 
+-- No record's type is without a row (the claim `RecordBack`): what the definitions below and `takes` say where `placeOf` finds none is never asked.
+
 -- ---- what is written
 
 -- the bits of a record of the type at place i
