@@ -97,6 +97,7 @@ meaning = record {
   runs = demand2.demand-2;
   form = reports.document-form;
   layouts = words.laid-out;
+  of-twelve-bits = reports.twelve-bits-a-word;
   fields = fields.fields-mean;
   fields-by-bits = as-printed;
   lists-by-bits = entries-as-printed;

@@ -63,8 +63,8 @@ pub record WritesField (r : Record) (l : List ℤ) (t s : List ℕ) (answer : Wr
 -- it in." That a call asks for nothing and returns is no claim here: the checker holds every function to it, and no public one has a
 -- `requires`. They are wide::read, bytes::read, writer::write and byte_writer::write of lines, and reading::read, reading::text and
 -- writing::write of fields. A reader's promise is an equation with a definition that answers every input; a writer's allows one answer and
--- one buffer at exit (words, bytes, fields). Every outcome but the end goes on (onward), and a line of n words is done within (n + 1) / 2
--- rounded down, plus one, calls (enough)
+-- one buffer at exit (words, bytes, fields). On a line and from a place that are taken, every outcome but the end goes on (onward), and a line of
+-- n words is done within (n + 1) / 2 rounded down, plus one, calls (enough)
 pub record TakeEveryInputAndEnd : Type 0 where
   pub words : (line : List ℕ) (place : ℕ) (r : Report) → AllowsOne (Writes signMagnitude line place r)
   pub bytes : (bytes : List ℕ) (place : ℕ) (r : Report) → AllowsOne (WritesBytes signMagnitude bytes place r)
@@ -129,12 +129,13 @@ Doubles Y.Nothing = Unit {0}
 -- "Reports and link data fields mean what FAA-RD-80-14, with its errata and the readings written in document 01, says they mean." What they
 -- mean is defined twice, by bit numbers as the tables print it and by the widths of what is written, and the two are one: a run is read as a
 -- report exactly when its words are the report's, and a field as a record exactly when its bytes are the record's. The bit numbers of reports
--- stand in reports/specs/Records.antt, those of fields in Printed.antt. The weights of counts are the printed ones, a report's counts
+-- stand in reports/specs/Records.antt, the patterns that pick the form in Forms.antt, those of fields in Printed.antt. The weights of counts are the printed ones, a report's counts
 -- have one range, azimuth and time in doubles, and the worked cases hold
 pub record MeanWhatIsPrinted : Type 0 where
   pub runs : reports.Demand2
   pub form : reports.DocumentForm
   pub layouts : words.LaidOut
+  pub of-twelve-bits : reports.TwelveBitsAWord
   pub fields : fields.FieldsMean
   pub fields-by-bits : AsPrinted
   pub lists-by-bits : (s : List ℕ) (k : ℕ) → EntriesAsPrinted s k

@@ -7,7 +7,7 @@ use Rattle.measures.specs.Claims.{WeightsAsPrinted, ExactIsOne, MinusZer
 use Rattle.measures.proofs.Unique.{unique}
 
 pub weights-as-printed : WeightsAsPrinted
-weights-as-printed = record { fine-range = refl; coarse-range = refl; fine-azimuth = refl; coarse-azimuth = refl; time-count = refl }
+weights-as-printed = record { fine-range = refl; coarse-range = refl; fine-azimuth = refl; coarse-azimuth = refl; time-count = refl; run-of-three-bits = refl; run-of-seven-bits = refl }
 
 pub exact-is-one : ExactIsOne
 exact-is-one = unique

@@ -10,11 +10,15 @@ use Rattle.refusals.proofs.Claims.{Told, differ, line-below, field-below}
 use Rattle.reports.specs.declared.kinds.Kind.{Kind}
 use Rattle.reports.specs.declared.kinds.Kind.the-variants as K
 use Rattle.reports.specs.Kinds.{kindNumber}
-use Rattle.reports.specs.Claims.{DocumentForm, KindNumbersDiffer, KindsAboveRefusals}
+use Rattle.reports.specs.Claims.{DocumentForm, TwelveBitsAWord, KindNumbersDiffer, KindsAboveRefusals}
 use Rattle.reports.proofs.Altitudes.{sign-magnitude-sound}
+use Rattle.reports.proofs.Made.{twelve}
 
 pub document-form : DocumentForm
 document-form = sign-magnitude-sound
+
+pub twelve-bits-a-word : TwelveBitsAWord
+twelve-bits-a-word = twelve
 
 -- a number leads back to its kind
 abbrev kind : ℕ → Kind

@@ -1,5 +1,5 @@
 -- What is claimed of reports, in any sound form of the altitude: demand 2, and each refusal exactly under its condition. Statements only;
--- proofs/Claims.antt proves them.
+-- proofs/Claims.antt, Demand2.antt and Refusals.antt prove them.
 use Prim.Native.Nat.{ℕ, _<_}
 use mathlib.Core.Path.{_≡_}
 use mathlib.Core.Bool.{true, false}
@@ -15,7 +15,8 @@ use Rattle.reports.specs.declared.RunAnswer.the-variants.{Accepted, Refu
 use Rattle.reports.specs.declared.kinds.Kind.{Kind}
 use Rattle.reports.specs.Kinds.{kindNumber}
 use Rattle.reports.specs.Altitude.{AltitudeForm, Sound, signMagnitude}
-use Rattle.reports.specs.Layouts.{wordsOf, Fits, Takes, asWritten, written}
+use Rattle.words.specs.Layout.{twelveEach}
+use Rattle.reports.specs.Layouts.{layoutOf, wordsOf, Fits, Takes, asWritten, written}
 use Rattle.reports.specs.Conditions.{HasLayout}
 use Rattle.reports.specs.Runs.{Row, tableOf, judged, readRun}
 
@@ -32,6 +33,10 @@ Demand2 = (form : AltitudeForm) → Sound form → (ws : List ℕ) (r : Report) 
 -- a run is accepted exactly when it has one of the layouts, by bit numbers; and that is to be the words of a record that fits
 abbrev pub AcceptedExactly : Type 0
 AcceptedExactly = (form : AltitudeForm) (ws : List ℕ) → ((r : Report) × (readRun form ws ≡ Accepted r)) ↔ HasLayout form ws
+
+-- every layout has twelve bits a word, so that what is claimed of such layouts by bit numbers (LaidOut of words) is claimed of each report's
+abbrev pub TwelveBitsAWord : Type 0
+TwelveBitsAWord = (form : AltitudeForm) (r : Report) → twelveEach (layoutOf form r) ≡ true
 
 abbrev pub LayoutIsWords : Type 0
 LayoutIsWords = (form : AltitudeForm) → Sound form → (ws : List ℕ) → HasLayout form ws ↔ ((r : Report) × (ws ≡ wordsOf form r) × Fits form r)
