@@ -1,5 +1,5 @@
--- What the readers remember as the words of a line go by, and how the answer comes of it: what the private functions of run.rt compute,
--- whatever the line's form. Definitions only; no promise of a public function names them.
+-- What the readers remember as the words of a line go by, and how the answer comes of it: what the private functions of run.rt
+-- and bytes.rt compute. Definitions only; no promise of a public function names them.
 use Prim.Native.Nat.{ℕ, _+_, _≤_}
 use mathlib.Core.Path.{_≡_}
 use mathlib.Core.Bool.{Bool, true, false}

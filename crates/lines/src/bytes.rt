@@ -1,5 +1,5 @@
 // The reader of a line that is lent as bytes: two bytes a word, high byte first, places counted in words.
-// Relies on run for what a run must remember, its step and its answer.
+// Relies on run for what a run must remember and its answer; the words are gone through by loops of its own.
 ghost use mathlib.Core.Path.{_≡_};
 ghost use Prim.Native.Nat.{_+_, _*_, _≤_, _<_};
 ghost use lib.ListN.{length, getD, take, drop};

@@ -1,5 +1,5 @@
 // The line (document 01, "The line" and "Line refusal numbers"): the reader of a line in each of its forms, and the writer.
-// What a run must remember while its words go by stands once, in run; each form of a line is a module with one short loop over it.
+// What a run must remember, and the answer that comes of it, stand once, in run; each form of a line is a module that comes to it in its own way.
 // Relies on reports for the answer to a run's words and for the words of a report, words for idle, wide and odd, refusals for names.
 ghost use mathlib.Core.Path.{_≡_};
 ghost use Rattle.lines.specs.Line.{outcomeOf};

@@ -1,5 +1,5 @@
-// What a reader remembers while the words of a line go by, one word more, and the answer that it comes to: shared by every form of a
-// line. Only numbers are kept; the run's first seven words are handed in again at the end.
+// What a reader remembers of a run, and the answer that it comes to: shared by every form of a line; and how a line lent as words comes to
+// it, a step a word. Only numbers are kept; the run's first seven words are handed in again at the end.
 // Relies on words for the tests of a word, reports for the answer to a run. specs/Scan.antt says what each function computes.
 ghost use mathlib.Core.Path.{_≡_};
 ghost use mathlib.Core.List.{[], _∷_};

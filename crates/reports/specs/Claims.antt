@@ -34,12 +34,12 @@ Demand2 = (form : AltitudeForm) → Sound form → (ws : List ℕ) (r : Report) 
 abbrev pub AcceptedExactly : Type 0
 AcceptedExactly = (form : AltitudeForm) (ws : List ℕ) → ((r : Report) × (readRun form ws ≡ Accepted r)) ↔ HasLayout form ws
 
+abbrev pub LayoutIsWords : Type 0
+LayoutIsWords = (form : AltitudeForm) → Sound form → (ws : List ℕ) → HasLayout form ws ↔ ((r : Report) × (ws ≡ wordsOf form r) × Fits form r)
+
 -- every layout has twelve bits a word, so that what is claimed of such layouts by bit numbers (LaidOut of words) is claimed of each report's
 abbrev pub TwelveBitsAWord : Type 0
 TwelveBitsAWord = (form : AltitudeForm) (r : Report) → twelveEach (layoutOf form r) ≡ true
-
-abbrev pub LayoutIsWords : Type 0
-LayoutIsWords = (form : AltitudeForm) → Sound form → (ws : List ℕ) → HasLayout form ws ↔ ((r : Report) × (ws ≡ wordsOf form r) × Fits form r)
 
 -- an accepted run's record written out again gives the same words, and the writer, where it takes the record, hands them out
 abbrev pub WrittenAgain : Type 0
