@@ -32,7 +32,7 @@ use Rattle.fields.proofs.Claims as fields
 use Rattle.claims.specs.Demands.{TakeEveryInputAndEnd, OneNumberedRefusal, NoSkipWithoutAName, GivenExactly, LeavesUntouched, MeanWhatIsPrinted, AcceptedExactly, WrittenAgain, ReadAgain, EqualLinesEqualLists, ReadingGivesTheList, OneOutcomeEach, Doubles, reportsIn, Demands}
 use Rattle.claims.proofs.Twelve.{twelve}
 use Rattle.claims.proofs.Printed.{as-printed, entries-as-printed}
-use Rattle.claims.proofs.Places.{end-exactly, report-words, read-written, read-written-bytes}
+use Rattle.claims.proofs.Places.{end-exactly, end-of-bytes, report-words, report-words-of-bytes, read-written, read-written-bytes}
 use Rattle.claims.proofs.Fields.{writing-refuses, has-layout, again, read-left}
 
 -- ---- demand 1
@@ -49,6 +49,7 @@ take-every-input = record {
 one-refusal : OneNumberedRefusal
 one-refusal = record {
   end = end-exactly;
+  end-of-bytes = end-of-bytes;
   line-numbers = refusals.line-numbers-differ;
   field-numbers = refusals.field-numbers-differ;
   apart = refusals.numbers-apart;
@@ -115,7 +116,7 @@ accepted = record {
 }
 
 written-again : WrittenAgain
-written-again = record { runs = demand2.written-again; on-a-line = report-words; fields = again }
+written-again = record { runs = demand2.written-again; on-a-line = report-words; on-bytes = report-words-of-bytes; fields = again }
 
 read-again : ReadAgain
 read-again = record {

@@ -10,7 +10,7 @@ use native.Mathlib.Omega.{arith}
 use lib.Dec.{eqb, ltb}
 use lib.ListN.{length, take, drop, replicate, length-drop, length-append}
 use lib.Seq.{drop-drop, drop-at, length-take-le}
-use borrow.Author.Tests.{eqb-true, ltb-false}
+use borrow.Author.Tests.{eqb-true, eqb-false, ltb-false, le-ltb, ne-eqb}
 use Rattle.words.specs.Word.{idle}
 use Rattle.refusals.specs.declared.LineRefusal.the-variants.{LineTooLong, OddByteCount, PlaceBeyondLine}
 use Rattle.reports.specs.declared.Report.{Report}
@@ -99,6 +99,32 @@ end-exactly line place = (there, back)
         ap (λ (o : Outcome). o .what)
         (read-there answer line place (k .0) (k .1) ∙ ap (outcomeAt answer (length line) (place + gap (drop place line))) run)
 
+-- bytes of which something is told but a refusal are read as the words that they hold
+as-words : (bytes : List ℕ) (place : ℕ) → isRefusal (readBytes signMagnitude bytes place .what) ≡ false
+    → (length bytes ≤ mostBytes) × (length bytes % 2 ≡ 0) × (readBytes signMagnitude bytes place ≡ readAt signMagnitude (wordsIn bytes) place)
+unfolding readBytes
+as-words bytes place e =
+    by-test (ltb mostBytes (length bytes))
+    (λ a. let k : readBytes signMagnitude bytes place ≡ notTaken LineTooLong place = picked _ _ a in
+    let f = ap (λ (o : Outcome). isRefusal (o .what)) k in let z : _≡_ {A = ℕ} 0 1 = cc in absurd (omega arith))
+    (λ a. by-test (eqb (length bytes % 2) 1)
+    (λ b. let k : readBytes signMagnitude bytes place ≡ notTaken OddByteCount place = passed _ _ a ∙ picked _ _ b in
+    let f = ap (λ (o : Outcome). isRefusal (o .what)) k in let z : _≡_ {A = ℕ} 0 1 = cc in absurd (omega arith))
+    (λ b. let odd : length bytes % 2 ≡ 1 → ⊥ = eqb-false (length bytes % 2) 1 b in (ltb-false mostBytes (length bytes) a, even odd, passed _ _ a ∙ passed _ _ b)))
+  where
+    even : (length bytes % 2 ≡ 1 → ⊥) → length bytes % 2 ≡ 0
+    even odd = omega arith
+
+pub end-of-bytes : (bytes : List ℕ) (place : ℕ)
+    → (readBytes signMagnitude bytes place .what ≡ W.End) ↔ ((length bytes ≤ mostBytes) × (length bytes % 2 ≡ 0) × OnlyIdleLeft (wordsIn bytes) place)
+unfolding readBytes
+end-of-bytes bytes place = (
+  λ e. let k = as-words bytes place (ap isRefusal e) in (k .0, k .1, end-exactly (wordsIn bytes) place .0 (sym (ap (λ (o : Outcome). o .what) (k .2)) ∙ e)),
+  λ k. let t : readBytes signMagnitude bytes place ≡ readAt signMagnitude (wordsIn bytes) place =
+      passed _ _ (le-ltb mostBytes (length bytes) (k .0)) ∙ passed _ _ (ne-eqb (length bytes % 2) 1 (λ q. omega (arith, q, k .1))) in
+      ap (λ (o : Outcome). o .what) t ∙ end-exactly (wordsIn bytes) place .1 (k .2),
+)
+
 -- ---- a report has the words of its run
 
 -- a run is the front of what it was found in
@@ -135,6 +161,12 @@ report-words line place r e =
     let size : f + length run - f ≡ length run = omega arith in
     sym (h .0) ∙ sym (stretch-front (drop (gap rest) rest)) ∙ ap (take (length run)) (drop-drop (gap rest) place line)
     ∙ sym ((λ i. between (first i) (after i) line) ∙ ap (λ (n : ℕ). take n (drop f line)) size)
+
+pub report-words-of-bytes : (bytes : List ℕ) (place : ℕ) (r : Report) → readBytes signMagnitude bytes place .what ≡ W.Accepted r
+    → wordsOf signMagnitude r ≡ between (readBytes signMagnitude bytes place .first) (readBytes signMagnitude bytes place .after) (wordsIn bytes)
+report-words-of-bytes bytes place r e =
+    let k = as-words bytes place (ap isRefusal e) .2 in
+    rw k (report-words (wordsIn bytes) place r (sym (ap (λ (o : Outcome). o .what) k) ∙ e))
 
 -- ---- what the writer left is read at its place
 

@@ -2,7 +2,7 @@
 -- words; the definition under it says it, by the written definitions and claims of the crates below, of document 01's form of the altitude
 -- (signMagnitude) or of every form and every answer to a run. Demands, at the end, gathers them, and proofs/Demands.antt proves it as one
 -- value. Statements only, with what they need to be said.
-use Prim.Native.Nat.{ℕ, _+_, _-_, _/_, _≤_}
+use Prim.Native.Nat.{ℕ, _+_, _-_, _/_, _%_, _≤_}
 use mathlib.Core.Path.{_≡_}
 use mathlib.Core.Bool.{true, not}
 use mathlib.Core.List.{List, [], _∷_, _++_}
@@ -33,7 +33,7 @@ use Rattle.lines.specs.declared.What.the-variants as W
 use Rattle.lines.specs.declared.Outcome.{Outcome}
 use Rattle.lines.specs.declared.Wrote.the-variants as P
 use Rattle.lines.specs.Line.{most, outcomeOf, readAt, outcomes}
-use Rattle.lines.specs.Bytes.{readBytes}
+use Rattle.lines.specs.Bytes.{mostBytes, wordsIn, readBytes}
 use Rattle.lines.specs.Spaced.{Spaced, lineOf, reportsOf, AllFit, Apart}
 use Rattle.lines.specs.Writing.{Writes}
 use Rattle.lines.specs.ByteWriting.{WritesBytes}
@@ -80,6 +80,8 @@ OnlyIdleLeft line place = (length line ≤ most) × (place ≤ length line) × (
 -- idle words are left, so no word is passed over without a name; a number names one refusal, and 0 names none
 pub record OneNumberedRefusal : Type 0 where
   pub end : (line : List ℕ) (place : ℕ) → (readAt signMagnitude line place .what ≡ W.End) ↔ OnlyIdleLeft line place
+  pub end-of-bytes : (bytes : List ℕ) (place : ℕ)
+      → (readBytes signMagnitude bytes place .what ≡ W.End) ↔ ((length bytes ≤ mostBytes) × (length bytes % 2 ≡ 0) × OnlyIdleLeft (wordsIn bytes) place)
   pub line-numbers : refusals.LineNumbersDiffer
   pub field-numbers : refusals.FieldNumbersDiffer
   pub apart : refusals.NumbersApart
@@ -166,6 +168,8 @@ pub record WrittenAgain : Type 0 where
   pub runs : reports.WrittenAgain
   pub on-a-line : (line : List ℕ) (place : ℕ) (r : Report) → readAt signMagnitude line place .what ≡ W.Accepted r
       → wordsOf signMagnitude r ≡ between (readAt signMagnitude line place .first) (readAt signMagnitude line place .after) line
+  pub on-bytes : (bytes : List ℕ) (place : ℕ) (r : Report) → readBytes signMagnitude bytes place .what ≡ W.Accepted r
+      → wordsOf signMagnitude r ≡ between (readBytes signMagnitude bytes place .first) (readBytes signMagnitude bytes place .after) (wordsIn bytes)
   pub fields : (s : List ℕ) (n : ℕ) (w : Direction) (r : Record) → Bytes s → answerOf s n w ≡ Accepted r
       → (b : List ℕ) → Bytes b → length s ≤ length b
       → WritesField r (readField s n w .list) (textOf s n w) b (F.Bits n) (s ++ drop (length s) b)
