@@ -3,9 +3,11 @@
 use Prim.Native.Nat.{ℕ, zero, suc, _+_, _-_, _*_, _<_}
 use native.Mathlib.Nat.{add-zero, zero-add, mul-zero, mul-suc}
 use native.Mathlib.Omega.{arith}
+use lib.Dec.{eqb}
 use lib.IntN.{ℤ, pos}
 use lib.ListN.{getD, replicate}
-use mathlib.Core.Path.{_≡_, ap, _∙_}
+use mathlib.Core.Path.{_≡_, refl, ap, _∙_}
+use mathlib.Core.Bool.{Bool, true, false, not, cond}
 use mathlib.Core.List.{List, [], _∷_, map}
 use Rattle.bits.specs.Bits.{bitsOf, bits}
 use Rattle.bits.proofs.Laws.{bitsOf-lt}
@@ -13,10 +15,10 @@ use Rattle.fields.specs.Lists.{blockOf, entryOf, entriesIn}
 use Rattle.fields.specs.declared.Direction.{Direction}
 use Rattle.fields.specs.declared.Direction.the-variants.{ToSensor}
 use Rattle.fields.specs.declared.Field.{Field}
-use Rattle.fields.specs.Table.{table, rows, rowAt, placeFrom, placeOf, byPlace, widths, widthsAt, valuesOf, countIn, sizeIn}
+use Rattle.fields.specs.Table.{table, rows, rowAt, placeFrom, placeOf, byPlace, widths, widthsAt, rules, rulesAt, valuesOf, hasFault, countIn, sizeIn}
 use Rattle.fields.specs.Records.{fieldOf, fieldAt}
-use Rattle.fields.specs.Reading.{valuesAt, typeOf, listed, listedBy, listIn}
-use Rattle.claims.specs.Printed.{Row, printed, AllMeant, AsPrinted, EntriesAsPrinted}
+use Rattle.fields.specs.Reading.{valuesAt, typeOf, spareBitSet, listed, listedBy, listIn}
+use Rattle.claims.specs.Printed.{Row, printed, AllMeant, AsPrinted, EntriesAsPrinted, Rule, ruled, anyOf, anySet, AllRuled, RulesAsPrinted}
 
 -- what the table says of a field of a type
 record Made : Type 0 where
@@ -94,3 +96,64 @@ entries-as-printed s k = record {
   where
     entry : {x y : List ℤ} → x ≡ y → getD x k (pos 0) ≡ getD y k (pos 0)
     entry e = ap (λ (l : List ℤ). getD l k (pos 0)) e
+
+-- ---- the rules
+
+-- what a fault is, of what is wrong with a part by its rule: 1 a spare bit, 2 a value
+spare-1 : (b : Bool) → eqb (cond b 0 1) 1 ≡ not b
+spare-1 true = refl
+spare-1 false = refl
+
+spare-2 : (b : Bool) → eqb (cond b 0 1) 2 ≡ false
+spare-2 true = refl
+spare-2 false = refl
+
+value-1 : (b : Bool) → eqb (cond b 2 0) 1 ≡ false
+value-1 true = refl
+value-1 false = refl
+
+value-2 : (b : Bool) → eqb (cond b 2 0) 2 ≡ b
+value-2 true = refl
+value-2 false = refl
+
+other-1 : (b : Bool) → eqb (cond b 0 2) 1 ≡ false
+other-1 true = refl
+other-1 false = refl
+
+other-2 : (b : Bool) → eqb (cond b 0 2) 2 ≡ not b
+other-2 true = refl
+other-2 false = refl
+
+-- a part of no bits
+no-bits : (s : List ℕ) (p : ℕ) → bitsOf s p 0 ≡ 0
+unfolding bitsOf
+no-bits s p = refl
+
+record Ruled : Type 0 where
+  spare : Bool
+  unused : Bool
+
+abbrev faults : List ℕ → ℕ → ℕ → Ruled
+faults s a c = record {
+  spare = byPlace false (λ i. hasFault 1 (rulesAt i) (valuesAt s a i)) (placeOf c);
+  unused = byPlace false (λ i. hasFault 2 (rulesAt i) (valuesAt s a i)) (placeOf c);
+}
+
+abbrev told : Rule → Ruled
+told x = record { spare = anySet (x .spares); unused = anyOf (x .unused) }
+
+all-ruled : (s : List ℕ) (a : ℕ) (xs : List Rule) → map (λ (x : Rule). faults s a (x .code)) xs ≡ map told xs → AllRuled s a xs
+unfolding spareBitSet
+all-ruled s a [] e = tt
+all-ruled s a (x ∷ xs) e =
+    let q : faults s a (x .code) ≡ told x = cc in (
+      λ h. let k : faults s a (typeOf s a) ≡ told x = ap (faults s a) h ∙ q in (ap (λ (m : Ruled). m .spare) k, ap (λ (m : Ruled). m .unused) k),
+      all-ruled s a xs (cc),
+    )
+
+pub rules-as-printed : RulesAsPrinted
+unfolding table rows placeFrom widths widthsAt rules rulesAt valuesOf hasFault
+rules-as-printed s = (
+  all-ruled s 0 (ruled (λ a b. bits s a b)) (simp (add-zero, zero-add, no-bits, spare-1, spare-2, value-1, value-2, other-1, other-2)),
+  all-ruled s 16 (ruled (λ a b. bits s (16 + a) (16 + b))) (simp (add-zero, zero-add, no-bits, spare-1, spare-2, value-1, value-2, other-1, other-2)),
+)

@@ -46,7 +46,7 @@ use Rattle.fields.specs.declared.Written.the-variants as F
 use Rattle.fields.specs.Reading.{Test, answerOf, readField, textOf}
 use Rattle.fields.specs.Writing.{takes, bitsIn, wayIn, bytesIn, writtenOf, leftOf}
 use Rattle.claims.specs.Twelve.{Twelve}
-use Rattle.claims.specs.Printed.{AsPrinted, EntriesAsPrinted}
+use Rattle.claims.specs.Printed.{AsPrinted, EntriesAsPrinted, RulesAsPrinted}
 
 -- ---- demand 1
 
@@ -140,6 +140,7 @@ pub record MeanWhatIsPrinted : Type 0 where
   pub of-twelve-bits : reports.TwelveBitsAWord
   pub fields : fields.FieldsMean
   pub fields-by-bits : AsPrinted
+  pub rules-by-bits : RulesAsPrinted
   pub lists-by-bits : (s : List ℕ) (k : ℕ) → EntriesAsPrinted s k
   pub weights : measures.WeightsAsPrinted
   pub values : (c : Counted) (x y : Values) → Doubles x → Doubles y → Yields c x → Yields c y → x ≡ y

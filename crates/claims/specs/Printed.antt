@@ -1,10 +1,11 @@
 -- What a link data field's bits mean, by document 01's own bit numbers ("Link data fields"): a row for each type but the relay, held against
--- what the table of types, which goes by widths, says of its way, its length and its record. Bits that are in no part of the record, of the
--- list and of the text are zero in every field that is accepted (FieldsMean of fields). Definitions only; proofs/Printed.antt proves the
--- claim at the end by computing it.
-use Prim.Native.Nat.{ℕ, _+_, _*_, _<_}
+-- what the table of types, which goes by widths, says of its way, its length, its record, its spare bits and its values not in use. Definitions
+-- only; proofs/Printed.antt proves the claims by computing them.
+use Prim.Native.Nat.{ℕ, _+_, _*_, _%_, _<_}
 use mathlib.Core.Path.{_≡_}
 use mathlib.Core.List.{List, [], _∷_}
+use mathlib.Core.Bool.{Bool, false, not, _||_}
+use lib.Dec.{eqb, leb}
 use lib.IntN.{pos}
 use lib.ListN.{getD}
 use Rattle.bits.specs.Bits.{bits}
@@ -12,9 +13,9 @@ use Rattle.fields.specs.declared.Direction.{Direction}
 use Rattle.fields.specs.declared.Direction.the-variants.{ToSensor, FromSensor}
 use Rattle.fields.specs.declared.Field.{Field}
 use Rattle.fields.specs.declared.Field.the-variants.{TacticalUplink, ElmUplink, DownlinkRequest, IdRequest, CapabilityRequest, Cancellation, Test, AltimeterCorrection, AtcFailure, SensorFailure, DabsControlState, AtcrbsControlState, RejectionNotice, DeliveryNotice, TacticalDownlink, ElmDownlink, Utility, Capability, IdCode, TestResponse, ControllerAlert}
-use Rattle.fields.specs.Table.{placeOf, byPlace, rowAt, sizeIn}
+use Rattle.fields.specs.Table.{placeOf, byPlace, rowAt, rulesAt, hasFault, sizeIn}
 use Rattle.fields.specs.Lists.{blockOf}
-use Rattle.fields.specs.Reading.{typeOf, valuesAt, recordIn, listIn}
+use Rattle.fields.specs.Reading.{typeOf, valuesAt, recordIn, listIn, spareBitSet}
 
 -- a type, the way it travels, how many bits a field of it has, and its record
 pub record Row : Type 0 where
@@ -101,3 +102,83 @@ pub record EntriesAsPrinted (s : List ℕ) (k : ℕ) : Type 0 where
   pub addresses : typeOf s 0 ≡ 0x9A → k < bits s 9 11 + bits s 12 14 + bits s 15 16
       → getD (listIn s) k (pos 0) ≡ pos (bits s (17 + 24 * k) (40 + 24 * k))
   pub identifiers : typeOf s 0 ≡ 0x96 → k < bits s 9 12 + bits s 13 16 → getD (listIn s) k (pos 0) ≡ pos (bits s (17 + 24 * k) (40 + 24 * k))
+
+-- ---- the rules: spare bits, and values not in use
+
+-- a type, its spare bits, and of each value that may be one not in use whether it is
+pub record Rule : Type 0 where
+  pub code : ℕ
+  pub spares : List ℕ
+  pub unused : List Bool
+
+abbrev rule : ℕ → List ℕ → List Bool → Rule
+rule c xs bs = record { code = c; spares = xs; unused = bs }
+
+abbrev isZero : ℕ → Bool
+isZero x = eqb x 0
+
+-- "Not in use: number, referenced number, EXP, state, SSTAT, ELM Length of 0; MSRC but 1; QUAL 5-7; DEL 6-7; advisory bits 9-11 of 111"; what is
+-- not in use in an altimeter block is said in fields/specs/Lists.antt
+abbrev pub ruled : (ℕ → ℕ → ℕ) → List Rule
+ruled at =
+    -- 21: number, EXP
+    rule 0x21 [] (isZero (at 33 36) ∷ isZero (at 38 40) ∷ [])
+    -- 22: spare 41-44; number, EXP, Length
+    ∷ rule 0x22 (at 41 44 ∷ []) (isZero (at 33 36) ∷ isZero (at 38 40) ∷ isZero (at 45 48) ∷ [])
+    -- 23: spare 45-48; number, EXP, MSRC
+    ∷ rule 0x23 (at 45 48 ∷ []) (isZero (at 33 36) ∷ isZero (at 38 40) ∷ not (eqb (at 41 44) 1) ∷ [])
+    -- 24 and 02: spare 37-40; number
+    ∷ rule 0x24 (at 37 40 ∷ []) (isZero (at 33 36) ∷ [])
+    ∷ rule 0x02 (at 37 40 ∷ []) (isZero (at 33 36) ∷ [])
+    -- 25: number, referenced number
+    ∷ rule 0x25 [] (isZero (at 33 36) ∷ isZero (at 37 40) ∷ [])
+    -- 61
+    ∷ rule 0x61 [] []
+    -- 9B: spare 9-12
+    ∷ rule 0x9B (at 9 12 ∷ []) []
+    -- 99: spare 11-16; state
+    ∷ rule 0x99 (at 11 16 ∷ []) (isZero (at 9 10) ∷ [])
+    -- 65: spare 13-14 and 17-24; SSTAT
+    ∷ rule 0x65 (at 13 14 ∷ at 17 24 ∷ []) (isZero (at 15 16) ∷ [])
+    -- 9A and 96
+    ∷ rule 0x9A [] []
+    ∷ rule 0x96 [] []
+    -- 31: spare 40; referenced number, QUAL
+    ∷ rule 0x31 (at 40 40 ∷ []) (isZero (at 33 36) ∷ not (leb (at 37 39) 4) ∷ [])
+    -- 32: spare 38-40; referenced number
+    ∷ rule 0x32 (at 38 40 ∷ []) (isZero (at 33 36) ∷ [])
+    -- 41
+    ∷ rule 0x41 [] []
+    -- 42: spare 33-36; Length
+    ∷ rule 0x42 (at 33 36 ∷ []) (isZero (at 37 40) ∷ [])
+    -- 43: spare 33-34
+    ∷ rule 0x43 (at 33 34 ∷ []) []
+    -- 44: spare 94-96
+    ∷ rule 0x44 (at 94 96 ∷ []) []
+    -- 45: spare 33-36
+    ∷ rule 0x45 (at 33 36 ∷ []) []
+    -- 62
+    ∷ rule 0x62 [] []
+    -- 83: the last three bits of each advisory, each DEL
+    ∷ rule 0x83 [] (eqb (at 59 69 % 8) 7 ∷ not (leb (at 70 72) 5) ∷ eqb (at 75 85 % 8) 7 ∷ not (leb (at 86 88) 5) ∷ [])
+    ∷ []
+
+abbrev pub anyOf : List Bool → Bool
+anyOf [] = false
+anyOf (b ∷ bs) = b || anyOf bs
+
+abbrev pub anySet : List ℕ → Bool
+anySet [] = false
+anySet (x ∷ xs) = not (eqb x 0) || anySet xs
+
+-- a value of a part is not in use
+abbrev pub unusedAt : List ℕ → ℕ → Bool
+unusedAt s before = byPlace false (λ i. hasFault 2 (rulesAt i) (valuesAt s before i)) (placeOf (typeOf s before))
+
+abbrev pub AllRuled : List ℕ → ℕ → List Rule → Type 0
+AllRuled s before [] = Unit {0}
+AllRuled s before (x ∷ rules) =
+    (typeOf s before ≡ x .code → (spareBitSet s before ≡ anySet (x .spares)) × (unusedAt s before ≡ anyOf (x .unused))) × AllRuled s before rules
+
+abbrev pub RulesAsPrinted : Type 0
+RulesAsPrinted = (s : List ℕ) → AllRuled s 0 (ruled (λ a b. bits s a b)) × AllRuled s 16 (ruled (λ a b. bits s (16 + a) (16 + b)))
