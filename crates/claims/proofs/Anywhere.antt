@@ -13,7 +13,7 @@ use lib.Seq.{ext-getD, getD-append-add, getD-drop}
 use borrow.Author.Tests.{ltb-true, ltb-false, le-ltb}
 use Rattle.bits.specs.Bits.{bitAt, putBit, putBits, Bytes}
 use Rattle.bits.proofs.Laws.{putBit-same, putBits-other, length-putBit, length-putBits, putBits-bytes, bitsOf-same, byte-bits}
-use Rattle.lines.proofs.Tests.{by-test}
+use Rattle.words.proofs.Tests.{by-test}
 use Rattle.fields.specs.declared.Place.the-variants.{At}
 use Rattle.fields.specs.declared.Record.{Record}
 use Rattle.fields.specs.declared.Record.the-variants.{Single, Relay}

@@ -29,7 +29,7 @@ use Rattle.lines.specs.Line.{most, outcomeOf, notTaken, whatOf, placed, isRefus
 use Rattle.lines.specs.Bytes.{mostBytes, wordsIn, readBytes}
 use Rattle.lines.specs.Writing.{writeAt, leftBy, Writes}
 use Rattle.lines.specs.ByteWriting.{bytesOf, writeBytes, bytesLeft, WritesBytes}
-use Rattle.lines.proofs.Tests.{picked, passed, by-test}
+use Rattle.words.proofs.Tests.{picked, passed, by-test}
 use Rattle.lines.proofs.Runs.{Free, good-free}
 use Rattle.lines.proofs.Puts.{write-cases}
 use Rattle.lines.proofs.Outcomes.{read-there, goes-on}

@@ -10,7 +10,7 @@ use lib.Dec.{eqb, leb, ltb, lit<, lit≤}
 use lib.IntN.{ℤ, pos, negsuc, natAbs}
 use lib.ListN.{getD}
 use Rattle.words.specs.Tests.{pick}
-use Rattle.lines.proofs.Tests.{picked, passed, by-test}
+use Rattle.words.proofs.Tests.{picked, passed, by-test}
 use Rattle.pairs.specs.declared.Found.{Found}
 use Rattle.pairs.specs.declared.Found.the-variants as F
 use Rattle.pairs.specs.Pairs.{Pair, findIn, valueOf, isFound, eachFrom}

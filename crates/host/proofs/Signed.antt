@@ -8,7 +8,7 @@ use lib.IntN.{ℤ, pos, negsuc, _-ℤ_}
 use mir.Syntax.{Width, w64}
 use mir.Val.{SFits, toZ, ofZ, hbits}
 use mir.Facts.{toZ-pos, toZ-ofZ}
-use Rattle.lines.proofs.Tests.{picked, passed, by-test}
+use Rattle.words.proofs.Tests.{picked, passed, by-test}
 use Rattle.host.specs.Given.{asSigned, sameNumber}
 
 pub low : (h v : ℕ) → v < h → asSigned h v ≡ pos v

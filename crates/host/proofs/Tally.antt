@@ -8,7 +8,7 @@ use lib.IntN.{ℤ}
 use lib.ListN.{length, getD}
 use borrow.Author.Tests.{eq-eqb, ne-eqb}
 use Rattle.words.specs.Tests.{pick}
-use Rattle.lines.proofs.Tests.{picked, by-test}
+use Rattle.words.proofs.Tests.{picked, by-test}
 use Rattle.pairs.specs.declared.Told.{Told}
 use Rattle.reports.specs.declared.Height.{Height}
 use Rattle.reports.specs.declared.Height.the-variants as H

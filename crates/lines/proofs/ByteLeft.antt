@@ -18,7 +18,7 @@ use Rattle.lines.specs.Bytes.{mostBytes, wordsIn}
 use Rattle.lines.specs.Writing.{leftBy}
 use Rattle.lines.specs.ByteWriting.{bytesOf, writeBytes, bytesLeft}
 use Rattle.lines.specs.Claims.{SameWords}
-use Rattle.lines.proofs.Tests.{picked, passed, by-test}
+use Rattle.words.proofs.Tests.{picked, passed, by-test}
 use Rattle.lines.proofs.ByteWords.{words-length}
 use Rattle.lines.proofs.Puts.{write-cases}
 

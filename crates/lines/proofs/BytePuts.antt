@@ -23,7 +23,7 @@ use Rattle.lines.specs.Line.{most}
 use Rattle.lines.specs.Bytes.{mostBytes, wordsIn}
 use Rattle.lines.specs.Writing.{room, roomFor, writeAt, put}
 use Rattle.lines.specs.ByteWriting.{bytesOf, writeBytes, roomOf, roomOfMade, answerOf, bytesLeft, WritesBytes, PutsBytes}
-use Rattle.lines.proofs.Tests.{picked, passed, by-test}
+use Rattle.words.proofs.Tests.{picked, passed, by-test}
 use Rattle.lines.proofs.ByteWords.{words-length}
 use Rattle.lines.proofs.Puts.{within-line, handed, handed-words}
 

@@ -20,7 +20,7 @@ use Rattle.lines.specs.declared.Outcome.{Outcome}
 use Rattle.lines.specs.Line.{most, outcomeOf, endOf, whatOf, isEnd, gap, stretch, runIn, placed, outcomeAt, readBy, calls}
 use Rattle.lines.specs.Stretches.{Run, closed, runsFrom}
 use Rattle.lines.specs.Claims.{Answer, moved, alone, OneEach, CallsEnough, Onward, FromThere}
-use Rattle.lines.proofs.Tests.{picked, passed, by-test}
+use Rattle.words.proofs.Tests.{picked, passed, by-test}
 use Rattle.lines.proofs.Runs.{runs-next, gap-all, gap-stretch, stretch-stretch, Free, free-gap, free-stretch}
 
 -- ---- a run alone and in the line

@@ -16,7 +16,7 @@ use Rattle.lines.specs.declared.Outcome.{Outcome}
 use Rattle.lines.specs.Line.{most, outcomeOf, endOf, isEnd, readBy, outcomes}
 use Rattle.lines.specs.Stretches.{Run, runsFrom, runs}
 use Rattle.lines.specs.Claims.{Answer, moved, alone, beforeEnd, Splits, outside, Replaced}
-use Rattle.lines.proofs.Tests.{picked, passed}
+use Rattle.words.proofs.Tests.{picked, passed}
 use Rattle.lines.proofs.Runs.{All, all-runs, along, runs-along, runs-ends, runs-begins}
 use Rattle.lines.proofs.Outcomes.{alone-free, goes-on, one-each}
 

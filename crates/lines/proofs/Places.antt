@@ -16,7 +16,7 @@ use Rattle.words.proofs.Claims.{no-report-word-is-idle}
 use Rattle.lines.specs.declared.run.Scan.{Scan}
 use Rattle.lines.specs.Line.{gap, stretch, runIn}
 use Rattle.lines.specs.Scan.{firstAt, afterAt, faultAt, Sound, Seen}
-use Rattle.lines.proofs.Tests.{picked, passed, by-test}
+use Rattle.words.proofs.Tests.{picked, passed, by-test}
 
 -- what a test told of the word that was read at a place
 pub told : (test : ℕ → Bool) {x w : ℕ} {b t : Bool} → w ≡ x → b ≡ test w → b ≡ t → test x ≡ t

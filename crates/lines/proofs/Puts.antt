@@ -24,7 +24,7 @@ use Rattle.lines.specs.declared.Wrote.{Wrote}
 use Rattle.lines.specs.declared.Wrote.the-variants as W
 use Rattle.lines.specs.Line.{most}
 use Rattle.lines.specs.Writing.{room, roomFor, writeAt, leftBy, Writes, Puts, put}
-use Rattle.lines.proofs.Tests.{picked, passed, by-test}
+use Rattle.words.proofs.Tests.{picked, passed, by-test}
 
 -- ---- a leaf's loop
 

@@ -30,7 +30,7 @@ use Rattle.lines.specs.Writing.{room, roomFor, writeAt}
 use Rattle.lines.specs.ByteWriting.{writeBytes}
 use Rattle.lines.specs.Rows.{from, runRows, placeRows, writerPlaceRows}
 use Rattle.lines.specs.Claims.{ReaderRefuses, ByteReaderRefuses, WriterRefuses, ByteWriterRefuses}
-use Rattle.lines.proofs.Tests.{passed}
+use Rattle.words.proofs.Tests.{passed}
 use Rattle.lines.proofs.ByteWords.{words-length}
 use Rattle.lines.proofs.Puts.{room-for}
 

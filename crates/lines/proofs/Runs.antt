@@ -18,7 +18,7 @@ use Rattle.reports.proofs.Tests.{by-pick}
 use Rattle.lines.specs.Line.{gap, stretch, runIn}
 use Rattle.lines.specs.Stretches.{Run, closed, runsFrom}
 use Rattle.lines.specs.Claims.{EndsIdle, BeginsIdle}
-use Rattle.lines.proofs.Tests.{picked, passed, by-test}
+use Rattle.words.proofs.Tests.{picked, passed, by-test}
 
 -- idle words in front belong to no run
 runs-gap : (p : ℕ) (ws : List ℕ) → runsFrom p [] ws ≡ runsFrom (p + gap ws) [] (drop (gap ws) ws)

@@ -25,7 +25,7 @@ use Rattle.lines.specs.declared.run.Scan.{Scan}
 use Rattle.lines.specs.declared.Outcome.{Outcome}
 use Rattle.lines.specs.Line.{most, gap, stretch, runIn, outcomeAt, placed, notTaken, readBy, readAt}
 use Rattle.lines.specs.Scan.{start, firstMore, stepOf, scanned, Scanned, Seen, finished}
-use Rattle.lines.proofs.Tests.{picked, passed, by-test}
+use Rattle.words.proofs.Tests.{picked, passed, by-test}
 
 -- ---- one word more of the line
 

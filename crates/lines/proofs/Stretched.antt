@@ -10,7 +10,7 @@ use borrow.Author.Tests.{eqb-true, eqb-false}
 use Rattle.words.specs.Word.{idle}
 use Rattle.lines.specs.Stretches.{Run, closed, runsFrom}
 use Rattle.lines.specs.Claims.{Solid, Stretches, shown, RunsAre}
-use Rattle.lines.proofs.Tests.{picked, passed, by-test}
+use Rattle.words.proofs.Tests.{picked, passed, by-test}
 
 -- ---- such runs they are
 

@@ -18,7 +18,7 @@ use Rattle.lines.specs.declared.Outcome.{Outcome}
 use Rattle.lines.specs.Line.{most, endOf, whatOf, isReport, isRefusal, placed, outcomes}
 use Rattle.lines.specs.Stretches.{Run, closed, runsFrom, runs, idleWords, isAccepted, wordsWhere}
 use Rattle.lines.specs.Claims.{Answer, alone, spanned, TotalsAdd, TotalsCounted}
-use Rattle.lines.proofs.Tests.{picked, passed, by-test}
+use Rattle.words.proofs.Tests.{picked, passed, by-test}
 use Rattle.lines.proofs.Runs.{All, all-runs}
 use Rattle.lines.proofs.Outcomes.{alone-free, one-each}
 

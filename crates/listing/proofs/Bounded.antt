@@ -11,7 +11,7 @@ use Rattle.reports.specs.Altitude.{signMagnitude}
 use Rattle.lines.specs.declared.Outcome.{Outcome}
 use Rattle.lines.specs.Bytes.{mostBytes, wordsIn, readBytes}
 use Rattle.lines.specs.Line.{most, endOf, gap, runIn, placed, outcomeAt, readBy}
-use Rattle.lines.proofs.Tests.{passed}
+use Rattle.words.proofs.Tests.{passed}
 use Rattle.lines.proofs.ByteWords.{words-length}
 use Rattle.lines.proofs.Outcomes.{read-there, onward}
 use Rattle.listing.specs.declared.Walk.{Walk}

@@ -6,7 +6,7 @@ use native.Mathlib.Omega.{arith}
 use lib.Dec.{ltb}
 use lib.ListN.{length, length-append}
 use borrow.Author.Tests.{lt-ltb, le-ltb, ltb-true, ltb-false}
-use Rattle.lines.proofs.Tests.{picked, passed, by-test}
+use Rattle.words.proofs.Tests.{picked, passed, by-test}
 use Rattle.listing.specs.Letters.{digits, decimal}
 
 -- more digits than enough change nothing

@@ -9,7 +9,7 @@ use lib.ListN.{length, drop}
 use borrow.Author.Tests.{lt-ltb, le-ltb, eq-eqb, ne-eqb}
 use Rattle.reports.specs.Altitude.{signMagnitude}
 use Rattle.lines.specs.Bytes.{mostBytes, wordsIn, readBytes}
-use Rattle.lines.proofs.Tests.{picked, passed}
+use Rattle.words.proofs.Tests.{picked, passed}
 use Rattle.lines.proofs.ByteWords.{words-length}
 use Rattle.listing.specs.declared.Walk.{Walk}
 use Rattle.listing.specs.declared.Piece.{Piece}

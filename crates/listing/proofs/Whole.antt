@@ -22,7 +22,7 @@ use Rattle.lines.specs.Bytes.{mostBytes, wordsIn}
 use Rattle.lines.specs.Line.{most, endOf, isEnd, placed, readBy, calls, outcomes}
 use Rattle.lines.specs.Stretches.{Run, runs, idleWords, isAccepted, wordsWhere}
 use Rattle.lines.specs.Claims.{alone}
-use Rattle.lines.proofs.Tests.{picked, passed, by-test}
+use Rattle.words.proofs.Tests.{picked, passed, by-test}
 use Rattle.lines.proofs.ByteWords.{words-length}
 use Rattle.lines.proofs.Runs.{All, all-runs}
 use Rattle.lines.proofs.Outcomes as reader

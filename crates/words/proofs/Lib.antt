@@ -1,3 +1,4 @@
+pub mod Tests
 pub mod Parity
 pub mod Fields
 pub mod Layouts

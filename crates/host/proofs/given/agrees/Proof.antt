@@ -7,7 +7,7 @@ use native.Mathlib.Omega.{arith}
 use lib.Dec.{eqb}
 use borrow.Author.Needs.{needs}
 use Rattle.words.specs.Tests.{pick}
-use Rattle.lines.proofs.Tests.{picked, passed}
+use Rattle.words.proofs.Tests.{picked, passed}
 use Rattle.host.specs.declared.items.Item.{Item}
 use Rattle.host.specs.Items.{itemOf}
 use Rattle.host.specs.Line.{isOf}

@@ -1,6 +1,6 @@
 -- `host::given::given` meets its contract. Assumes nothing.
 use mathlib.Core.Path.{sym, _∙_}
-use Rattle.lines.proofs.Tests.{picked, passed}
+use Rattle.words.proofs.Tests.{picked, passed}
 use Rattle.host.specs.Given.{given}
 use borrow.Author.Needs.{needs}
 use Rattle.host.proofs.given.given.Statement.{statement}

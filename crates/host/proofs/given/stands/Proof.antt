@@ -4,7 +4,7 @@ use mir.Syntax.{w64}
 use mir.Val.{toZ, ofZ}
 use mir.Facts.{toZ-ofZ}
 use lib.IntN.{ℤ}
-use Rattle.lines.proofs.Tests.{picked}
+use Rattle.words.proofs.Tests.{picked}
 use Rattle.host.specs.declared.items.Item.{Item}
 use Rattle.host.specs.declared.items.Item.the-variants.{Of}
 use Rattle.host.specs.Items.{itemOf}

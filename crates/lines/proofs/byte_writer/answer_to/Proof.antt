@@ -3,7 +3,7 @@ use Prim.Native.Nat.{_/_}
 use mathlib.Core.Path.{_≡_, ap, sym, _∙_}
 use borrow.Author.Tests.{lt-ltb, le-ltb, eq-eqb, ne-eqb}
 use Rattle.lines.specs.ByteWriting.{roomOfMade, answerOf}
-use Rattle.lines.proofs.Tests.{picked, passed}
+use Rattle.words.proofs.Tests.{picked, passed}
 use borrow.Author.Needs.{needs}
 use Rattle.lines.proofs.byte_writer.answer_to.Statement.{statement}
 use Rattle.lines.proofs.byte_writer.answer_to.Tie as tie

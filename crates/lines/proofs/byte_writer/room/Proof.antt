@@ -3,7 +3,7 @@ use native.Mathlib.Omega.{arith}
 use Prim.Native.Nat.{_+_, _-_}
 use mathlib.Core.Path.{sym}
 use borrow.Author.Tests.{lt-ltb, le-ltb}
-use Rattle.lines.proofs.Tests.{picked, passed}
+use Rattle.words.proofs.Tests.{picked, passed}
 use borrow.Author.Needs.{needs}
 use Rattle.lines.proofs.byte_writer.room.Statement.{statement}
 use Rattle.lines.proofs.byte_writer.room.Tie as tie

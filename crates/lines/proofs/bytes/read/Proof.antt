@@ -4,7 +4,7 @@ use mathlib.Core.List.{[], _∷_}
 use borrow.Author.Tests.{lt-ltb, le-ltb, eq-eqb, ne-eqb}
 use Rattle.reports.specs.Altitude.{signMagnitude}
 use Rattle.lines.specs.Bytes.{readBytes}
-use Rattle.lines.proofs.Tests.{picked, passed}
+use Rattle.words.proofs.Tests.{picked, passed}
 use Rattle.lines.proofs.Scans.{places-law, wide-law, even-law, beyond-law}
 use borrow.Author.Needs.{needs}
 use native.Mathlib.Omega.{arith}

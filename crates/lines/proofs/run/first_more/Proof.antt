@@ -1,7 +1,7 @@
 -- `lines::run::first_more` meets its contract. Assumes nothing.
 use mathlib.Core.Path.{sym, _∙_}
 use borrow.Author.Tests.{lt-ltb, le-ltb}
-use Rattle.lines.proofs.Tests.{picked, passed}
+use Rattle.words.proofs.Tests.{picked, passed}
 use borrow.Author.Needs.{needs}
 use Rattle.lines.proofs.run.first_more.Statement.{statement}
 use Rattle.lines.proofs.run.first_more.Tie as tie

@@ -4,7 +4,7 @@ use mathlib.Core.List.{[], _∷_}
 use borrow.Author.Tests.{lt-ltb}
 use Rattle.reports.specs.Altitude.{signMagnitude}
 use Rattle.lines.specs.Line.{readBy}
-use Rattle.lines.proofs.Tests.{picked}
+use Rattle.words.proofs.Tests.{picked}
 use Rattle.lines.proofs.Scans.{read-law, beyond-law}
 use borrow.Author.Needs.{needs}
 use Rattle.lines.proofs.wide.read.Statement.{statement}

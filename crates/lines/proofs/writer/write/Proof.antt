@@ -2,7 +2,7 @@
 use mathlib.Core.Path.{refl, ap, sym, _∙_}
 use borrow.Author.Tests.{lt-ltb, le-ltb}
 use Rattle.lines.specs.Writing.{roomFor, writeAt}
-use Rattle.lines.proofs.Tests.{picked, passed}
+use Rattle.words.proofs.Tests.{picked, passed}
 use Rattle.lines.proofs.Puts.{within-line, refused-writes, words-writes}
 use borrow.Author.Needs.{needs}
 use native.Mathlib.Omega.{arith}

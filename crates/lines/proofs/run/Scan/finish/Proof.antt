@@ -8,7 +8,7 @@ use Rattle.reports.specs.Altitude.{signMagnitude}
 use Rattle.reports.specs.Runs.{answerOffset}
 use Rattle.lines.specs.Line.{placed}
 use Rattle.lines.specs.Scan.{finished}
-use Rattle.lines.proofs.Tests.{picked, passed}
+use Rattle.words.proofs.Tests.{picked, passed}
 use Rattle.lines.proofs.Scans.{offset-within}
 use borrow.Author.Needs.{needs}
 use native.Mathlib.Omega.{arith}

@@ -4,7 +4,7 @@ use mathlib.Core.Path.{ap, sym, _∙_}
 use mathlib.Core.Bool.{Bool, false, not}
 use borrow.Author.Tests.{eq-eqb, ne-eqb}
 use Rattle.lines.specs.Scan.{firstMore}
-use Rattle.lines.proofs.Tests.{picked, passed}
+use Rattle.words.proofs.Tests.{picked, passed}
 use borrow.Author.Needs.{needs}
 use Rattle.lines.proofs.run.Scan.step.Statement.{statement}
 use Rattle.lines.proofs.run.Scan.step.Tie as tie
