@@ -1,5 +1,3 @@
-pub mod Scans
-pub mod Places
 pub mod ByteWords
 pub mod Puts
 pub mod Runs

@@ -2,7 +2,6 @@ pub mod Line
 pub mod Bytes
 pub mod Writing
 pub mod ByteWriting
-pub mod Scan
 pub mod Stretches
 pub mod Spaced
 pub mod Rows

@@ -1,19 +1,16 @@
-// The line (document 01, "The line" and "Line refusal numbers"): the reader of a line in each of its forms, and the writer.
-// What a run must remember, and the answer that comes of it, stand once, in run; each form of a line is a module that comes to it in its own way.
-// Relies on reports for the answer to a run's words and for the words of a report, words for idle, wide and odd, refusals for names.
+// The line (document 01, "The line" and "Line refusal numbers"): what is found at a place, what the writer answers, and how long a line may be.
+// The reader stands in line_reader, the writer in line_writer; what both mean, and the laws on whole lines, stand here in specs/ and proofs/.
+// Relies on reports for the records, refusals for names.
 ghost use mathlib.Core.Path.{_≡_};
 ghost use Rattle.lines.specs.Line.{outcomeOf};
 use refusals::LineRefusal;
 use reports::Report;
 
-pub mod byte_writer; // byte_writer.rt: the writer into bytes
-pub mod bytes; // bytes.rt: a line lent as bytes, two a word
-mod run; // run.rt: one word after the other, and the answer
-pub mod wide; // wide.rt: a line lent as 16-bit numbers
-pub mod writer; // writer.rt: a report's words and an idle word into a line
-
 // The most words of a line.
 pub const MOST: usize = 32768;
+
+// The most bytes of a line that is lent as bytes.
+pub const MOST_BYTES: usize = 65536;
 
 // What reading at a place found.
 pub enum What {
@@ -33,7 +30,7 @@ pub struct Outcome {
 
 impl Outcome {
     // Every outcome is made here.
-    fn new(what: What, first: usize, after: usize, named: usize) -> Self
+    pub fn new(what: What, first: usize, after: usize, named: usize) -> Self
         ensures { λ r. ⌜ r ≡ outcomeOf what first after named ⌝ }
     {
         Outcome {

@@ -78,7 +78,7 @@ fn read_odd(bytes: &[u8], n: usize, place: usize)
     if bytes.len() < odd {
         return;
     }
-    print::outcome(lines::bytes::read(&bytes[0..odd], place));
+    print::outcome(line_reader::bytes::read(&bytes[0..odd], place));
 }
 
 // A report written into a line whose words are numbered.
@@ -87,7 +87,7 @@ fn write_report(line: &mut [u16], n: usize, place: usize, report: Report) {
         return;
     }
     lent::numbered(&mut line[0..n]);
-    print::answer(lines::writer::write(&mut line[0..n], place, report));
+    print::answer(line_writer::wide::write(&mut line[0..n], place, report));
     print::changed(&line[0..n]);
 }
 
@@ -96,7 +96,7 @@ fn what_of(words: &[u16], k: usize) -> What {
     if words.len() < k {
         return What::End;
     }
-    let found = lines::wide::read(&words[0..k], 0);
+    let found = line_reader::wide::read(&words[0..k], 0);
     found.what
 }
 

@@ -130,8 +130,8 @@ pub fn to_the_end(words: &[u16], bytes: &[u8], place: usize, shown: bool) {
     let mut at = place;
     let mut left: usize = CALLS;
     while 0 < left {
-        let o = lines::wide::read(words, at);
-        t = tallied(t, o, differing(o, lines::bytes::read(bytes, at)));
+        let o = line_reader::wide::read(words, at);
+        t = tallied(t, o, differing(o, line_reader::bytes::read(bytes, at)));
         if shown {
             crate::print::outcome(o);
         }

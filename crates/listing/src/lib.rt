@@ -1,13 +1,14 @@
 // The listing of a recording (document 01, "The C host and the lister"), and the walk that puts it, line by line, into a lent buffer.
-// Relies on lines for the outcome at a place, reports for the kind of a report, refusals for a refusal's number.
+// Relies on line_reader for the outcome at a place, reports for the kind of a report, refusals for a refusal's number.
 ghost use mathlib.Core.Path.{_≡_};
 ghost use Prim.Native.Nat.{_≤_};
 ghost use lib.ListN.{length};
 ghost use Rattle.listing.specs.Walking.{start, closed, stepOn, stepIn, Tells};
 ghost use Rattle.listing.specs.Bounds.{Within};
+use line_reader::bytes;
+use lines::MOST_BYTES;
 use lines::Outcome;
 use lines::What;
-use lines::bytes;
 use reports::kinds;
 
 mod letters; // letters.rt: texts and numbers into a buffer
@@ -115,7 +116,7 @@ pub fn next(recording: &[u8], walk: Walk, out: &mut [u8]) -> Piece
     if walk.done {
         return Piece::End;
     }
-    if bytes::MOST_BYTES < recording.len() {
+    if MOST_BYTES < recording.len() {
         let k = letters::put_text(out, 0, b"LONG\n");
         return Piece::Text(k, walk.closed());
     }

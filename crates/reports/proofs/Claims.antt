@@ -12,7 +12,7 @@ use Rattle.reports.specs.declared.kinds.Kind.the-variants as K
 use Rattle.reports.specs.Kinds.{kindNumber}
 use Rattle.reports.specs.Claims.{DocumentForm, TwelveBitsAWord, KindNumbersDiffer, KindsAboveRefusals}
 use Rattle.reports.proofs.Altitudes.{sign-magnitude-sound}
-use Rattle.reports.proofs.Made.{twelve}
+use Rattle.reports.proofs.Widths.{twelve}
 
 pub document-form : DocumentForm
 document-form = sign-magnitude-sound

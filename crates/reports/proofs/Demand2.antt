@@ -26,7 +26,7 @@ use Rattle.reports.specs.Conditions.{zeros, HasLayout}
 use Rattle.reports.specs.Runs.{readRun}
 use Rattle.reports.specs.Claims as claims
 use Rattle.reports.proofs.Tests.{by-pick}
-use Rattle.reports.proofs.Made.{twelve}
+use Rattle.reports.proofs.Widths.{twelve}
 use Rattle.reports.proofs.Refusals.{accepted-layout, layout-accepted}
 use Rattle.reports.proofs.Four as four
 use Rattle.reports.proofs.Seven as seven

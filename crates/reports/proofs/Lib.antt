@@ -1,6 +1,6 @@
 pub mod Tests
 pub mod Altitudes
-pub mod Made
+pub mod Widths
 pub mod Four
 pub mod Heights
 pub mod Seven

@@ -5,7 +5,5 @@ pub mod Records
 pub mod Layouts
 pub mod Conditions
 pub mod Runs
-pub mod Found
-pub mod Data
 pub mod Values
 pub mod Claims

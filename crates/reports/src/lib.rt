@@ -9,12 +9,8 @@ use measures::RunLength;
 use measures::Time;
 use refusals::LineRefusal;
 
-pub mod altitude; // altitude.rt: the twelve bits of an altitude
-mod content; // content.rt: what words hold, field by field
 pub mod kinds; // kinds.rt: the lister's name of a report, and its number
-pub mod reading; // reading.rt: a run to a report or a refusal
 pub mod values; // values.rt: range, azimuth and time as floats
-pub mod writing; // writing.rt: a report to its words or a refusal
 
 // ---- four words
 

@@ -81,14 +81,14 @@ fn refused(q: LineRefusal, offset: usize) {
 fn accepted(report: Report) {
     records::report(report);
     io::write_all(STDOUT_FILENO, b"\nWORDS");
-    print::written(reports::writing::words_of(report));
+    print::written(report_writer::words_of(report));
     io::write_all(STDOUT_FILENO, b"\n");
 }
 
 fn run(n: u16, a: u16, b: u16, c: u16, d: u16, e: u16, f: u16, g: u16, h: u16) {
     let wide = first_wide(a, b, c, d, e, f, g, h);
     let even = first_even(a, b, c, d, e, f, g, h);
-    let answer = reports::reading::judge(a, b, c, d, e, f, g, n as usize, wide, even);
+    let answer = report_reader::judge(a, b, c, d, e, f, g, n as usize, wide, even);
     match answer {
         RunAnswer::Accepted(report) => accepted(report),
         RunAnswer::Refused(q, offset) => refused(q, offset),

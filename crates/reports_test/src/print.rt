@@ -23,13 +23,13 @@ pub fn flag(text: &[u8], b: bool) {
 }
 
 pub fn signed(text: &[u8], z: i16) {
-    if reports::altitude::is_negative(z) {
+    if report_writer::altitude::is_negative(z) {
         io::write_all(STDOUT_FILENO, b" ");
         io::write_all(STDOUT_FILENO, text);
         io::write_all(STDOUT_FILENO, b" -");
-        io::print_decimal(STDOUT_FILENO, reports::altitude::magnitude(z) as u64);
+        io::print_decimal(STDOUT_FILENO, report_writer::altitude::magnitude(z) as u64);
     } else {
-        number(text, reports::altitude::magnitude(z));
+        number(text, report_writer::altitude::magnitude(z));
     }
 }
 

@@ -1,0 +1,19 @@
+-- `line_writer::bytes::answer` meets its contract. Assumes nothing.
+use mathlib.Core.Path.{ap, _∙_}
+use Rattle.lines.specs.ByteWriting.{answerOf}
+use Rattle.lines.proofs.BytePuts.{answer-tells}
+use borrow.Author.Needs.{needs}
+use Rattle.line_writer.proofs.bytes.answer.Statement.{statement}
+use Rattle.line_writer.proofs.bytes.answer.Tie as tie
+
+words-of-requires : tie.Need-words-of-requires
+words-of-requires c κs = search needs
+
+answer-to-requires : tie.Need-answer-to-requires
+answer-to-requires c κs = search needs
+
+returns : tie.Need-returns
+returns c = c .answer-to .ensures ∙ ap (answerOf _ _) (c .before .words-of .ensures) ∙ answer-tells _ _ _ _
+
+pub answer-spec : {M : Type 1} → statement M
+answer-spec = tie.close (tie.spec words-of-requires answer-to-requires returns)

@@ -1,0 +1,31 @@
+-- `line_writer::bytes::room` meets its contract. Assumes nothing.
+use native.Mathlib.Omega.{arith}
+use Prim.Native.Nat.{_+_, _-_}
+use mathlib.Core.Path.{sym}
+use borrow.Author.Tests.{lt-ltb, le-ltb}
+use Rattle.words.proofs.Tests.{picked, passed}
+use borrow.Author.Needs.{needs}
+use Rattle.line_writer.proofs.bytes.room.Statement.{statement}
+use Rattle.line_writer.proofs.bytes.room.Tie as tie
+
+sub-if1 : tie.Need-sub-if1
+sub-if1 c = search needs
+
+returns : tie.Need-returns
+returns c =
+    let a = c .before .args in
+    sym (picked _ _ (lt-ltb (a .size - a .place) (a .n + 1) (omega arith)))
+
+add-t4 : tie.Need-add-t4
+add-t4 c = search needs
+
+add-t7 : tie.Need-add-t7
+add-t7 c = search needs
+
+returns-2 : tie.Need-returns-2
+returns-2 c =
+    let a = c .before .args in
+    sym (passed _ _ (le-ltb (a .size - a .place) (a .n + 1) (omega arith)))
+
+pub room-spec : {M : Type 1} → statement M
+room-spec = tie.close (tie.spec sub-if1 returns add-t4 add-t7 returns-2)

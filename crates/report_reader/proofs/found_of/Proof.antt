@@ -1,0 +1,32 @@
+-- `report_reader::found_of` meets its contract; of four words the last three are not read. Assumes nothing.
+use Prim.Native.Nat.{ℕ}
+use mathlib.Core.Path.{_≡_, refl, _∙_}
+use mathlib.Core.List.{[], _∷_}
+use Rattle.reports.specs.Records.{fourOf, reportOf}
+use Rattle.reports.specs.Conditions.{fourZeros, zeros}
+use Rattle.report_reader.specs.Found.{four}
+use borrow.Author.Needs.{needs}
+use borrow.Author.Tests.{eq-eqb, ne-eqb}
+use Rattle.report_reader.proofs.found_of.Statement.{statement}
+use Rattle.report_reader.proofs.found_of.Tie as tie
+
+same : (a b c d e f g : ℕ) → four (a ∷ b ∷ c ∷ d ∷ []) ≡ four (a ∷ b ∷ c ∷ d ∷ e ∷ f ∷ g ∷ [])
+unfolding fourOf fourZeros
+same a b c d e f g = refl
+
+seven-of-requires : tie.Need-seven-of-requires
+seven-of-requires c κs = search needs
+
+four-of-requires : tie.Need-four-of-requires
+four-of-requires c κs = search needs
+
+returns : tie.Need-returns
+unfolding reportOf zeros
+returns c = simp (eq-eqb _ _ (c .before .if1 .taken)) (c .seven-of .ensures)
+
+returns-2 : tie.Need-returns-2
+unfolding reportOf zeros
+returns-2 c = simp (ne-eqb _ _ (c .before .if1 .left)) (c .four-of .ensures ∙ same _ _ _ _ _ _ _)
+
+pub found-of-spec : {M : Type 1} → statement M
+found-of-spec = tie.close (tie.spec seven-of-requires four-of-requires returns returns-2)

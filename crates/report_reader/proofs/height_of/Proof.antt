@@ -1,0 +1,66 @@
+-- `report_reader::height_of` meets its contract: each return rewrites with the tests that led there. Assumes nothing.
+use mathlib.Core.Path.{ap, sym, _∙_}
+use lib.IntN.{ℤ}
+use mir.Facts.{toZ-ofZ}
+use mir.Syntax.{w16}
+use Rattle.reports.specs.declared.Height.the-variants.{Altitude}
+use Rattle.report_reader.specs.declared.FoundHeight.{FoundHeight}
+use Rattle.reports.specs.Records.{heightOf}
+use Rattle.reports.specs.Conditions.{heightSpares}
+use borrow.Author.Needs.{needs}
+use borrow.Author.Tests.{eq-eqb, ne-eqb}
+use Rattle.report_reader.proofs.height_of.Statement.{statement}
+use Rattle.report_reader.proofs.height_of.Tie as tie
+
+abbrev plain : ℤ → FoundHeight
+plain z = record { height = Altitude z; spare = 0 }
+
+told-by-requires : tie.Need-told-by-requires
+told-by-requires c κs = search needs
+
+cast-t13 : tie.Need-cast-t13
+cast-t13 c = search needs
+
+returns : tie.Need-returns
+unfolding heightOf heightSpares
+returns c = simp (eq-eqb _ _ (sym (c .before .told-by .ensures) ∙ c .if1 .taken))
+
+cast-quality : tie.Need-cast-quality
+cast-quality c = search needs
+
+returns-2 : tie.Need-returns-2
+unfolding heightOf heightSpares
+returns-2 c = simp (ne-eqb _ _ (λ e. c .before .if1 .left (c .before .before .told-by .ensures ∙ e)), eq-eqb _ _ (sym (c .before .before .told-by .ensures) ∙ c .if2 .taken))
+
+cast-quality-2 : tie.Need-cast-quality-2
+cast-quality-2 c = search needs
+
+returns-3 : tie.Need-returns-3
+unfolding heightOf heightSpares
+returns-3 c = simp (ne-eqb _ _ (λ e. c .before .before .if1 .left (c .before .before .before .told-by .ensures ∙ e)), ne-eqb _ _ (λ e. c .before .if2 .left (c .before .before .before .told-by .ensures ∙ e)), eq-eqb _ _ (sym (c .before .before .before .told-by .ensures) ∙ c .if3 .taken))
+
+altitude-of-requires : tie.Need-altitude-of-requires
+altitude-of-requires c κs = search needs
+
+returns-4 : tie.Need-returns-4
+unfolding heightOf heightSpares
+returns-4 c = simp (ne-eqb _ _ (λ e. c .before .before .before .before .if1 .left (c .before .before .before .before .before .told-by .ensures ∙ e)), ne-eqb _ _ (λ e. c .before .before .before .if2 .left (c .before .before .before .before .before .told-by .ensures ∙ e)), ne-eqb _ _ (λ e. c .before .before .if3 .left (c .before .before .before .before .before .told-by .ensures ∙ e)), eq-eqb _ _ (c .before .if4 .taken)) (ap (λ (z : ℤ). plain z) (toZ-ofZ {w = w16} (record { sfits = c .altitude-of .ok }) ∙ c .altitude-of .ensures))
+
+returns-5 : tie.Need-returns-5
+unfolding heightOf heightSpares
+returns-5 c = simp (ne-eqb _ _ (λ e. c .before .before .before .if1 .left (c .before .before .before .before .told-by .ensures ∙ e)), ne-eqb _ _ (λ e. c .before .before .if2 .left (c .before .before .before .before .told-by .ensures ∙ e)), ne-eqb _ _ (λ e. c .before .if3 .left (c .before .before .before .before .told-by .ensures ∙ e)), ne-eqb _ _ (c .if4 .left))
+
+pub height-of-spec : {M : Type 1} → statement M
+height-of-spec =
+    tie.close
+    (tie.spec
+    told-by-requires
+    cast-t13
+    returns
+    cast-quality
+    returns-2
+    cast-quality-2
+    returns-3
+    altitude-of-requires
+    returns-4
+    returns-5)

@@ -1,0 +1,60 @@
+-- `report_reader::judge_words` meets its contract: each return rewrites with the tests that led there. Assumes nothing.
+use Prim.Native.Nat.{ℕ}
+use mathlib.Core.Path.{_≡_, ap, sym, _∙_}
+use mathlib.Core.Bool.{true, false}
+use mathlib.Core.List.{List, [], _∷_}
+use Rattle.refusals.specs.declared.LineRefusal.the-variants.{MinusZero}
+use Rattle.reports.specs.declared.RunAnswer.{RunAnswer}
+use Rattle.reports.specs.declared.RunAnswer.the-variants.{Accepted, Refused}
+use Rattle.report_reader.specs.declared.Found.{Found}
+use Rattle.reports.specs.Altitude.{signMagnitude}
+use Rattle.reports.specs.Records.{reportOf}
+use Rattle.reports.specs.Conditions.{unassigned, zeros, minusZero}
+use Rattle.reports.specs.Runs.{firstHit, lastRows}
+use Rattle.report_reader.specs.Found.{found}
+use borrow.Author.Needs.{needs}
+use borrow.Author.Tests.{ne-eqb}
+use Rattle.report_reader.proofs.judge_words.Statement.{statement}
+use Rattle.report_reader.proofs.judge_words.Tie as tie
+
+abbrev answered : List ℕ → RunAnswer
+answered ws = firstHit (lastRows signMagnitude ws) (Accepted (reportOf signMagnitude ws))
+
+minus : (ws : List ℕ) → unassigned ws ≡ false → zeros ws ≡ 0 → minusZero signMagnitude ws ≡ true → Refused MinusZero 0 ≡ answered ws
+minus ws h7 h8 h9 = simp (h7, h8, h9)
+
+last : (ws : List ℕ) → unassigned ws ≡ false → zeros ws ≡ 0 → minusZero signMagnitude ws ≡ false → (x : Found) → x ≡ found ws → Accepted (x .report) ≡ answered ws
+last ws h7 h8 h9 x p = simp (h7, h8, h9) (ap (λ (y : Found). Accepted (y .report)) p)
+
+is-unassigned-requires : tie.Need-is-unassigned-requires
+is-unassigned-requires c κs = search needs
+
+returns : tie.Need-returns
+returns c = simp (sym (c .before .is-unassigned .ensures) ∙ c .if1 .taken)
+
+found-of-requires : tie.Need-found-of-requires
+found-of-requires c κs = search needs
+
+returns-2 : tie.Need-returns-2
+returns-2 c = simp (sym (c .before .before .before .is-unassigned .ensures) ∙ c .before .before .if1 .left, ne-eqb _ _ (λ e. c .if2 .taken (ap (λ (x : Found). x .spare) (c .before .found-of .ensures) ∙ e)))
+
+is-minus-zero-requires : tie.Need-is-minus-zero-requires
+is-minus-zero-requires c κs = search needs
+
+returns-3 : tie.Need-returns-3
+returns-3 c = minus (c .before .before .before .before .before .before .args .a ∷ c .before .before .before .before .before .before .args .b ∷ c .before .before .before .before .before .before .args .c ∷ c .before .before .before .before .before .before .args .d ∷ c .before .before .before .before .before .before .args .e ∷ c .before .before .before .before .before .before .args .f ∷ c .before .before .before .before .before .before .args .g ∷ []) (sym (c .before .before .before .before .before .is-unassigned .ensures) ∙ c .before .before .before .before .if1 .left) (sym (ap (λ (x : Found). x .spare) (c .before .before .before .found-of .ensures)) ∙ c .before .before .if2 .left) (sym (c .before .is-minus-zero .ensures) ∙ c .if3 .taken)
+
+returns-4 : tie.Need-returns-4
+returns-4 c = last (c .before .before .before .before .before .before .args .a ∷ c .before .before .before .before .before .before .args .b ∷ c .before .before .before .before .before .before .args .c ∷ c .before .before .before .before .before .before .args .d ∷ c .before .before .before .before .before .before .args .e ∷ c .before .before .before .before .before .before .args .f ∷ c .before .before .before .before .before .before .args .g ∷ []) (sym (c .before .before .before .before .before .is-unassigned .ensures) ∙ c .before .before .before .before .if1 .left) (sym (ap (λ (x : Found). x .spare) (c .before .before .before .found-of .ensures)) ∙ c .before .before .if2 .left) (sym (c .before .is-minus-zero .ensures) ∙ c .if3 .left) (c .before .before .before .found-of .result) (c .before .before .before .found-of .ensures)
+
+pub judge-words-spec : {M : Type 1} → statement M
+judge-words-spec =
+    tie.close
+    (tie.spec
+    is-unassigned-requires
+    returns
+    found-of-requires
+    returns-2
+    is-minus-zero-requires
+    returns-3
+    returns-4)

@@ -1,0 +1,16 @@
+// Document 01's form of the altitude, in hundreds of feet, as it is read: a sign, 1 negative, and eleven bits.
+// Relies on nothing; specs/Altitude.antt of reports says what the form is, and takes it as a parameter everywhere else.
+ghost use mathlib.Core.Path.{_≡_};
+ghost use Rattle.reports.specs.Altitude.{signMagnitude};
+
+// The altitude of twelve bits: a sign, 1 negative, and eleven bits.
+pub fn altitude_of(n: u16) -> i16
+    ensures { λ r. ⌜ r ≡ signMagnitude .altitude n ⌝ }
+{
+    let magnitude = (n % 2048) as i16;
+    if n / 2048 == 1 {
+        0 - magnitude
+    } else {
+        magnitude
+    }
+}

@@ -1,0 +1,301 @@
+// A run's words to a report or a refusal. The conditions stand in the order of document 01's table, and each test is one of its rows.
+// Relies on content for the fields; what each test means stands in specs/Conditions.antt.
+ghost use mathlib.Core.Path.{_≡_};
+ghost use mathlib.Core.List.{[], _∷_};
+ghost use Rattle.reports.specs.Altitude.{signMagnitude};
+ghost use Rattle.reports.specs.Forms.{told, wordCount};
+ghost use Rattle.reports.specs.Conditions.{unknownForm, unassigned, minusZero};
+ghost use Rattle.report_reader.specs.Found.{four, height, seven, found};
+ghost use Rattle.reports.specs.Records.{reportOf};
+ghost use Rattle.reports.specs.Runs.{firstHit, lastRows, judged};
+use measures::RunLength;
+use refusals::LineRefusal;
+use reports::Height;
+use reports::Report;
+use reports::RunAnswer;
+
+pub mod altitude; // altitude.rt: the altitude of twelve bits
+mod content; // content.rt: what words hold, field by field
+
+// A report, and the sum of the bits that are zero in an accepted one.
+struct Found {
+    report: Report,
+    spare: u16,
+}
+
+// The same of bits 79 to 90 of DABS and ATCRBS.
+struct FoundHeight {
+    height: Height,
+    spare: u16,
+}
+
+// ---- four words
+
+fn four_of(a: u16, b: u16, c: u16, d: u16) -> Found
+    ensures { λ r. ⌜ r ≡ four (a ∷ b ∷ c ∷ d ∷ []) ⌝ }
+{
+    let pattern = a / 8 % 128;
+    let bit25 = b / 2 % 2;
+    if pattern == 0b1101100 {
+        return Found {
+            report: Report::Search(content::search_of(a, b, c, d)),
+            spare: bit25,
+        };
+    }
+    if pattern == 0b1100000 {
+        return Found {
+            report: Report::Strobe(content::strobe_of(a, b, c, d)),
+            spare: bit25,
+        };
+    }
+    if pattern == 0b0110000 {
+        return Found {
+            report: Report::Status(content::status_of(a, b, c, d)),
+            spare: 0,
+        };
+    }
+    if pattern == 0b1001000 {
+        return Found {
+            report: Report::Rtqc(content::rtqc_of(a, b, c, d)),
+            spare: bit25,
+        };
+    }
+    Found {
+        report: Report::Map(content::map_of(a, b, c, d)),
+        spare: bit25 + d / 2 % 2,
+    }
+}
+
+// ---- seven words
+
+// Bits 88 to 90 where bit 12 is one, else 8.
+fn told_by(a: u16, g: u16) -> u16
+    ensures { λ r. ⌜ r ≡ told (a ∷ 0 ∷ 0 ∷ 0 ∷ 0 ∷ 0 ∷ g ∷ []) ⌝ }
+{
+    if a / 2 % 2 == 1 { g / 2 % 8 } else { 8 }
+}
+
+fn height_of(a: u16, g: u16) -> FoundHeight
+    ensures { λ r. ⌜ r ≡ height (a ∷ 0 ∷ 0 ∷ 0 ∷ 0 ∷ 0 ∷ g ∷ []) ⌝ }
+{
+    let kind = told_by(a, g);
+    let mode_c = a / 128 % 2 == 1;
+    if kind == 0b100 {
+        let run = RunLength((g / 1024 % 8) as u8);
+        return FoundHeight {
+            height: Height::Cd { mode_c, run },
+            spare: g / 16 % 64,
+        };
+    }
+    if kind == 0b110 {
+        let quality = (g / 2048 % 4) as u8;
+        return FoundHeight {
+            height: Height::Mtd { mode_c, quality },
+            spare: g / 16 % 128,
+        };
+    }
+    if kind == 0b101 {
+        let quality = (g / 512 % 16) as u8;
+        return FoundHeight {
+            height: Height::Rdas { mode_c, quality },
+            spare: g / 16 % 32,
+        };
+    }
+    if a / 128 % 2 == 1 {
+        return FoundHeight {
+            height: Height::Altitude(altitude::altitude_of(g / 2 % 4096)),
+            spare: 0,
+        };
+    }
+    FoundHeight {
+        height: Height::Carried(g / 2 % 4096),
+        spare: 0,
+    }
+}
+
+fn seven_of(a: u16, b: u16, c: u16, d: u16, e: u16, f: u16, g: u16) -> Found
+    ensures { λ r. ⌜ r ≡ seven (a ∷ b ∷ c ∷ d ∷ e ∷ f ∷ g ∷ []) ⌝ }
+{
+    let last = height_of(a, g);
+    let height = last.height;
+    let kind = told_by(a, g);
+    if a / 512 % 2 == 1 {
+        let dabs = content::dabs_of(a, b, c, d, e, f, height);
+        return Found {
+            report: Report::Dabs(dabs),
+            spare: d / 64 % 4 + last.spare,
+        };
+    }
+    if kind == 0b010 {
+        let spare = a / 8 % 64 + d / 128 % 2 + g / 16 % 2;
+        return Found {
+            report: Report::Mtd(content::mtd_of(a, b, c, d, e, f, g)),
+            spare,
+        };
+    }
+    if kind == 0b001 {
+        let spare = a / 8 % 64 + d / 128 % 2 + e / 2 % 4096 + g / 128 % 4 + g / 16 % 4;
+        return Found {
+            report: Report::Rdas(content::rdas_of(a, b, c, d, f, g)),
+            spare,
+        };
+    }
+    let atcrbs = content::atcrbs_of(a, b, c, d, e, f, height);
+    Found {
+        report: Report::Atcrbs(atcrbs),
+        spare: last.spare,
+    }
+}
+
+fn found_of(a: u16, b: u16, c: u16, d: u16, e: u16, f: u16, g: u16) -> Found
+    ensures { λ r. ⌜ r ≡ found (a ∷ b ∷ c ∷ d ∷ e ∷ f ∷ g ∷ []) ⌝ }
+{
+    if a / 1024 % 4 == 0b11 {
+        seven_of(a, b, c, d, e, f, g)
+    } else {
+        four_of(a, b, c, d)
+    }
+}
+
+// ---- the conditions
+
+fn is_unknown_form(a: u16) -> bool
+    ensures { λ r. ⌜ r ≡ unknownForm (a ∷ []) ⌝ }
+{
+    let pattern = a / 8 % 128;
+    if a / 1024 % 4 == 0b00 {
+        if pattern == 0b1101100 {
+            return false;
+        }
+        if pattern == 0b1100000 {
+            return false;
+        }
+        if pattern == 0b0110000 {
+            return false;
+        }
+        if a / 32 % 32 == 0b00000 {
+            return false;
+        }
+        if pattern == 0b1001000 {
+            if a / 4096 % 2 == 1 {
+                return false;
+            }
+            return true;
+        }
+        return true;
+    }
+    if a / 1024 % 4 == 0b11 {
+        return false;
+    }
+    true
+}
+
+fn word_count(a: u16) -> usize
+    ensures { λ r. ⌜ r ≡ wordCount (a ∷ []) ⌝ }
+{
+    if a / 1024 % 4 == 0b11 { 7 } else { 4 }
+}
+
+fn is_unassigned(a: u16, g: u16) -> bool
+    ensures { λ r. ⌜ r ≡ unassigned (a ∷ 0 ∷ 0 ∷ 0 ∷ 0 ∷ 0 ∷ g ∷ []) ⌝ }
+{
+    let kind = g / 2 % 8;
+    if a / 1024 % 4 == 0b11 {
+        if a / 2 % 2 == 1 {
+            if kind == 0b100 {
+                return false;
+            }
+            if kind == 0b110 {
+                return false;
+            }
+            if kind == 0b101 {
+                return false;
+            }
+            if a / 512 % 2 == 1 {
+                return true;
+            }
+            if kind == 0b010 {
+                return false;
+            }
+            if kind == 0b001 {
+                return false;
+            }
+            return true;
+        }
+        return false;
+    }
+    false
+}
+
+fn is_minus_zero(a: u16, g: u16) -> bool
+    ensures { λ r. ⌜ r ≡ minusZero signMagnitude (a ∷ 0 ∷ 0 ∷ 0 ∷ 0 ∷ 0 ∷ g ∷ []) ⌝ }
+{
+    if a / 1024 % 4 == 0b11 {
+        if a / 2 % 2 == 1 {
+            return false;
+        }
+        if a / 128 % 2 == 1 {
+            if g / 2 % 4096 / 2048 == 1 {
+                if g / 2 % 4096 % 2048 == 0 {
+                    return true;
+                }
+                return false;
+            }
+            return false;
+        }
+        return false;
+    }
+    false
+}
+
+// ---- the answer
+
+// The answer to words of a known form, as many as it has.
+fn judge_words(a: u16, b: u16, c: u16, d: u16, e: u16, f: u16, g: u16) -> RunAnswer
+    ensures { λ r. ⌜ r ≡ firstHit (lastRows signMagnitude (a ∷ b ∷ c ∷ d ∷ e ∷ f ∷ g ∷ [])) (RunAnswer.Accepted (reportOf signMagnitude (a ∷ b ∷ c ∷ d ∷ e ∷ f ∷ g ∷ []))) ⌝ }
+{
+    if is_unassigned(a, g) {
+        return RunAnswer::Refused(LineRefusal::UnassignedRadar, 0);
+    }
+    let found = found_of(a, b, c, d, e, f, g);
+    let spare = found.spare;
+    if spare != 0 {
+        return RunAnswer::Refused(LineRefusal::SpareBitSet, 0);
+    }
+    if is_minus_zero(a, g) {
+        return RunAnswer::Refused(LineRefusal::MinusZero, 0);
+    }
+    let report = found.report;
+    RunAnswer::Accepted(report)
+}
+
+// The answer to a run of `n` words whose first seven are given, with 0 for those past its end; its first word above 8191 is at `wide` and
+// its first word with an even number of ones at `even`, or these are `n`.
+pub fn judge(
+    a: u16,
+    b: u16,
+    c: u16,
+    d: u16,
+    e: u16,
+    f: u16,
+    g: u16,
+    n: usize,
+    wide: usize,
+    even: usize,
+) -> RunAnswer
+    ensures { λ r. ⌜ r ≡ judged signMagnitude (a ∷ b ∷ c ∷ d ∷ e ∷ f ∷ g ∷ []) n wide even ⌝ }
+{
+    if wide < n {
+        return RunAnswer::Refused(LineRefusal::WordTooWide, wide);
+    }
+    if even < n {
+        return RunAnswer::Refused(LineRefusal::EvenWord, even);
+    }
+    if is_unknown_form(a) {
+        return RunAnswer::Refused(LineRefusal::UnknownForm, 0);
+    }
+    if n != word_count(a) {
+        return RunAnswer::Refused(LineRefusal::WrongLength, 0);
+    }
+    judge_words(a, b, c, d, e, f, g)
+}

@@ -1,0 +1,36 @@
+// Document 01's form of the altitude, in hundreds of feet, as it is written: a sign, 1 negative, and eleven bits.
+// Relies on nothing; specs/Altitude.antt of reports says what the form is, and takes it as a parameter everywhere else.
+ghost use mathlib.Core.Path.{_≡_};
+ghost use Prim.Native.Nat.{_<_};
+ghost use lib.IntN.{natAbs};
+ghost use Rattle.reports.specs.Altitude.{signMagnitude, negative};
+
+// The magnitude of an altitude.
+pub fn magnitude(z: i16) -> u32
+    ensures { λ r. ⌜ r ≡ natAbs z ⌝ }
+{
+    if z < 0 {
+        let n = 0 - (z as i32);
+        n as u32
+    } else {
+        z as u32
+    }
+}
+
+pub fn is_negative(z: i16) -> bool
+    ensures { λ r. ⌜ r ≡ negative z ⌝ }
+{
+    z < 0
+}
+
+// The twelve bits of an altitude; 4096 where it has none.
+pub fn altitude_bits(z: i16) -> u32
+    ensures { λ r. ⌜ (r ≡ signMagnitude .bitsOf z) × (r < 4097) ⌝ }
+{
+    let n = magnitude(z);
+    if n <= 2047 {
+        if is_negative(z) { 2048 + n } else { 0 + n }
+    } else {
+        4096
+    }
+}

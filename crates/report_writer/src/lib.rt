@@ -1,0 +1,469 @@
+// A report to its words, or to refusal 11 where a value is too large for its field.
+// Each word's data is computed without a branch, field by field as its layout has it; a value too large pushes the number above 4095
+// (`dataOrMore`), and one function looks at the numbers at the end and makes the words. Relies on words for the parity bit.
+ghost use mathlib.Core.Path.{_≡_};
+ghost use mathlib.Core.List.{[], _∷_};
+ghost use Prim.Native.Nat.{_/_, _<_, _^_};
+ghost use lib.ListN.{getD};
+ghost use Rattle.words.specs.Tests.{pick};
+ghost use Rattle.words.specs.Word.{wordOf};
+ghost use Rattle.words.specs.Layout.{joined, dataOrMore, flag, count, rest, fixed, spare};
+ghost use Rattle.reports.specs.Altitude.{signMagnitude};
+ghost use Rattle.reports.specs.Layouts.{lastWord, modeC, radar, layoutOf, written};
+ghost use Rattle.report_writer.specs.Data.{dataBy, fromData};
+use refusals::LineRefusal;
+use reports::Atcrbs;
+use reports::Dabs;
+use reports::Height;
+use reports::Map;
+use reports::Mtd;
+use reports::Rdas;
+use reports::Report;
+use reports::Rtqc;
+use reports::Search;
+use reports::Status;
+use reports::Strobe;
+use reports::Written;
+
+pub mod altitude; // altitude.rt: the twelve bits of an altitude
+
+// The data of a report's words, each 4096 or more where a value in it is too large.
+enum Data {
+    Four(u32, u32, u32, u32),
+    Seven(u32, u32, u32, u32, u32, u32, u32),
+}
+
+const TOO_LARGE: u32 = 4096;
+
+fn bit(b: bool) -> u32
+    ensures { λ r. ⌜ (r ≡ pick b 1 0) × (r < 2) ⌝ }
+{
+    if b { 1 } else { 0 }
+}
+
+// Twelve bits that are one number.
+fn whole(n: u32) -> u32
+    requires { ⌜ n < 1048577 ⌝ }
+    ensures { λ r. ⌜ r ≡ dataOrMore (count 12 n ∷ []) ⌝ }
+{
+    n + TOO_LARGE * (n / 4096)
+}
+
+// The lower twelve bits of a number whose upper bits stand in the word before.
+fn lower_twelve(n: u32) -> u32
+    ensures { λ r. ⌜ r ≡ dataOrMore (rest 12 n ∷ []) ⌝ }
+{
+    n % 4096
+}
+
+// ---- the words of four
+
+fn first_of_four(test: bool, pattern: u32, faa: bool, af: bool) -> u32
+    requires { ⌜ pattern < 128 ⌝ }
+    ensures { λ r. ⌜ r ≡ dataOrMore (flag test ∷ fixed 2 0b00 ∷ fixed 7 pattern ∷ flag faa ∷ flag af ∷ []) ⌝ }
+{
+    bit(test) * 2048 + pattern * 4 + bit(faa) * 2 + bit(af)
+}
+
+fn map_first(test: bool, variation: u8, faa: bool, af: bool) -> u32
+    ensures { λ r. ⌜ r ≡ dataOrMore (flag test ∷ fixed 2 0b00 ∷ fixed 5 0b00000 ∷ count 2 variation ∷ flag faa ∷ flag af ∷ []) ⌝ }
+{
+    let variation = variation as u32;
+    bit(test) * 2048 + variation * 4 + bit(faa) * 2 + bit(af) + TOO_LARGE * (variation / 4)
+}
+
+// A range of eleven bits, or a Map's range stop, and a zero.
+fn coarse_range(range: u16) -> u32
+    ensures { λ r. ⌜ r ≡ dataOrMore (count 11 range ∷ spare 1 ∷ []) ⌝ }
+{
+    let range = range as u32;
+    range * 2 + TOO_LARGE * (range / 2048)
+}
+
+fn search_last(aims: bool, code: u8, run: u8, time: u8) -> u32
+    ensures { λ r. ⌜ r ≡ dataOrMore (flag aims ∷ count 2 code ∷ count 3 run ∷ count 6 time ∷ []) ⌝ }
+{
+    let code = code as u32;
+    let run = run as u32;
+    let time = time as u32;
+    let over = code / 4 + run / 8 + time / 64;
+    bit(aims) * 2048 + code * 512 + run * 64 + time + TOO_LARGE * over
+}
+
+fn strobe_last(run: u8, time: u8) -> u32
+    ensures { λ r. ⌜ r ≡ dataOrMore (count 7 run ∷ count 5 time ∷ []) ⌝ }
+{
+    let run = run as u32;
+    let time = time as u32;
+    run * 32 + time + TOO_LARGE * (run / 128 + time / 32)
+}
+
+// ---- the words of seven
+
+// The first word of MTD and RDAS search.
+fn radar_first(test: bool, faa: bool) -> u32
+    ensures { λ r. ⌜ r ≡ dataOrMore (flag test ∷ fixed 2 0b11 ∷ fixed 1 0 ∷ spare 6 ∷ flag faa ∷ fixed 1 1 ∷ []) ⌝ }
+{
+    bit(test) * 2048 + 0b11 * 512 + bit(faa) * 2 + 1
+}
+
+// The end of a range of fifteen bits, and the start of an azimuth of thirteen.
+fn range_azimuth(range: u16, azimuth: u16) -> u32
+    ensures { λ r. ⌜ r ≡ dataOrMore (rest 3 range ∷ count 9 (azimuth / 2 ^ 4) ∷ []) ⌝ }
+{
+    let azimuth = (azimuth / 16) as u32;
+    (range % 8) as u32 * 512 + azimuth + TOO_LARGE * (azimuth / 512)
+}
+
+fn dabs_fourth(azimuth: u16, alert: bool, relay: bool, time: u8) -> u32
+    ensures { λ r. ⌜ r ≡ dataOrMore (rest 4 azimuth ∷ flag alert ∷ spare 2 ∷ flag relay ∷ count 4 time ∷ []) ⌝ }
+{
+    let time = time as u32;
+    (azimuth % 16) as u32 * 256
+        + bit(alert) * 128
+        + bit(relay) * 16
+        + time
+        + TOO_LARGE * (time / 16)
+}
+
+fn atcrbs_fourth(
+    azimuth: u16,
+    confidence: bool,
+    transition: bool,
+    target: bool,
+    relay: bool,
+    time: u8,
+) -> u32
+    ensures { λ r. ⌜ r ≡ dataOrMore (rest 4 azimuth ∷ flag confidence ∷ flag transition ∷ flag target ∷ flag relay ∷ count 4 time ∷ []) ⌝ }
+{
+    let time = time as u32;
+    let flags = bit(confidence) * 128 + bit(transition) * 64 + bit(target) * 32 + bit(relay) * 16;
+    (azimuth % 16) as u32 * 256 + flags + time + TOO_LARGE * (time / 16)
+}
+
+fn radar_fourth(azimuth: u16, aims: bool, time: u8) -> u32
+    ensures { λ r. ⌜ r ≡ dataOrMore (rest 4 azimuth ∷ flag aims ∷ spare 1 ∷ count 6 time ∷ []) ⌝ }
+{
+    let time = time as u32;
+    (azimuth % 16) as u32 * 256 + bit(aims) * 128 + time + TOO_LARGE * (time / 64)
+}
+
+fn dopplers(first: u8, second: u8) -> u32
+    ensures { λ r. ⌜ r ≡ dataOrMore (count 6 first ∷ count 6 second ∷ []) ⌝ }
+{
+    let first = first as u32;
+    let second = second as u32;
+    first * 64 + second + TOO_LARGE * (first / 64 + second / 64)
+}
+
+fn mtd_last(quality: u8, confidence: u8, target: bool, ground: bool) -> u32
+    ensures { λ r. ⌜ r ≡ dataOrMore (count 2 quality ∷ count 4 confidence ∷ flag target ∷ flag ground ∷ spare 1 ∷ fixed 3 0b010 ∷ []) ⌝ }
+{
+    let quality = quality as u32;
+    let confidence = confidence as u32;
+    let over = quality / 4 + confidence / 16;
+    quality * 1024
+        + confidence * 64
+        + bit(target) * 32
+        + bit(ground) * 16
+        + 0b010
+        + TOO_LARGE * over
+}
+
+fn rdas_last(quality: u8, target: bool) -> u32
+    ensures { λ r. ⌜ r ≡ dataOrMore (count 4 quality ∷ spare 2 ∷ flag target ∷ spare 2 ∷ fixed 3 0b001 ∷ []) ⌝ }
+{
+    let quality = quality as u32;
+    quality * 256 + bit(target) * 32 + 0b001 + TOO_LARGE * (quality / 16)
+}
+
+// ---- bits 6, 12 and 79 to 90 of DABS and ATCRBS
+
+fn mode_c_of(h: Height) -> bool
+    ensures { λ r. ⌜ r ≡ modeC h ⌝ }
+{
+    match h {
+        Height::Altitude(_) => true,
+        Height::Carried(_) => false,
+        Height::Cd { mode_c, run: _ } => mode_c,
+        Height::Mtd { mode_c, quality: _ } => mode_c,
+        Height::Rdas { mode_c, quality: _ } => mode_c,
+    }
+}
+
+fn radar_of(h: Height) -> bool
+    ensures { λ r. ⌜ r ≡ radar h ⌝ }
+{
+    match h {
+        Height::Altitude(_) => false,
+        Height::Carried(_) => false,
+        Height::Cd { mode_c: _, run: _ } => true,
+        Height::Mtd {
+            mode_c: _,
+            quality: _,
+        } => true,
+        Height::Rdas {
+            mode_c: _,
+            quality: _,
+        } => true,
+    }
+}
+
+// The last word where a CD, an MTD or an RDAS stands in for the height.
+fn cd_last(run: u8) -> u32
+    ensures { λ r. ⌜ r ≡ dataOrMore (count 3 run ∷ spare 6 ∷ fixed 3 0b100 ∷ []) ⌝ }
+{
+    let run = run as u32;
+    run * 512 + 0b100 + TOO_LARGE * (run / 8)
+}
+
+fn mtd_quality_last(quality: u8) -> u32
+    ensures { λ r. ⌜ r ≡ dataOrMore (count 2 quality ∷ spare 7 ∷ fixed 3 0b110 ∷ []) ⌝ }
+{
+    let quality = quality as u32;
+    quality * 1024 + 0b110 + TOO_LARGE * (quality / 4)
+}
+
+fn rdas_quality_last(quality: u8) -> u32
+    ensures { λ r. ⌜ r ≡ dataOrMore (count 4 quality ∷ spare 5 ∷ fixed 3 0b101 ∷ []) ⌝ }
+{
+    let quality = quality as u32;
+    quality * 256 + 0b101 + TOO_LARGE * (quality / 16)
+}
+
+fn height_last(h: Height) -> u32
+    ensures { λ r. ⌜ r ≡ dataOrMore (lastWord signMagnitude h) ⌝ }
+{
+    match h {
+        Height::Altitude(z) => whole(altitude::altitude_bits(z)),
+        Height::Carried(n) => whole(n as u32),
+        Height::Cd { mode_c: _, run } => cd_last(run.0),
+        Height::Mtd { mode_c: _, quality } => mtd_quality_last(quality),
+        Height::Rdas { mode_c: _, quality } => rdas_quality_last(quality),
+    }
+}
+
+// Bits 5 to 10 of DABS and ATCRBS, of which the height tells bit 6.
+fn six_flags(b5: bool, b6: bool, b7: bool, b8: bool, b9: bool, b10: bool) -> u32
+    ensures { λ r. ⌜ (r ≡ joined (flag b5 ∷ flag b6 ∷ flag b7 ∷ flag b8 ∷ flag b9 ∷ flag b10 ∷ [])) × (r < 64) ⌝ }
+{
+    bit(b5) * 32 + bit(b6) * 16 + bit(b7) * 8 + bit(b8) * 4 + bit(b9) * 2 + bit(b10)
+}
+
+fn dabs_first(d: Dabs) -> u32
+    ensures { λ r. ⌜ r ≡ dataOrMore (getD (layoutOf signMagnitude (Report.Dabs d)) 0 []) ⌝ }
+{
+    let height = d.height;
+    let flags = six_flags(
+        d.primary,
+        mode_c_of(height),
+        d.spi,
+        d.reinforced,
+        d.code7700,
+        d.code7600,
+    );
+    bit(d.test) * 2048 + 0b111 * 256 + flags * 4 + bit(d.faa) * 2 + bit(radar_of(height))
+}
+
+fn atcrbs_first(a: Atcrbs) -> u32
+    ensures { λ r. ⌜ r ≡ dataOrMore (getD (layoutOf signMagnitude (Report.Atcrbs a)) 0 []) ⌝ }
+{
+    let height = a.height;
+    let flags = six_flags(
+        a.mode3a,
+        mode_c_of(height),
+        a.spi,
+        a.reinforced,
+        a.code7700,
+        a.code7600,
+    );
+    bit(a.test) * 2048 + 0b110 * 256 + flags * 4 + bit(a.faa) * 2 + bit(radar_of(height))
+}
+
+// ---- the data of each report
+
+fn search_data(s: Search) -> Data
+    ensures { λ r. ⌜ r ≡ dataBy (layoutOf signMagnitude (Report.Search s)) ⌝ }
+{
+    Data::Four(
+        first_of_four(s.test, 0b1101100, s.faa, s.af),
+        coarse_range(s.range.0),
+        whole(s.azimuth.0 as u32),
+        search_last(s.aims, s.code, s.run.0, s.time.0),
+    )
+}
+
+fn strobe_data(s: Strobe) -> Data
+    ensures { λ r. ⌜ r ≡ dataBy (layoutOf signMagnitude (Report.Strobe s)) ⌝ }
+{
+    Data::Four(
+        first_of_four(s.test, 0b1100000, s.faa, s.af),
+        coarse_range(s.range.0),
+        whole(s.azimuth.0 as u32),
+        strobe_last(s.run.0, s.time.0),
+    )
+}
+
+fn map_data(m: Map) -> Data
+    ensures { λ r. ⌜ r ≡ dataBy (layoutOf signMagnitude (Report.Map m)) ⌝ }
+{
+    Data::Four(
+        map_first(m.test, m.variation, m.faa, m.af),
+        coarse_range(m.start.0),
+        whole(m.azimuth.0 as u32),
+        coarse_range(m.stop.0),
+    )
+}
+
+fn status_data(s: Status) -> Data
+    ensures { λ r. ⌜ r ≡ dataBy (layoutOf signMagnitude (Report.Status s)) ⌝ }
+{
+    Data::Four(
+        first_of_four(s.test, 0b0110000, s.faa, s.af),
+        whole(s.second as u32),
+        whole(s.third as u32),
+        whole(s.fourth as u32),
+    )
+}
+
+fn rtqc_data(s: Rtqc) -> Data
+    ensures { λ r. ⌜ r ≡ dataBy (layoutOf signMagnitude (Report.Rtqc s)) ⌝ }
+{
+    Data::Four(
+        first_of_four(true, 0b1001000, s.faa, s.af),
+        coarse_range(s.range.0),
+        whole(s.azimuth.0 as u32),
+        strobe_last(s.run.0, s.time.0),
+    )
+}
+
+fn dabs_data(d: Dabs) -> Data
+    ensures { λ r. ⌜ r ≡ dataBy (layoutOf signMagnitude (Report.Dabs d)) ⌝ }
+{
+    let height = d.height;
+    Data::Seven(
+        dabs_first(d),
+        whole((d.range.0 / 8) as u32),
+        range_azimuth(d.range.0, d.azimuth.0),
+        dabs_fourth(d.azimuth.0, d.alert, d.relay, d.time.0),
+        whole(d.address / 4096),
+        lower_twelve(d.address),
+        height_last(height),
+    )
+}
+
+fn atcrbs_data(a: Atcrbs) -> Data
+    ensures { λ r. ⌜ r ≡ dataBy (layoutOf signMagnitude (Report.Atcrbs a)) ⌝ }
+{
+    let height = a.height;
+    let fourth = atcrbs_fourth(
+        a.azimuth.0,
+        a.confidence,
+        a.transition,
+        a.false_target,
+        a.relay,
+        a.time.0,
+    );
+    Data::Seven(
+        atcrbs_first(a),
+        whole((a.range.0 / 8) as u32),
+        range_azimuth(a.range.0, a.azimuth.0),
+        fourth,
+        whole(a.code as u32),
+        whole(a.file as u32),
+        height_last(height),
+    )
+}
+
+fn mtd_data(m: Mtd) -> Data
+    ensures { λ r. ⌜ r ≡ dataBy (layoutOf signMagnitude (Report.Mtd m)) ⌝ }
+{
+    Data::Seven(
+        radar_first(m.test, m.faa),
+        whole((m.range.0 / 8) as u32),
+        range_azimuth(m.range.0, m.azimuth.0),
+        radar_fourth(m.azimuth.0, m.aims, m.time.0),
+        dopplers(m.doppler1, m.doppler2),
+        whole(m.file as u32),
+        mtd_last(m.quality, m.confidence, m.false_target, m.ground),
+    )
+}
+
+fn rdas_data(r: Rdas) -> Data
+    ensures { λ w. ⌜ w ≡ dataBy (layoutOf signMagnitude (Report.Rdas r)) ⌝ }
+{
+    Data::Seven(
+        radar_first(r.test, r.faa),
+        whole((r.range.0 / 8) as u32),
+        range_azimuth(r.range.0, r.azimuth.0),
+        radar_fourth(r.azimuth.0, r.aims, r.time.0),
+        0,
+        whole(r.file as u32),
+        rdas_last(r.quality, r.false_target),
+    )
+}
+
+fn data_of(report: Report) -> Data
+    ensures { λ r. ⌜ r ≡ dataBy (layoutOf signMagnitude report) ⌝ }
+{
+    match report {
+        Report::Search(s) => search_data(s),
+        Report::Strobe(s) => strobe_data(s),
+        Report::Map(m) => map_data(m),
+        Report::Status(s) => status_data(s),
+        Report::Rtqc(s) => rtqc_data(s),
+        Report::Dabs(d) => dabs_data(d),
+        Report::Atcrbs(a) => atcrbs_data(a),
+        Report::Mtd(m) => mtd_data(m),
+        Report::Rdas(r) => rdas_data(r),
+    }
+}
+
+// ---- the words
+
+// The word of data that fits.
+fn word_of(data: u32) -> u16
+    requires { ⌜ «data» < 4096 ⌝ }
+    ensures { λ r. ⌜ r ≡ wordOf «data» ⌝ }
+{
+    words::word(data as u16) as u16
+}
+
+fn four_words(a: u32, b: u32, c: u32, d: u32) -> Written
+    ensures { λ r. ⌜ r ≡ fromData (Data.Four a b c d) ⌝ }
+{
+    let over = a / 4096 + b / 4096 + c / 4096 + d / 4096;
+    if over != 0 {
+        return Written::Refused(LineRefusal::ValueTooLarge);
+    }
+    Written::Four(word_of(a), word_of(b), word_of(c), word_of(d))
+}
+
+fn seven_words(a: u32, b: u32, c: u32, d: u32, e: u32, f: u32, g: u32) -> Written
+    ensures { λ r. ⌜ r ≡ fromData (Data.Seven a b c d e f g) ⌝ }
+{
+    let over = a / 4096 + b / 4096 + c / 4096 + d / 4096 + e / 4096 + f / 4096 + g / 4096;
+    if over != 0 {
+        return Written::Refused(LineRefusal::ValueTooLarge);
+    }
+    Written::Seven(
+        word_of(a),
+        word_of(b),
+        word_of(c),
+        word_of(d),
+        word_of(e),
+        word_of(f),
+        word_of(g),
+    )
+}
+
+// A report's words, or refusal 11.
+pub fn words_of(report: Report) -> Written
+    ensures { λ r. ⌜ r ≡ written signMagnitude report ⌝ }
+{
+    let data = data_of(report);
+    match data {
+        Data::Four(a, b, c, d) => four_words(a, b, c, d),
+        Data::Seven(a, b, c, d, e, f, g) => seven_words(a, b, c, d, e, f, g),
+    }
+}
