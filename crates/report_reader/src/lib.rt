@@ -1,5 +1,5 @@
 // A run's words to a report or a refusal. The conditions stand in the order of document 01's table, and each test is one of its rows.
-// Relies on content for the fields; what each test means stands in specs/Conditions.antt.
+// Relies on content for the fields; what each test means stands in specs/Conditions.antt of reports.
 ghost use mathlib.Core.Path.{_≡_};
 ghost use mathlib.Core.List.{[], _∷_};
 ghost use Rattle.reports.specs.Altitude.{signMagnitude};

@@ -1,5 +1,6 @@
 // The surveillance reports of document 004, 4.1 to 4.5, as document 01's "Formats and fields" lays them out: the records, and the answers
-// of reading and of writing. What the kind of a report tells is no field of its record.
+// of reading and of writing. What the kind of a report tells is no field of its record. The reader stands in report_reader, the writer in
+// report_writer; what both mean, and demand 2, stand here in specs/ and proofs/.
 // Relies on words for bits and layouts, measures for what a count weighs, refusals for names and numbers.
 use measures::CoarseAzimuth;
 use measures::CoarseRange;
