@@ -1,8 +1,9 @@
 //! Chosen cases, each once: every number of sixteen bits as a run of one word; every layout and every type with all its values at their least
 //! and at their most, read and written; each refusal beside its nearest neighbour; a message and a relay cut to every count up to 200 bits.
 
+use crate::bits;
 use crate::case::{Case, Tables, Write};
-use crate::field::{Field, Tail, LIST, SENSOR};
+use crate::field::{Field, Tail, LIST, RELAY, SENSOR};
 use crate::field_cases::{self, Parts};
 use crate::layout::{encode, Layout, Rule};
 use crate::line::{self, IDLE};
@@ -151,13 +152,20 @@ fn type_at(tables: &Tables, kind: (&Field, bool), (end, name): (End, &str)) -> V
     let parts = parts_at(kind.0, kind.1, end);
     let text = field_cases::text_of(tables, &parts);
     let name = format!("{}{}, {}", kind.0.head.name, if kind.1 { ", relayed" } else { "" }, name);
-    let bytes = crate::bits::to_bytes(&text);
+    let bytes = bits::to_bytes(&text);
     let needed = bytes.len();
     let mut cases = vec![field_case(name.clone(), bytes, text.len() as u64, kind.0.from_sensor)];
     for room in needed - 1..=needed + 1 {
         cases.push((format!("{}, into {} bytes", name, room), written(room, &parts)));
     }
     cases
+}
+
+/// A type that is not relayed, at its least, inside a relay nevertheless.
+fn wrongly_relayed(tables: &Tables, field: &Field) -> Named {
+    let text = field_cases::text_of(tables, &parts_at(field, false, End::Least));
+    let bytes = [vec![RELAY as u8, 7], bits::to_bytes(&text)].concat();
+    field_case(format!("{}, relayed", field.head.name), bytes, 16 + text.len() as u64, true)
 }
 
 /// A writing into bytes that are all ones.
@@ -195,8 +203,6 @@ const NEIGHBOURS: &[Row] = &[
     ("03 of 23 bits", "030000", 23, true),
     ("03 of 24 bits", "030000", 24, true),
     ("03 of 03", "030003", 24, true),
-    ("03 of 21", "0321210000001100000000000000", 112, true),
-    ("03 of 62", "036262000000000000", 72, true),
     ("03 of 62, too short", "030062", 24, true),
     ("22 of Length 0", "2200000011 00*11", 128, false),
     ("22 of Length 0, 208 bits", "2200000011 00*21", 208, false),
@@ -291,6 +297,7 @@ pub fn cases() -> impl Iterator<Item = Named> {
     for end in &ENDS[..2] {
         cases.extend(field_cases::kinds(&tables).into_iter().flat_map(|kind| type_at(&tables, kind, *end)));
     }
+    cases.extend(tables.fields.iter().filter(|field| !field.relayed()).map(|field| wrongly_relayed(&tables, field)));
     cases.extend(neighbours());
     cases.extend(attempts());
     cases.into_iter()
