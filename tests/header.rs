@@ -1,7 +1,29 @@
-// Holds the numbers of include/siamrung.h to those of the definitions: every kind, type, refusal and item that specs/ numbers stands in the
-// header with the same number, the header has no other, no number of a kind is a refusal's, and no two items have the same number.
+// Holds include/siamrung.h to the crates, wherever in them something stands.
+// Numbers: every kind, type, refusal and item that specs/ numbers stands in the header with the same number, the header has no other, no number
+// of a kind is a refusal's, and no two items have the same number.
+// Calls: every `extern "C"` function stands in the header with the same arguments, in order and by name and type, and the same answer, and the
+// header has no other.
 use std::collections::BTreeMap;
-use std::fs::read_to_string;
+use std::fs::{read_dir, read_to_string};
+
+// A file of the crates: its crate, its name, its text.
+type File = (String, String, String);
+
+// Every file of that folder of every crate.
+fn files(folder: &str, suffix: &str) -> Vec<File> {
+    let mut found = Vec::new();
+    let text = |name: std::ffi::OsString| name.into_string().unwrap();
+    for krate in read_dir("crates").unwrap().map(|entry| entry.unwrap()) {
+        let Ok(folder) = read_dir(krate.path().join(folder)) else { continue };
+        for file in folder.map(|entry| entry.unwrap()).filter(|file| text(file.file_name()).ends_with(suffix)) {
+            found.push((text(krate.file_name()), text(file.file_name()), read_to_string(file.path()).unwrap()));
+        }
+    }
+    found.sort();
+    found
+}
+
+// ---- numbers
 
 // LineTooLong and aimsCode as LINE_TOO_LONG and AIMS_CODE.
 fn upper(name: &str) -> String {
@@ -15,21 +37,6 @@ fn upper(name: &str) -> String {
     out
 }
 
-// The numbers of the lines "HEAD NAME = NUMBER" of a file of specs/.
-fn defined(path: &str, head: &str, prefix: &str) -> BTreeMap<String, u32> {
-    let mut found = BTreeMap::new();
-    for line in read_to_string(path).unwrap().lines() {
-        if let Some((left, right)) = line.split_once(" = ") {
-            if let (Some(name), Some(number)) = (left.strip_prefix(head), number(right)) {
-                if !name.contains(' ') {
-                    assert!(found.insert(format!("{prefix}_{}", upper(name)), number).is_none());
-                }
-            }
-        }
-    }
-    found
-}
-
 // A number as the definitions and the header write it: decimal, or hexadecimal with 0x.
 fn number(text: &str) -> Option<u32> {
     match text.strip_prefix("0x") {
@@ -38,55 +45,179 @@ fn number(text: &str) -> Option<u32> {
     }
 }
 
-// The types of the lines "numbersOf (F.NAME ..) = eleven CODE ..", and the relay's, which is no record's first number.
-fn types() -> BTreeMap<String, u32> {
-    let mut found = BTreeMap::new();
-    for line in read_to_string("crates/fields/specs/Records.antt").unwrap().lines() {
-        if let Some((left, right)) = line.strip_prefix("numbersOf (F.").and_then(|rest| rest.split_once(") = eleven ")) {
-            let code = number(right.split(' ').next().unwrap()).unwrap();
-            assert!(found.insert(format!("TYPE_{}", upper(left.split(' ').next().unwrap())), code).is_none());
+type Numbers = BTreeMap<String, u32>;
+
+// Adds the numbers of the lines "HEAD NAME = NUMBER"; there is one at least.
+fn add<'a>(to: &mut Numbers, from: impl Iterator<Item = &'a File>, head: &str, prefix: &str) {
+    let before = to.len();
+    for line in from.flat_map(|file| file.2.lines()) {
+        if let Some((left, right)) = line.split_once(" = ") {
+            if let (Some(name), Some(number)) = (left.strip_prefix(head), number(right)) {
+                if !name.contains(' ') {
+                    let name = format!("{prefix}_{}", upper(name));
+                    assert!(to.insert(name.clone(), number).is_none(), "{name} is defined twice");
+                }
+            }
         }
     }
-    let reading = read_to_string("crates/field_host/specs/Reading.antt").unwrap();
-    let relay = reading.lines().find_map(|line| line.strip_prefix("outerOf (Relay x f) = "));
-    found.insert("TYPE_RELAY".into(), number(relay.expect("the relay's type")).unwrap());
-    found
+    assert!(to.len() > before, "no definition numbers a {prefix}");
 }
 
-fn main() {
+// Adds the types of the lines "numbersOf (F.NAME ..) = eleven CODE ..", and the relay's, which is no record's first number.
+fn add_types(to: &mut Numbers, specs: &[File]) {
+    for line in specs.iter().flat_map(|file| file.2.lines()) {
+        if let Some((left, right)) = line.strip_prefix("numbersOf (F.").and_then(|rest| rest.split_once(") = eleven ")) {
+            let name = format!("TYPE_{}", upper(left.split(' ').next().unwrap()));
+            let code = number(right.split(' ').next().unwrap()).unwrap();
+            assert!(to.insert(name.clone(), code).is_none(), "{name} is defined twice");
+        }
+    }
+    let relay = specs.iter().flat_map(|file| file.2.lines()).find_map(|line| line.strip_prefix("outerOf (Relay x f) = "));
+    to.insert("TYPE_RELAY".into(), number(relay.expect("the relay's type")).unwrap());
+}
+
+fn numbers(header: &str) {
+    let specs = files("specs", ".antt");
+    // the items of a line and of a field stand in a file each, a field's in a crate for fields
+    let items = |fields: bool| specs.iter().filter(move |file| file.1 == "Items.antt" && file.0.starts_with("field") == fields);
     let mut expected = BTreeMap::new();
-    expected.extend(defined("crates/reports/specs/Kinds.antt", "kindNumber K.", "KIND"));
-    expected.extend(defined("crates/refusals/specs/Numbers.antt", "lineNumber L.", "REFUSAL"));
-    expected.extend(defined("crates/host/specs/Items.antt", "", "ITEM"));
-    expected.extend(types());
-    expected.extend(defined("crates/refusals/specs/Numbers.antt", "fieldNumber F.", "FIELD_REFUSAL"));
-    expected.extend(defined("crates/field_host/specs/Items.antt", "", "FIELD_ITEM"));
-    let line = defined("crates/host/specs/Line.antt", "", "LINE");
-    expected.insert("KIND_REFUSED".into(), line["LINE_REFUSED_KIND"]);
-    expected.insert("KIND_END".into(), line["LINE_END_KIND"]);
+    add(&mut expected, specs.iter(), "kindNumber K.", "KIND");
+    add(&mut expected, specs.iter(), "lineNumber L.", "REFUSAL");
+    add(&mut expected, specs.iter(), "fieldNumber F.", "FIELD_REFUSAL");
+    add(&mut expected, items(false), "", "ITEM");
+    add(&mut expected, items(true), "", "FIELD_ITEM");
+    add_types(&mut expected, &specs);
+    for (name, definition) in [("KIND_REFUSED", "refusedKind = "), ("KIND_END", "endKind = ")] {
+        let line = specs.iter().flat_map(|file| file.2.lines()).find_map(|line| line.strip_prefix(definition));
+        expected.insert(name.into(), number(line.expect(definition)).unwrap());
+    }
     expected.insert("REFUSAL_NONE".into(), 0);
-    let mut header = BTreeMap::new();
-    for text in read_to_string("include/siamrung.h").unwrap().lines() {
+    let mut found = BTreeMap::new();
+    for text in header.lines() {
         let words: Vec<&str> = text.split_whitespace().collect();
         if let ["#define", name, number] = words[..] {
             let name = name.strip_prefix("SIAMRUNG_").expect("a name without the prefix");
-            assert!(header.insert(name.to_string(), self::number(number).unwrap()).is_none(), "{name} stands twice");
+            assert!(found.insert(name.to_string(), self::number(number).unwrap()).is_none(), "{name} stands twice");
         }
     }
     for (name, number) in &expected {
-        assert_eq!(header.get(name), Some(number), "{name}");
+        assert_eq!(found.get(name), Some(number), "{name}");
     }
-    for name in header.keys() {
+    for name in found.keys() {
         assert!(expected.contains_key(name), "{name} is in no definition");
     }
-    for (kind, number) in header.iter().filter(|(name, _)| name.starts_with("KIND")) {
-        assert!(!header.iter().any(|(name, n)| name.contains("REFUSAL") && n == number), "{kind} has a refusal's number");
+    for (kind, number) in found.iter().filter(|(name, _)| name.starts_with("KIND")) {
+        assert!(!found.iter().any(|(name, n)| name.contains("REFUSAL") && n == number), "{kind} has a refusal's number");
     }
-    let mut items = BTreeMap::new();
-    for (name, number) in header.iter().filter(|(name, _)| name.starts_with("ITEM") || name.starts_with("FIELD_ITEM")) {
-        if let Some(other) = items.insert(number, name) {
+    let mut by_number = BTreeMap::new();
+    for (name, number) in found.iter().filter(|(name, _)| name.starts_with("ITEM") || name.starts_with("FIELD_ITEM")) {
+        if let Some(other) = by_number.insert(number, name) {
             panic!("{name} has the number of {other}");
         }
     }
-    println!("tests: {} numbers of include/siamrung.h are those of the definitions", header.len());
+    println!("tests: {} numbers of include/siamrung.h are those of the definitions", found.len());
+}
+
+// ---- calls
+
+// A prototype as C has it, with one space between words, by the name of its function.
+type Calls = BTreeMap<String, String>;
+
+fn add_call(to: &mut Calls, answer: &str, name: &str, arguments: &[String]) {
+    let arguments = if arguments.is_empty() { "void".into() } else { arguments.join(", ") };
+    let prototype = format!("{answer} {name}({arguments})");
+    assert!(to.insert(name.into(), prototype).is_none(), "{name} stands twice");
+}
+
+fn spaced(text: &str) -> String {
+    text.split_whitespace().collect::<Vec<&str>>().join(" ")
+}
+
+// A type of the language as C's.
+fn c_type(of: &str) -> &'static str {
+    match of {
+        "u8" => "uint8_t",
+        "u16" => "uint16_t",
+        "u32" => "uint32_t",
+        "u64" => "uint64_t",
+        "usize" => "size_t",
+        "i32" => "int32_t",
+        "i64" => "int64_t",
+        "f64" => "double",
+        _ => panic!("no type of C is known for {of}"),
+    }
+}
+
+// An argument of the language as C's: a slice is a pointer and the number of its bytes. Two names are others in the header.
+fn c_arguments(name: &str, of: &str) -> Vec<String> {
+    let name = match name {
+        "code" => "type",
+        "told" => "items",
+        _ => name,
+    };
+    let length = if name == "bytes" { "length".into() } else { format!("{name}_length") };
+    match of {
+        "&[u8]" => vec![format!("const uint8_t *{name}"), format!("size_t {length}")],
+        "&mut [u8]" => vec![format!("uint8_t *{name}"), format!("size_t {length}")],
+        _ => vec![format!("{} {name}", c_type(of))],
+    }
+}
+
+// Every `pub extern "C" fn NAME(NAME: TYPE, ..) -> TYPE` of the crates; it is marked so that it keeps its name.
+fn defined() -> Calls {
+    let mut calls = Calls::new();
+    for (krate, file, text) in files("src", ".rt") {
+        let parts: Vec<&str> = text.split("pub extern \"C\" fn ").collect();
+        for pair in parts.windows(2) {
+            let (name, rest) = pair[1].split_once('(').unwrap();
+            assert!(pair[0].trim_end().ends_with("#[no_mangle]"), "{name} of {krate}/src/{file} is not #[no_mangle]");
+            let (arguments, rest) = rest.split_once(')').unwrap();
+            let arguments: Vec<String> = arguments
+                .split(',')
+                .filter(|argument| !argument.trim().is_empty())
+                .map(|argument| argument.split_once(':').unwrap())
+                .flat_map(|(name, of)| c_arguments(name.trim(), &spaced(of)))
+                .collect();
+            let answer = rest.trim_start().strip_prefix("->").map_or("void", |rest| c_type(rest.split_whitespace().next().unwrap()));
+            add_call(&mut calls, answer, name, &arguments);
+        }
+    }
+    calls
+}
+
+// Every prototype of the header: what is neither a comment nor the preprocessor's, and ends with a semicolon.
+fn declared(header: &str) -> Calls {
+    let mut code = String::new();
+    for (i, part) in header.split("/*").enumerate() {
+        code += if i == 0 { part } else { part.split_once("*/").expect("a comment that ends").1 };
+    }
+    let lines: Vec<&str> = code.lines().filter(|line| !line.starts_with('#')).collect();
+    let code = lines.join(" ").replace("extern \"C\" {", "").replace('}', "");
+    let mut calls = Calls::new();
+    for prototype in code.split(';').filter(|text| !text.trim().is_empty()) {
+        let (head, arguments) = prototype.split_once('(').expect("a prototype");
+        let (answer, name) = head.trim().rsplit_once(' ').expect("an answer and a name");
+        let arguments = arguments.trim_end().strip_suffix(')').expect("a prototype's end");
+        let arguments: Vec<String> = if arguments == "void" { Vec::new() } else { arguments.split(',').map(spaced).collect() };
+        add_call(&mut calls, answer, name, &arguments);
+    }
+    calls
+}
+
+fn calls(header: &str) {
+    let (defined, declared) = (defined(), declared(header));
+    for (name, prototype) in &defined {
+        let found = declared.get(name).unwrap_or_else(|| panic!("{name} is not in the header"));
+        assert_eq!(found, prototype, "the header's prototype (left) is not the function's (right)");
+    }
+    for name in declared.keys() {
+        assert!(defined.contains_key(name), "{name} is no function of the crates");
+    }
+    println!("tests: {} prototypes of include/siamrung.h are those of the functions", declared.len());
+}
+
+fn main() {
+    let header = read_to_string("include/siamrung.h").unwrap();
+    numbers(&header);
+    calls(&header);
 }

@@ -1,5 +1,5 @@
-// Makes the sample recordings of examples/recordings from fixed seeds, and what examples/recorder.c must print of them, by
-// tests/document.rs: `recordings NAME` writes the bytes, `recordings NAME printed` the text.
+// Makes the sample recordings of examples/recordings from fixed seeds, and what C programs must print of them, by tests/document.rs:
+// `recordings NAME` writes the bytes, `recordings NAME printed` what examples/recorder.c prints, `recordings NAME heights` what README.md's lines do.
 //   story    a sensor that sends ATCRBS and Search reports, and then begins to send DABS reports in place of ATCRBS
 //   morning  every form, with idle words between
 //   damaged  the morning with bits turned over here and there
@@ -113,15 +113,33 @@ fn printed(line: &[u16]) -> String {
     out + &format!("{refused} refused\n{reports} reports, {heights} with altitude, {} without\n", reports - heights)
 }
 
+// Each refusal, and each height in feet.
+fn heights(line: &[u16]) -> String {
+    let (mut out, mut at) = (String::new(), 0);
+    for run in line.split(|w| *w == IDLE) {
+        if !run.is_empty() {
+            match read(all_forms(), run) {
+                Read::Report(said) => {
+                    if let Some(height) = value(&said, "altitude") {
+                        out += &format!("{at} {} ft\n", 100 * height);
+                    }
+                }
+                Read::Refused(number, _) => out += &format!("{at} refused {number}\n"),
+            }
+        }
+        at += run.len() + 1;
+    }
+    out
+}
+
 fn main() {
     let words: Vec<String> = std::env::args().collect();
     let line = recording(&words[1]);
-    let mut out = std::io::stdout().lock();
-    if words.len() > 2 {
-        out.write_all(printed(&line).as_bytes()).unwrap();
-    } else {
-        for w in line {
-            out.write_all(&w.to_be_bytes()).unwrap();
-        }
-    }
+    let bytes = match words.get(2).map(String::as_str) {
+        None => line.iter().flat_map(|w| w.to_be_bytes()).collect(),
+        Some("printed") => printed(&line).into_bytes(),
+        Some("heights") => heights(&line).into_bytes(),
+        Some(other) => panic!("no such text: {other}"),
+    };
+    std::io::stdout().write_all(&bytes).unwrap();
 }

@@ -12,19 +12,19 @@ const FIELD: u64 = 3;
 const FIELD_WRITE: u64 = 4;
 
 /// What a field is written from.
-struct Parts {
-    kind: u32,
-    items: Vec<(u64, u64)>,
-    list: Vec<i64>,
-    text: Vec<u8>,
+pub struct Parts {
+    pub kind: u32,
+    pub items: Vec<(u64, u64)>,
+    pub list: Vec<i64>,
+    pub text: Vec<u8>,
 }
 
 impl Parts {
-    fn value(&self, number: u32) -> u64 {
+    pub fn value(&self, number: u32) -> u64 {
         self.items.iter().find(|item| item.0 == u64::from(number)).map_or(0, |item| item.1)
     }
 
-    fn list_bytes(&self) -> Vec<u8> {
+    pub fn list_bytes(&self) -> Vec<u8> {
         self.list.iter().flat_map(|entry| entry.to_be_bytes()).collect()
     }
 }
@@ -86,7 +86,7 @@ fn address(rng: &mut Rng) -> i64 {
 }
 
 /// The bits of a record that the writer takes.
-fn text_of(tables: &Tables, parts: &Parts) -> String {
+pub fn text_of(tables: &Tables, parts: &Parts) -> String {
     let mut bytes = vec![0; 251];
     let (items, list) = (item_bytes(&parts.items), parts.list_bytes());
     let given = Given { kind: parts.kind, items: &items, list: &list, text: &parts.text };
@@ -106,7 +106,7 @@ struct Carried {
 }
 
 /// The layouts, and behind them the relay of each that may be relayed.
-fn kinds(tables: &Tables) -> Vec<(&Field, bool)> {
+pub fn kinds(tables: &Tables) -> Vec<(&Field, bool)> {
     let plain = tables.fields.iter().map(|field| (field, false));
     let relayed = tables.fields.iter().filter(|field| field.relayed()).map(|field| (field, true));
     plain.chain(relayed).collect()

@@ -5,13 +5,14 @@
 //!
 //!   independent SEED LINES FIELDS COMMAND..   compares LINES lines and half as many writings, FIELDS fields and half as many writings;
 //!                                             from 20,000 lines and 50,000 fields on, the quotas have to be met
-//!   independent counts COMMAND..              compares nmi, degrees and seconds for every count of every field
+//!   independent chosen COMMAND..              compares nmi, degrees and seconds for every count of every field, and the cases of chosen.rs
 //!
 //! A difference is printed with its case, and the program then ends with 1.
 
 mod answer;
 mod bits;
 mod case;
+mod chosen;
 mod every_count;
 mod exact;
 mod field;
@@ -61,18 +62,21 @@ fn compare(seed: u64, lines: u64, fields: u64, command: &[String]) -> Result<(),
     Ok(())
 }
 
-fn counts(command: &[String]) -> Result<(), String> {
+fn chosen(command: &[String]) -> Result<(), String> {
     every_count::check_exact();
     let totals = run::run(command, every_count::cases)?;
     println!("every count: {} reports in {} lines, no difference", totals.runs, totals.lines);
+    let totals = run::run(command, chosen::cases)?;
+    let (reads, writes) = (totals.runs + totals.fields, totals.writes + totals.field_writes);
+    println!("chosen cases: {} runs and fields read, {} written, no difference", reads, writes);
     Ok(())
 }
 
 fn start(arguments: &[String]) -> Result<(), String> {
     worked::check(&Tables::new());
-    let usage = "usage: independent SEED LINES FIELDS COMMAND.. | independent counts COMMAND..";
-    if arguments.len() >= 2 && arguments[0] == "counts" {
-        return counts(&arguments[1..]);
+    let usage = "usage: independent SEED LINES FIELDS COMMAND.. | independent chosen COMMAND..";
+    if arguments.len() >= 2 && arguments[0] == "chosen" {
+        return chosen(&arguments[1..]);
     }
     if arguments.len() < 4 {
         return Err(usage.to_string());
