@@ -57,7 +57,7 @@ fn main() {
     let mut expected = BTreeMap::new();
     expected.extend(defined("crates/reports/specs/Kinds.antt", "kindNumber K.", "KIND"));
     expected.extend(defined("crates/refusals/specs/Numbers.antt", "lineNumber L.", "REFUSAL"));
-    expected.extend(defined("crates/host/specs/Items.antt", "", "ITEM"));
+    expected.extend(defined("crates/report_items/specs/Items.antt", "", "ITEM"));
     expected.extend(types());
     expected.extend(defined("crates/refusals/specs/Numbers.antt", "fieldNumber F.", "FIELD_REFUSAL"));
     expected.extend(defined("crates/field_host/specs/Items.antt", "", "FIELD_ITEM"));

@@ -1,16 +1,17 @@
 // The calls that read a line lent as bytes, two a word, high byte first, at a place counted in words. Each answers one thing about the run
 // at or behind the place, and reads that run and no more. Any bytes and any place are taken.
-// Relies on lines for the outcome, items for the fields, reports for kinds and values.
+// Relies on lines for the outcome, report_items for the fields, reports for kinds and values.
 ghost use mathlib.Core.Path.{_≡_};
 ghost use Rattle.measures.specs.Exact.{Exact};
 ghost use Rattle.lines.specs.Bytes.{readBytes};
 ghost use Rattle.reports.specs.Altitude.{signMagnitude};
 ghost use Rattle.reports.specs.Values.{Yields};
-ghost use Rattle.host.specs.Line.{version, kindNumberOf, refusalOf, itemAt, isOf, valueOf, countedAt, has, rangeOf, azimuthOf, timeOf};
-use crate::items;
-use crate::items::Item;
+ghost use Rattle.report_items.specs.Items.{isOf, valueOf};
+ghost use Rattle.host.specs.Line.{version, kindNumberOf, refusalOf, itemAt, countedAt, has, rangeOf, azimuthOf, timeOf};
 use lines::What;
 use measures::Time;
+use report_items::items;
+use report_items::items::Item;
 use reports::kinds;
 use reports::values;
 use reports::values::Values;

@@ -1,14 +1,14 @@
 // The calls that write a report into a line lent as bytes. The report is given by its kind's number and its items, sixteen bytes an item.
 // Any bytes, any place, any kind and any items are taken: what is no record is refused with number 11.
-// Relies on given for the report, lines for the writer, refusals for numbers.
+// Relies on report_items for the report, lines for the writer, refusals for numbers.
 ghost use mathlib.Core.Path.{_≡_};
 ghost use Rattle.lines.specs.ByteWriting.{writeBytes};
 ghost use Rattle.reports.specs.Altitude.{signMagnitude};
-ghost use Rattle.host.specs.Given.{given};
+ghost use Rattle.report_items.specs.Given.{given};
 ghost use Rattle.host.specs.Write.{writeRefusal, Writes};
-use crate::given;
 use lines::Wrote;
 use lines::byte_writer;
+use report_items::given;
 
 // Refused, the place given; siamrung_write_refusal tells.
 #[no_mangle]

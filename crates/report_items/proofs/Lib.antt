@@ -1,0 +1,6 @@
+pub mod Signed
+pub mod Sizes
+pub mod Builds
+pub mod Tally
+pub mod Back
+pub mod Claims
