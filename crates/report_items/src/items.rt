@@ -32,7 +32,20 @@ fn flag(b: bool) -> Item
     if b { Item::Of(1) } else { Item::Of(0) }
 }
 
-fn count(n: u32) -> Item
+// A count, by its width.
+fn small(n: u8) -> Item
+    ensures { λ r. ⌜ r ≡ Item.Of (pos n) ⌝ }
+{
+    Item::Of(n as i64)
+}
+
+fn count(n: u16) -> Item
+    ensures { λ r. ⌜ r ≡ Item.Of (pos n) ⌝ }
+{
+    Item::Of(n as i64)
+}
+
+fn large(n: u32) -> Item
     ensures { λ r. ⌜ r ≡ Item.Of (pos n) ⌝ }
 {
     Item::Of(n as i64)
@@ -59,7 +72,7 @@ fn carried_item(n: u16, item: u32) -> Item
     ensures { λ r. ⌜ r ≡ lookup item (heightItems (Ht.Carried n)) ⌝ }
 {
     match item {
-        32 => count(n as u32),
+        32 => count(n),
         _ => Item::Missing,
     }
 }
@@ -69,7 +82,7 @@ fn cd_item(mode_c: bool, run: RunLength, item: u32) -> Item
 {
     match item {
         18 => flag(mode_c),
-        7 => count(run.0 as u32),
+        7 => small(run.0),
         _ => Item::Missing,
     }
 }
@@ -80,7 +93,7 @@ fn quality_item(mode_c: bool, quality: u8, item: u32) -> Item
 {
     match item {
         18 => flag(mode_c),
-        33 => count(quality as u32),
+        33 => small(quality),
         _ => Item::Missing,
     }
 }
@@ -106,12 +119,12 @@ fn search_item(s: Search, item: u32) -> Item
         1 => flag(s.test),
         2 => flag(s.faa),
         3 => flag(s.af),
-        4 => count(s.range.0 as u32),
-        5 => count(s.azimuth.0 as u32),
+        4 => count(s.range.0),
+        5 => count(s.azimuth.0),
         8 => flag(s.aims),
-        9 => count(s.code as u32),
-        7 => count(s.run.0 as u32),
-        6 => count(s.time.0 as u32),
+        9 => small(s.code),
+        7 => small(s.run.0),
+        6 => small(s.time.0),
         _ => Item::Missing,
     }
 }
@@ -123,10 +136,10 @@ fn strobe_item(s: Strobe, item: u32) -> Item
         1 => flag(s.test),
         2 => flag(s.faa),
         3 => flag(s.af),
-        4 => count(s.range.0 as u32),
-        5 => count(s.azimuth.0 as u32),
-        7 => count(s.run.0 as u32),
-        6 => count(s.time.0 as u32),
+        4 => count(s.range.0),
+        5 => count(s.azimuth.0),
+        7 => small(s.run.0),
+        6 => small(s.time.0),
         _ => Item::Missing,
     }
 }
@@ -136,12 +149,12 @@ fn map_item(m: Map, item: u32) -> Item
 {
     match item {
         1 => flag(m.test),
-        10 => count(m.variation as u32),
+        10 => small(m.variation),
         2 => flag(m.faa),
         3 => flag(m.af),
-        11 => count(m.start.0 as u32),
-        5 => count(m.azimuth.0 as u32),
-        12 => count(m.stop.0 as u32),
+        11 => count(m.start.0),
+        5 => count(m.azimuth.0),
+        12 => count(m.stop.0),
         _ => Item::Missing,
     }
 }
@@ -153,9 +166,9 @@ fn status_item(s: Status, item: u32) -> Item
         1 => flag(s.test),
         2 => flag(s.faa),
         3 => flag(s.af),
-        13 => count(s.second as u32),
-        14 => count(s.third as u32),
-        15 => count(s.fourth as u32),
+        13 => count(s.second),
+        14 => count(s.third),
+        15 => count(s.fourth),
         _ => Item::Missing,
     }
 }
@@ -166,10 +179,10 @@ fn rtqc_item(s: Rtqc, item: u32) -> Item
     match item {
         2 => flag(s.faa),
         3 => flag(s.af),
-        4 => count(s.range.0 as u32),
-        5 => count(s.azimuth.0 as u32),
-        7 => count(s.run.0 as u32),
-        6 => count(s.time.0 as u32),
+        4 => count(s.range.0),
+        5 => count(s.azimuth.0),
+        7 => small(s.run.0),
+        6 => small(s.time.0),
         _ => Item::Missing,
     }
 }
@@ -188,12 +201,12 @@ fn dabs_item(d: Dabs, item: u32) -> Item
         21 => flag(d.code7700),
         22 => flag(d.code7600),
         2 => flag(d.faa),
-        4 => count(d.range.0 as u32),
-        5 => count(d.azimuth.0 as u32),
+        4 => count(d.range.0),
+        5 => count(d.azimuth.0),
         23 => flag(d.alert),
         24 => flag(d.relay),
-        6 => count(d.time.0 as u32),
-        25 => count(d.address),
+        6 => small(d.time.0),
+        25 => large(d.address),
         _ => height_item(height, item),
     }
 }
@@ -210,15 +223,15 @@ fn atcrbs_item(a: Atcrbs, item: u32) -> Item
         21 => flag(a.code7700),
         22 => flag(a.code7600),
         2 => flag(a.faa),
-        4 => count(a.range.0 as u32),
-        5 => count(a.azimuth.0 as u32),
+        4 => count(a.range.0),
+        5 => count(a.azimuth.0),
         26 => flag(a.confidence),
         27 => flag(a.transition),
         28 => flag(a.false_target),
         24 => flag(a.relay),
-        6 => count(a.time.0 as u32),
-        29 => count(a.code as u32),
-        30 => count(a.file as u32),
+        6 => small(a.time.0),
+        29 => count(a.code),
+        30 => count(a.file),
         _ => height_item(height, item),
     }
 }
@@ -229,15 +242,15 @@ fn mtd_item(m: Mtd, item: u32) -> Item
     match item {
         1 => flag(m.test),
         2 => flag(m.faa),
-        4 => count(m.range.0 as u32),
-        5 => count(m.azimuth.0 as u32),
+        4 => count(m.range.0),
+        5 => count(m.azimuth.0),
         8 => flag(m.aims),
-        6 => count(m.time.0 as u32),
-        34 => count(m.doppler1 as u32),
-        35 => count(m.doppler2 as u32),
-        30 => count(m.file as u32),
-        33 => count(m.quality as u32),
-        26 => count(m.confidence as u32),
+        6 => small(m.time.0),
+        34 => small(m.doppler1),
+        35 => small(m.doppler2),
+        30 => count(m.file),
+        33 => small(m.quality),
+        26 => small(m.confidence),
         28 => flag(m.false_target),
         36 => flag(m.ground),
         _ => Item::Missing,
@@ -250,12 +263,12 @@ fn rdas_item(x: Rdas, item: u32) -> Item
     match item {
         1 => flag(x.test),
         2 => flag(x.faa),
-        4 => count(x.range.0 as u32),
-        5 => count(x.azimuth.0 as u32),
+        4 => count(x.range.0),
+        5 => count(x.azimuth.0),
         8 => flag(x.aims),
-        6 => count(x.time.0 as u32),
-        30 => count(x.file as u32),
-        33 => count(x.quality as u32),
+        6 => small(x.time.0),
+        30 => count(x.file),
+        33 => small(x.quality),
         28 => flag(x.false_target),
         _ => Item::Missing,
     }

@@ -1,6 +1,6 @@
 -- `report_items::items::atcrbs_item` meets its contract: an arm's item is its key. Assumes nothing.
 use borrow.Author.Needs.{needs}
-use borrow.Author.Tests.{eq-eqb, ne-eqb, lt-ltb, le-ltb}
+use borrow.Author.Tests.{ne-eqb}
 use Rattle.report_items.proofs.items.atcrbs_item.Statement.{statement}
 use Rattle.report_items.proofs.items.atcrbs_item.Tie as tie
 
@@ -25,14 +25,8 @@ flag-requires-6 c κs = search needs
 flag-requires-7 : tie.Need-flag-requires-7
 flag-requires-7 c κs = search needs
 
-cast-count : tie.Need-cast-count
-cast-count c = search needs
-
 count-requires : tie.Need-count-requires
 count-requires c κs = search needs
-
-cast-count-2 : tie.Need-cast-count-2
-cast-count-2 c = search needs
 
 count-requires-2 : tie.Need-count-requires-2
 count-requires-2 c κs = search needs
@@ -49,23 +43,14 @@ flag-requires-10 c κs = search needs
 flag-requires-11 : tie.Need-flag-requires-11
 flag-requires-11 c κs = search needs
 
-cast-count-3 : tie.Need-cast-count-3
-cast-count-3 c = search needs
+small-requires : tie.Need-small-requires
+small-requires c κs = search needs
 
 count-requires-3 : tie.Need-count-requires-3
 count-requires-3 c κs = search needs
 
-cast-count-4 : tie.Need-cast-count-4
-cast-count-4 c = search needs
-
 count-requires-4 : tie.Need-count-requires-4
 count-requires-4 c κs = search needs
-
-cast-count-5 : tie.Need-cast-count-5
-cast-count-5 c = search needs
-
-count-requires-5 : tie.Need-count-requires-5
-count-requires-5 c κs = search needs
 
 height-item-requires : tie.Need-height-item-requires
 height-item-requires c κs = search needs
@@ -92,10 +77,10 @@ returns-7 : tie.Need-returns-7
 returns-7 c = rw (c .before .match .keys7) (c .flag7 .ensures)
 
 returns-8 : tie.Need-returns-8
-returns-8 c = rw (c .before .before .match .keys8) (c .count .ensures)
+returns-8 c = rw (c .before .match .keys8) (c .count .ensures)
 
 returns-9 : tie.Need-returns-9
-returns-9 c = rw (c .before .before .match .keys9) (c .count2 .ensures)
+returns-9 c = rw (c .before .match .keys9) (c .count2 .ensures)
 
 returns-10 : tie.Need-returns-10
 returns-10 c = rw (c .before .match .keys10) (c .flag8 .ensures)
@@ -110,13 +95,13 @@ returns-13 : tie.Need-returns-13
 returns-13 c = rw (c .before .match .keys13) (c .flag11 .ensures)
 
 returns-14 : tie.Need-returns-14
-returns-14 c = rw (c .before .before .match .keys14) (c .count3 .ensures)
+returns-14 c = rw (c .before .match .keys14) (c .small .ensures)
 
 returns-15 : tie.Need-returns-15
-returns-15 c = rw (c .before .before .match .keys15) (c .count4 .ensures)
+returns-15 c = rw (c .before .match .keys15) (c .count3 .ensures)
 
 returns-16 : tie.Need-returns-16
-returns-16 c = rw (c .before .before .match .keys16) (c .count5 .ensures)
+returns-16 c = rw (c .before .match .keys16) (c .count4 .ensures)
 
 returns-17 : tie.Need-returns-17
 returns-17 c = search (needs, ne-eqb, c .height-item .ensures)
@@ -132,20 +117,15 @@ atcrbs-item-spec =
     flag-requires-5
     flag-requires-6
     flag-requires-7
-    cast-count
     count-requires
-    cast-count-2
     count-requires-2
     flag-requires-8
     flag-requires-9
     flag-requires-10
     flag-requires-11
-    cast-count-3
+    small-requires
     count-requires-3
-    cast-count-4
     count-requires-4
-    cast-count-5
-    count-requires-5
     height-item-requires
     returns
     returns-2

@@ -5,7 +5,6 @@ use mir.Facts.{toZ-pos}
 use mir.Syntax.{w64}
 use Rattle.report_items.specs.declared.items.Item.the-variants.{Of}
 use borrow.Author.Needs.{needs}
-use borrow.Author.Tests.{eq-eqb, ne-eqb, lt-ltb, le-ltb}
 use Rattle.report_items.proofs.items.count.Statement.{statement}
 use Rattle.report_items.proofs.items.count.Tie as tie
 

@@ -1,6 +1,6 @@
 -- `report_items::items::dabs_item` meets its contract: an arm's item is its key. Assumes nothing.
 use borrow.Author.Needs.{needs}
-use borrow.Author.Tests.{eq-eqb, ne-eqb, lt-ltb, le-ltb}
+use borrow.Author.Tests.{ne-eqb}
 use Rattle.report_items.proofs.items.dabs_item.Statement.{statement}
 use Rattle.report_items.proofs.items.dabs_item.Tie as tie
 
@@ -25,14 +25,8 @@ flag-requires-6 c κs = search needs
 flag-requires-7 : tie.Need-flag-requires-7
 flag-requires-7 c κs = search needs
 
-cast-count : tie.Need-cast-count
-cast-count c = search needs
-
 count-requires : tie.Need-count-requires
 count-requires c κs = search needs
-
-cast-count-2 : tie.Need-cast-count-2
-cast-count-2 c = search needs
 
 count-requires-2 : tie.Need-count-requires-2
 count-requires-2 c κs = search needs
@@ -43,14 +37,11 @@ flag-requires-8 c κs = search needs
 flag-requires-9 : tie.Need-flag-requires-9
 flag-requires-9 c κs = search needs
 
-cast-count-3 : tie.Need-cast-count-3
-cast-count-3 c = search needs
+small-requires : tie.Need-small-requires
+small-requires c κs = search needs
 
-count-requires-3 : tie.Need-count-requires-3
-count-requires-3 c κs = search needs
-
-count-requires-4 : tie.Need-count-requires-4
-count-requires-4 c κs = search needs
+large-requires : tie.Need-large-requires
+large-requires c κs = search needs
 
 height-item-requires : tie.Need-height-item-requires
 height-item-requires c κs = search needs
@@ -77,10 +68,10 @@ returns-7 : tie.Need-returns-7
 returns-7 c = rw (c .before .match .keys7) (c .flag7 .ensures)
 
 returns-8 : tie.Need-returns-8
-returns-8 c = rw (c .before .before .match .keys8) (c .count .ensures)
+returns-8 c = rw (c .before .match .keys8) (c .count .ensures)
 
 returns-9 : tie.Need-returns-9
-returns-9 c = rw (c .before .before .match .keys9) (c .count2 .ensures)
+returns-9 c = rw (c .before .match .keys9) (c .count2 .ensures)
 
 returns-10 : tie.Need-returns-10
 returns-10 c = rw (c .before .match .keys10) (c .flag8 .ensures)
@@ -89,10 +80,10 @@ returns-11 : tie.Need-returns-11
 returns-11 c = rw (c .before .match .keys11) (c .flag9 .ensures)
 
 returns-12 : tie.Need-returns-12
-returns-12 c = rw (c .before .before .match .keys12) (c .count3 .ensures)
+returns-12 c = rw (c .before .match .keys12) (c .small .ensures)
 
 returns-13 : tie.Need-returns-13
-returns-13 c = rw (c .before .match .keys13) (c .count4 .ensures)
+returns-13 c = rw (c .before .match .keys13) (c .large .ensures)
 
 returns-14 : tie.Need-returns-14
 returns-14 c = search (needs, ne-eqb, c .height-item .ensures)
@@ -108,15 +99,12 @@ dabs-item-spec =
     flag-requires-5
     flag-requires-6
     flag-requires-7
-    cast-count
     count-requires
-    cast-count-2
     count-requires-2
     flag-requires-8
     flag-requires-9
-    cast-count-3
-    count-requires-3
-    count-requires-4
+    small-requires
+    large-requires
     height-item-requires
     returns
     returns-2
