@@ -1,8 +1,8 @@
 -- The test of the items, by its outcome, and by what is gathered. Assumes nothing.
 use mathlib.Core.Path.{_≡_, refl, ap, sym, _∙_}
 use mathlib.Core.Bool.{Bool, true, false}
-use mathlib.Core.List.{List, _∷_, [], _++_}
-use Prim.Native.Nat.{ℕ, zero, suc, _-_, _^_, _≤_, _<_}
+use mathlib.Core.List.{List}
+use Prim.Native.Nat.{ℕ, zero, suc, _^_, _≤_}
 use native.Mathlib.Omega.{arith}
 use lib.ListN.{length}
 use native.Mathlib.Nat.{zero-add}
@@ -18,24 +18,16 @@ use Rattle.report_items.specs.Items.{itemOf, itemsOf}
 use Rattle.report_items.specs.Given.{asSigned, itemFrom, told, itemTold, sameItem, agreeTo, agree, builtFrom, unfit, givenBy}
 use Rattle.report_items.specs.declared.items.Item.{Item}
 use Rattle.report_items.specs.declared.items.Item.the-variants as I
-use Rattle.report_items.proofs.Sizes.{few}
 
 -- ---- the whole test, by its outcome
 
-by-count : (kind : ℕ) (ps : List Pair) → (length ps ≡ length (itemsOf (builtFrom kind ps)) → ⊥) → givenBy kind ps ≡ unfit
+pub by-count : (kind : ℕ) (ps : List Pair) → (length ps ≡ length (itemsOf (builtFrom kind ps)) → ⊥) → givenBy kind ps ≡ unfit
 unfolding givenBy agree
 by-count kind ps h = passed _ _ (passed _ _ (ne-eqb (length ps) (length (itemsOf (builtFrom kind ps))) h))
-
--- no report has so many items
-pub by-many : (kind : ℕ) (ps : List Pair) → 40 < length ps → givenBy kind ps ≡ unfit
-by-many kind ps h = by-count kind ps (λ e. omega (arith, few (builtFrom kind ps)))
 
 module _ (kind : ℕ) (ps : List Pair) (r : Report) (is : r ≡ builtFrom kind ps) where
   sizes : length (itemsOf r) ≡ length (itemsOf (builtFrom kind ps))
   sizes = ap (λ (x : Report). length (itemsOf x)) is
-
-  pub by-size : (length ps ≡ length (itemsOf r) → ⊥) → givenBy kind ps ≡ unfit
-  by-size h = by-count kind ps (λ e. h (e ∙ sym sizes))
 
   agreed : {t : Bool} → length ps ≡ length (itemsOf r) → agreeTo 36 r (told ps) ≡ t → agree (builtFrom kind ps) ps ≡ pick t true false
   unfolding agree

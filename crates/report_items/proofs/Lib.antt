@@ -1,5 +1,4 @@
 pub mod Signed
-pub mod Sizes
 pub mod Builds
 pub mod Tally
 pub mod Back

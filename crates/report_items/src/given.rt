@@ -1,15 +1,16 @@
-// The report that a C program gives by a kind's number and items, sixteen bytes an item. Whatever the items' values are, a record is built
-// from them, cut to its fields; then the record's own items are held against those given. So one test finds a value that was cut, a flag
-// that is neither 0 nor 1, an item that is missing, foreign or given twice; what fails it stands for one record that the writer refuses.
+// The report that a C program gives by a kind's number and items, sixteen bytes an item. There must be as many items as the kind has. Whatever
+// their values are, a record is built from them, cut to its fields; then the record's own items are held against those given, and counted. So
+// one test finds a value that was cut, a flag that is neither 0 nor 1, an item that is missing, foreign or given twice; what fails stands for
+// one record that the writer refuses.
 // Relies on pairs for the items' values, items for a record's own.
 ghost use mathlib.Core.Path.{_≡_};
-ghost use mathlib.Core.Bool.{true};
-ghost use Prim.Native.Nat.{_^_, _≤_};
+ghost use mathlib.Core.Bool.{Bool, true};
+ghost use mathlib.Core.List.{List};
+ghost use Prim.Native.Nat.{ℕ, _^_, _≤_};
 ghost use lib.ListN.{length};
 ghost use Rattle.words.specs.Tests.{pick};
 ghost use Rattle.pairs.specs.Pairs.{pairsIn};
-ghost use Rattle.reports.specs.declared.Report.the-variants as R;
-ghost use Rattle.report_items.specs.Items.{itemOf, itemsOf, heightItems};
+ghost use Rattle.report_items.specs.Items.{itemOf, itemsOf};
 ghost use Rattle.report_items.specs.Given.{asSigned, itemTold, searchGiven, strobeGiven, mapGiven, statusGiven, rtqcGiven, plainGiven, cdGiven, mtdHeightGiven, rdasHeightGiven, dabsGiven, atcrbsGiven, mtdGiven, rdasGiven, unfit, built, sameNumber, sameItem, agreeTo, givenBy, given};
 use crate::items::Item;
 use crate::items::item_of;
@@ -33,8 +34,6 @@ use reports::Status;
 use reports::Strobe;
 
 const ALL_ONES: u64 = 0xFFFF_FFFF_FFFF_FFFF;
-// No kind has more items than this; more are no record's, and are not looked at.
-const MOST_ITEMS: usize = 40;
 
 // ---- what the items say
 
@@ -296,46 +295,27 @@ fn built_of(kind: u32, high: bool, v: [u64; 37]) -> Report
 
 // ---- the test
 
-fn height_size(h: Height) -> usize
-    ensures { λ r. ⌜ r ≡ length (heightItems h) ⌝ }
+// How many items the record of a kind has, whatever their values are.
+fn size_of(kind: u32) -> usize
+    ensures { λ r. ⌜ ((high : Bool) (v : List ℕ) → length (itemsOf (built kind high v)) ≡ r) ⌝ }
 {
-    match h {
-        Height::Altitude(_) => 1,
-        Height::Carried(_) => 1,
-        Height::Cd { .. } => 2,
-        Height::Mtd { .. } => 2,
-        Height::Rdas { .. } => 2,
-    }
-}
-
-fn dabs_size(d: Dabs) -> usize
-    ensures { λ r. ⌜ r ≡ length (itemsOf (R.Dabs d)) ⌝ }
-{
-    let height = d.height;
-    13 + height_size(height)
-}
-
-fn atcrbs_size(a: Atcrbs) -> usize
-    ensures { λ r. ⌜ r ≡ length (itemsOf (R.Atcrbs a)) ⌝ }
-{
-    let height = a.height;
-    16 + height_size(height)
-}
-
-// How many items a report has.
-fn size_of(report: Report) -> usize
-    ensures { λ r. ⌜ r ≡ length (itemsOf report) ⌝ }
-{
-    match report {
-        Report::Search(_) => 9,
-        Report::Strobe(_) => 7,
-        Report::Map(_) => 7,
-        Report::Status(_) => 6,
-        Report::Rtqc(_) => 6,
-        Report::Dabs(d) => dabs_size(d),
-        Report::Atcrbs(a) => atcrbs_size(a),
-        Report::Mtd(_) => 13,
-        Report::Rdas(_) => 9,
+    match kind {
+        101 => 9,
+        102 => 7,
+        103 => 7,
+        104 => 6,
+        105 => 6,
+        106 => 14,
+        107 => 15,
+        108 => 15,
+        109 => 15,
+        110 => 17,
+        111 => 18,
+        112 => 18,
+        113 => 18,
+        114 => 13,
+        115 => 9,
+        _ => 6,
     }
 }
 
@@ -390,8 +370,9 @@ fn one(there: bool) -> usize
     if there { 1 } else { 0 }
 }
 
-// For each item number the report has what is told of it: whatever is told stands in the report, and as many numbers are told as it has items.
-fn agrees(report: Report, told: Told) -> bool
+// For each item number the report, of so many items, has what is told of it: whatever is told stands in the report, and so many are told.
+fn agrees(report: Report, size: usize, told: Told) -> bool
+    requires { ⌜ length (itemsOf report) ≡ size ⌝ }
     ensures { λ r. ⌜ r ≡ agreeTo 36 report (itemTold told) ⌝ }
 {
     let there = told.there;
@@ -407,25 +388,22 @@ fn agrees(report: Report, told: Told) -> bool
             return false;
         }
     }
-    count == size_of(report)
+    count == size
 }
 
 // From whole items.
 fn given_by(kind: u32, items: &[u8]) -> Report
     ensures { λ r. ⌜ r ≡ givenBy kind (pairsIn (now (items .entry))) ⌝ }
 {
-    let count = pairs::count(items);
-    if MOST_ITEMS < count {
+    let size = size_of(kind);
+    if pairs::count(items) != size {
         return no_record();
     }
     let told = pairs::gather(items, 0);
     let there = told.there;
     let values = told.values;
     let report = built_of(kind, there[31], values);
-    if count != size_of(report) {
-        return no_record();
-    }
-    if agrees(report, told) {
+    if agrees(report, size, told) {
         report
     } else {
         no_record()

@@ -1,15 +1,15 @@
 -- `report_items::given::agrees` meets its contract: what is left to test says what all the tests say, and so many are counted. Assumes nothing.
 use mathlib.Core.Path.{_≡_, refl, sym, ap, _∙_}
-use mathlib.Core.Bool.{Bool, true, false}
+use mathlib.Core.Bool.{Bool}
 use mathlib.Core.List.{List}
 use Prim.Native.Nat.{ℕ, _+_, _-_, _≤_, _<_}
 use native.Mathlib.Omega.{arith}
 use lib.Dec.{eqb}
+use lib.ListN.{length}
 use borrow.Author.Needs.{needs}
-use Rattle.words.specs.Tests.{pick}
 use Rattle.words.proofs.Tests.{picked, passed}
 use Rattle.report_items.specs.declared.items.Item.{Item}
-use Rattle.report_items.specs.Items.{itemOf, isOf}
+use Rattle.report_items.specs.Items.{itemOf, itemsOf, isOf}
 use Rattle.report_items.specs.Given.{itemTold}
 use Rattle.report_items.proofs.Tally.{tallyTo, stands, standTo, stands-by, one-by, stand-next, tally-next, stand-none, tally-none, by-tally, by-one}
 use Rattle.report_items.proofs.given.agrees.Statement.{statement}
@@ -19,13 +19,13 @@ abbrev told : List Bool → List ℕ → ℕ → Item
 told there values = itemTold (record { there = there; values = values })
 
 abbrev Inv-loop : tie.InvT-loop
-Inv-loop report there values count₀ n₀ count n =
+Inv-loop report size there values count₀ n₀ count n =
     (count + n ≤ 36)
     × (standTo n report (told there values) ≡ standTo 36 report (told there values))
     × (count + tallyTo n (told there values) ≡ tallyTo 36 (told there values))
 
 abbrev μ-loop : tie.MeasureT-loop
-μ-loop report there values count₀ n₀ count n = n
+μ-loop report size there values count₀ n₀ count n = n
 
 loop-holds : tie.Need-loop-holds Inv-loop μ-loop
 loop-holds c = (omega arith, refl, omega arith)
@@ -97,16 +97,14 @@ returns c =
     let h : 0 < l .n = omega arith in
     sym (by-one (a .report) (itemTold (a .told)) (sym (l .inv .1) ∙ stand-next (a .report) (itemTold (a .told)) (l .n) h ∙ passed _ _ (sym (test t) ∙ c .if1 .left)))
 
-size-of-requires : tie.Need-size-of-requires Inv-loop μ-loop
-size-of-requires c κs = search needs
-
 returns-2 : tie.Need-returns-2 Inv-loop μ-loop
 returns-2 c =
-    let l = c .before .before .loop in
-    let a = c .before .before .before .before .before .args in
+    let l = c .before .loop in
+    let a = c .before .before .before .before .args in
     let z : l .n ≡ 0 = omega arith in
+    let s : length (itemsOf (a .report)) ≡ a .size = search needs in
     let m : l .count ≡ tallyTo 36 (itemTold (a .told)) = omega (arith, l .inv .2, tally-none (a .report) (itemTold (a .told)) (l .n) z) in
-    ap (eqb (l .count)) (c .size-of .ensures)
+    ap (eqb (l .count)) (sym s)
     ∙ by-tally (a .report) (itemTold (a .told)) (l .count) (sym (l .inv .1) ∙ stand-none (a .report) (itemTold (a .told)) (l .n) z) m
 
 pub agrees-spec : {M : Type 1} → statement M
@@ -128,5 +126,4 @@ agrees-spec =
     loop-less
     loop-again
     returns
-    size-of-requires
     returns-2)

@@ -1,6 +1,5 @@
 -- `report_items::given::altitude_of` meets its contract: sixteen bits hold it, or it counts as 0. Assumes nothing.
 use mathlib.Core.Path.{sym}
-use native.Mathlib.Omega.{arith}
 use mir.Syntax.{w16}
 use mir.Facts.{toZ-pos}
 use Rattle.report_items.proofs.Signed.{low, high, out, minus-fits, minus-is}

@@ -1,5 +1,5 @@
 -- `report_items::given::plain_given` meets its contract. Assumes nothing.
-use mathlib.Core.Path.{ap, sym, _∙_}
+use mathlib.Core.Path.{ap, _∙_}
 use mir.Syntax.{w16}
 use mir.Facts.{toZ-ofZ}
 use Rattle.reports.specs.declared.Height.the-variants.{Altitude}
