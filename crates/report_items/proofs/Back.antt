@@ -2,10 +2,10 @@
 use mathlib.Core.Path.{_≡_, refl, ap, sym, _∙_}
 use mathlib.Core.Bool.{Bool, true, false}
 use mathlib.Core.List.{List, [], _∷_}
-use Prim.Native.Nat.{ℕ, zero, suc, _+_, _-_, _*_, _/_, _%_, _^_, _≤_, _<_}
+use Prim.Native.Nat.{ℕ, zero, suc, _-_, _/_, _%_, _≤_, _<_}
 use native.Mathlib.Nat.{mod-eq-of-lt}
 use native.Mathlib.Omega.{arith}
-use borrow.Author.Tests.{lt-ltb, le-ltb, ltb-true, ltb-false, leb-true}
+use borrow.Author.Tests.{ltb-true, ltb-false, leb-true}
 use lib.Dec.{eqb, leb, ltb, lit<, lit≤}
 use lib.IntN.{ℤ, pos, negsuc, natAbs}
 use lib.ListN.{getD}
@@ -27,15 +27,14 @@ use Rattle.reports.specs.declared.Mtd.{Mtd}
 use Rattle.reports.specs.declared.Rdas.{Rdas}
 use Rattle.reports.specs.declared.Report.{Report}
 use Rattle.reports.specs.declared.Report.the-variants as R
-use Rattle.reports.specs.Altitude.{signMagnitude, negative}
+use Rattle.reports.specs.Altitude.{signMagnitude}
 use Rattle.reports.specs.Kinds.{kindOf, kindNumber, dabsKind, atcrbsKind}
 use Rattle.words.specs.Layout.{Field, fittingAll, fittingBy}
 use Rattle.reports.specs.Layouts.{Fits, layoutOf, lastWord}
-use Rattle.report_items.specs.declared.items.Item.{Item}
 use Rattle.report_items.specs.declared.items.Item.the-variants as I
 use Rattle.report_items.specs.Items.{heightItems, lookup, itemOf}
 use Rattle.report_items.specs.Given.{asSigned, itemFrom, told, valuesIn, plainGiven, cdGiven, mtdHeightGiven, rdasHeightGiven, dabsGiven, atcrbsGiven, built, builtFrom}
-use Rattle.report_items.proofs.Signed.{low, high, out}
+use Rattle.report_items.proofs.Signed.{low, high}
 
 -- ---- one value
 

@@ -8,20 +8,19 @@ use native.Mathlib.Omega.{arith}
 use native.Mathlib.Decide.{decLt}
 use borrow.Author.Tests.{eq-eqb, eqb-true}
 use lib.Dec.{eqb}
-use lib.IntN.{ℤ, pos, negsuc}
+use lib.IntN.{pos, negsuc}
 use lib.ListN.{length}
 use Rattle.words.specs.Tests.{pick}
 use Rattle.words.proofs.Tests.{picked, passed, by-test}
 use Rattle.pairs.specs.Pairs.{Pair, pairsIn, findIn, isFound}
 use Rattle.reports.specs.declared.Report.{Report}
-use Rattle.reports.specs.declared.Report.the-variants as R
 use Rattle.reports.specs.Altitude.{signMagnitude}
 use Rattle.reports.specs.Kinds.{kindOf, kindNumber, dabsKind, atcrbsKind}
 use Rattle.reports.specs.Layouts.{Fits}
 use Rattle.report_items.specs.declared.items.Item.{Item}
 use Rattle.report_items.specs.declared.items.Item.the-variants as I
 use Rattle.report_items.specs.Items.{itemsOf, itemOf}
-use Rattle.report_items.specs.Given.{told, valuesIn, plainGiven, built, builtFrom, sameNumber, sameItem, agreeTo, agree, givenBy, given, unfit}
+use Rattle.report_items.specs.Given.{told, valuesIn, plainGiven, built, builtFrom, sameItem, agreeTo, agree, givenBy, given, unfit}
 use Rattle.report_items.specs.Claims.{ItemsOf, GivenExactly, NoneIsTaken}
 use Rattle.report_items.proofs.Back.{both, back}
 

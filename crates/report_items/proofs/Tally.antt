@@ -1,6 +1,6 @@
 -- Items that a report has as they are told, and that are as many as it has, are all that it has. Assumes nothing.
 use Prim.Native.Nat.{ℕ, zero, suc, _+_, _-_, _^_, _≤_, _<_}
-use mathlib.Core.Path.{_≡_, refl, sym, ap, _∙_}
+use mathlib.Core.Path.{_≡_, refl, sym, _∙_}
 use mathlib.Core.Bool.{Bool, true, false}
 use native.Mathlib.Omega.{arith}
 use lib.Dec.{eqb}
@@ -16,7 +16,7 @@ use Rattle.reports.specs.declared.Report.{Report}
 use Rattle.reports.specs.declared.Report.the-variants as R
 use Rattle.report_items.specs.declared.items.Item.{Item}
 use Rattle.report_items.specs.declared.items.Item.the-variants as I
-use Rattle.report_items.specs.Items.{heightItems, itemsOf, itemOf, isOf}
+use Rattle.report_items.specs.Items.{itemsOf, itemOf, isOf}
 use Rattle.report_items.specs.Given.{asSigned, itemTold, sameItem, agreeTo}
 use Rattle.report_items.proofs.Back.{both}
 

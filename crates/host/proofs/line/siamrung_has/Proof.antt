@@ -4,7 +4,6 @@ use Rattle.lines.specs.declared.Outcome.{Outcome}
 use Rattle.report_items.specs.Items.{isOf}
 use Rattle.host.specs.Line.{itemAt}
 use borrow.Author.Needs.{needs}
-use borrow.Author.Tests.{eq-eqb, ne-eqb, lt-ltb, le-ltb}
 use Rattle.host.proofs.line.siamrung_has.Statement.{statement}
 use Rattle.host.proofs.line.siamrung_has.Tie as tie
 

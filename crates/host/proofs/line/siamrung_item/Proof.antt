@@ -6,7 +6,6 @@ use Rattle.lines.specs.declared.Outcome.{Outcome}
 use Rattle.report_items.specs.Items.{valueOf}
 use Rattle.host.specs.Line.{itemAt}
 use borrow.Author.Needs.{needs}
-use borrow.Author.Tests.{eq-eqb, ne-eqb, lt-ltb, le-ltb}
 use Rattle.host.proofs.line.siamrung_item.Statement.{statement}
 use Rattle.host.proofs.line.siamrung_item.Tie as tie
 

@@ -3,7 +3,7 @@ use mathlib.Core.Path.{ap, _∙_}
 use mir.Facts.{toZ-ofZ}
 use Rattle.report_items.specs.declared.items.Item.the-variants.{Of}
 use borrow.Author.Needs.{needs}
-use borrow.Author.Tests.{eq-eqb, ne-eqb, lt-ltb, le-ltb}
+use borrow.Author.Tests.{ne-eqb}
 use Rattle.report_items.proofs.items.altitude_item.Statement.{statement}
 use Rattle.report_items.proofs.items.altitude_item.Tie as tie
 

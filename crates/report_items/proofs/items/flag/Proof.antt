@@ -1,6 +1,4 @@
 -- `report_items::items::flag` meets its contract. Assumes nothing.
-use borrow.Author.Needs.{needs}
-use borrow.Author.Tests.{eq-eqb, ne-eqb, lt-ltb, le-ltb}
 use Rattle.report_items.proofs.items.flag.Statement.{statement}
 use Rattle.report_items.proofs.items.flag.Tie as tie
 

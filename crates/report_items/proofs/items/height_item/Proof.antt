@@ -9,7 +9,6 @@ use Rattle.reports.specs.declared.Height.the-variants.{Altitude}
 use Rattle.report_items.specs.declared.items.Item.{Item}
 use Rattle.report_items.specs.Items.{lookup, heightItems}
 use borrow.Author.Needs.{needs}
-use borrow.Author.Tests.{eq-eqb, ne-eqb, lt-ltb, le-ltb}
 use Rattle.report_items.proofs.items.height_item.Statement.{statement}
 use Rattle.report_items.proofs.items.height_item.Tie as tie
 

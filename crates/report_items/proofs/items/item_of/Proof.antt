@@ -3,7 +3,6 @@ use mathlib.Core.Path.{ap, sym, _∙_}
 use Rattle.reports.specs.declared.Report.{Report}
 use Rattle.report_items.specs.Items.{itemOf}
 use borrow.Author.Needs.{needs}
-use borrow.Author.Tests.{eq-eqb, ne-eqb, lt-ltb, le-ltb}
 use Rattle.report_items.proofs.items.item_of.Statement.{statement}
 use Rattle.report_items.proofs.items.item_of.Tie as tie
 

@@ -6,8 +6,6 @@ use mir.Facts.{toZ-ofZ, sfits-toZ, fits-ofZ}
 use mir.Syntax.{w16, w64}
 use mir.Val.{SFits}
 use Rattle.report_items.specs.declared.items.Item.the-variants.{Of}
-use borrow.Author.Needs.{needs}
-use borrow.Author.Tests.{eq-eqb, ne-eqb, lt-ltb, le-ltb}
 use Rattle.report_items.proofs.items.signed.Statement.{statement}
 use Rattle.report_items.proofs.items.signed.Tie as tie
 
