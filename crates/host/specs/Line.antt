@@ -1,15 +1,14 @@
 -- What each call that reads a line answers, from the outcome at the place. The numbers of kinds are those of reports; these of what is no
 -- report are ours. Definitions only.
 use Prim.Native.Nat.{ℕ}
-use lib.IntN.{ℤ, pos}
 use Rattle.refusals.specs.Numbers.{lineNumber}
 use Rattle.reports.specs.Kinds.{kindOf, kindNumber}
 use Rattle.reports.specs.Values.{Counted, counts, none, countedOf}
 use Rattle.lines.specs.declared.What.{What}
 use Rattle.lines.specs.declared.What.the-variants as W
-use Rattle.host.specs.declared.items.Item.{Item}
-use Rattle.host.specs.declared.items.Item.the-variants as I
-use Rattle.host.specs.Items.{itemOf}
+use Rattle.report_items.specs.declared.items.Item.{Item}
+use Rattle.report_items.specs.declared.items.Item.the-variants as I
+use Rattle.report_items.specs.Items.{itemOf}
 
 abbrev pub version : ℕ
 version = 2
@@ -38,14 +37,6 @@ abbrev pub itemAt : What → ℕ → Item
 itemAt (W.Accepted r) n = itemOf r n
 itemAt (W.Refused q) n = I.Missing
 itemAt W.End n = I.Missing
-
-abbrev pub isOf : Item → ℕ
-isOf (I.Of z) = 1
-isOf I.Missing = 0
-
-abbrev pub valueOf : Item → ℤ
-valueOf (I.Of z) = z
-valueOf I.Missing = pos 0
 
 -- ---- the values, in 1024ths of a nmi, of a degree and of a second; 0 where there are none
 

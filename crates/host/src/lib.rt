@@ -1,6 +1,4 @@
 // The calls of a C program (document 01, "The C host and the lister"): numbers and byte slices in, one number out. include/siamrung.h says
 // what each means to the caller; a call keeps nothing, and reading writes nothing.
-pub mod given; // given.rt: the report that a kind and items stand for
-pub mod items; // items.rt: the fields of a report, by number
 pub mod line; // line.rt: the calls that read a line
 pub mod write; // write.rt: the calls that write a report into a line

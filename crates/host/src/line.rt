@@ -1,16 +1,17 @@
 // The calls that read a line lent as bytes, two a word, high byte first, at a place counted in words. Each answers one thing about the run
 // at or behind the place, and reads that run and no more. Any bytes and any place are taken.
-// Relies on lines for the outcome, items for the fields, reports for kinds and values.
+// Relies on line_reader for the outcome, report_items for the fields, reports for kinds and values.
 ghost use mathlib.Core.Path.{_≡_};
 ghost use Rattle.measures.specs.Exact.{Exact};
 ghost use Rattle.lines.specs.Bytes.{readBytes};
 ghost use Rattle.reports.specs.Altitude.{signMagnitude};
 ghost use Rattle.reports.specs.Values.{Yields};
-ghost use Rattle.host.specs.Line.{version, kindNumberOf, refusalOf, itemAt, isOf, valueOf, countedAt, has, rangeOf, azimuthOf, timeOf};
-use crate::items;
-use crate::items::Item;
+ghost use Rattle.report_items.specs.Items.{isOf, valueOf};
+ghost use Rattle.host.specs.Line.{version, kindNumberOf, refusalOf, itemAt, countedAt, has, rangeOf, azimuthOf, timeOf};
 use lines::What;
 use measures::Time;
+use report_items::items;
+use report_items::items::Item;
 use reports::kinds;
 use reports::values;
 use reports::values::Values;
@@ -49,7 +50,7 @@ fn refusal_number(what: What) -> u32
 pub extern "C" fn siamrung_kind(bytes: &[u8], place: usize) -> u32
     ensures { λ r. ⌜ r ≡ kindNumberOf (readBytes signMagnitude (now (bytes .entry)) place .what) ⌝ }
 {
-    let o = lines::bytes::read(bytes, place);
+    let o = line_reader::bytes::read(bytes, place);
     let what = o.what;
     kind_number(what)
 }
@@ -58,7 +59,7 @@ pub extern "C" fn siamrung_kind(bytes: &[u8], place: usize) -> u32
 pub extern "C" fn siamrung_refusal(bytes: &[u8], place: usize) -> u32
     ensures { λ r. ⌜ r ≡ refusalOf (readBytes signMagnitude (now (bytes .entry)) place .what) ⌝ }
 {
-    let o = lines::bytes::read(bytes, place);
+    let o = line_reader::bytes::read(bytes, place);
     let what = o.what;
     refusal_number(what)
 }
@@ -67,7 +68,7 @@ pub extern "C" fn siamrung_refusal(bytes: &[u8], place: usize) -> u32
 pub extern "C" fn siamrung_first(bytes: &[u8], place: usize) -> usize
     ensures { λ r. ⌜ r ≡ readBytes signMagnitude (now (bytes .entry)) place .first ⌝ }
 {
-    let o = lines::bytes::read(bytes, place);
+    let o = line_reader::bytes::read(bytes, place);
     o.first
 }
 
@@ -75,7 +76,7 @@ pub extern "C" fn siamrung_first(bytes: &[u8], place: usize) -> usize
 pub extern "C" fn siamrung_after(bytes: &[u8], place: usize) -> usize
     ensures { λ r. ⌜ r ≡ readBytes signMagnitude (now (bytes .entry)) place .after ⌝ }
 {
-    let o = lines::bytes::read(bytes, place);
+    let o = line_reader::bytes::read(bytes, place);
     o.after
 }
 
@@ -83,7 +84,7 @@ pub extern "C" fn siamrung_after(bytes: &[u8], place: usize) -> usize
 pub extern "C" fn siamrung_named(bytes: &[u8], place: usize) -> usize
     ensures { λ r. ⌜ r ≡ readBytes signMagnitude (now (bytes .entry)) place .named ⌝ }
 {
-    let o = lines::bytes::read(bytes, place);
+    let o = line_reader::bytes::read(bytes, place);
     o.named
 }
 
@@ -103,7 +104,7 @@ fn item_in(what: What, item: u32) -> Item
 pub extern "C" fn siamrung_has(bytes: &[u8], place: usize, item: u32) -> u32
     ensures { λ r. ⌜ r ≡ isOf (itemAt (readBytes signMagnitude (now (bytes .entry)) place .what) item) ⌝ }
 {
-    let o = lines::bytes::read(bytes, place);
+    let o = line_reader::bytes::read(bytes, place);
     let what = o.what;
     let found = item_in(what, item);
     match found {
@@ -117,7 +118,7 @@ pub extern "C" fn siamrung_has(bytes: &[u8], place: usize, item: u32) -> u32
 pub extern "C" fn siamrung_item(bytes: &[u8], place: usize, item: u32) -> i64
     ensures { λ r. ⌜ r ≡ valueOf (itemAt (readBytes signMagnitude (now (bytes .entry)) place .what) item) ⌝ }
 {
-    let o = lines::bytes::read(bytes, place);
+    let o = line_reader::bytes::read(bytes, place);
     let what = o.what;
     let found = item_in(what, item);
     match found {
@@ -149,7 +150,7 @@ fn nothing() -> f64
 pub extern "C" fn siamrung_has_values(bytes: &[u8], place: usize) -> u32
     ensures { λ r. ⌜ r ≡ has (countedAt (readBytes signMagnitude (now (bytes .entry)) place .what)) ⌝ }
 {
-    let o = lines::bytes::read(bytes, place);
+    let o = line_reader::bytes::read(bytes, place);
     let what = o.what;
     let found = values_in(what);
     match found {
@@ -163,7 +164,7 @@ pub extern "C" fn siamrung_has_values(bytes: &[u8], place: usize) -> u32
 pub extern "C" fn siamrung_nmi(bytes: &[u8], place: usize) -> f64
     ensures { λ r. ⌜ Exact (rangeOf (countedAt (readBytes signMagnitude (now (bytes .entry)) place .what))) r ⌝ }
 {
-    let o = lines::bytes::read(bytes, place);
+    let o = line_reader::bytes::read(bytes, place);
     let what = o.what;
     let found = values_in(what);
     match found {
@@ -176,7 +177,7 @@ pub extern "C" fn siamrung_nmi(bytes: &[u8], place: usize) -> f64
 pub extern "C" fn siamrung_degrees(bytes: &[u8], place: usize) -> f64
     ensures { λ r. ⌜ Exact (azimuthOf (countedAt (readBytes signMagnitude (now (bytes .entry)) place .what))) r ⌝ }
 {
-    let o = lines::bytes::read(bytes, place);
+    let o = line_reader::bytes::read(bytes, place);
     let what = o.what;
     let found = values_in(what);
     match found {
@@ -189,7 +190,7 @@ pub extern "C" fn siamrung_degrees(bytes: &[u8], place: usize) -> f64
 pub extern "C" fn siamrung_seconds(bytes: &[u8], place: usize) -> f64
     ensures { λ r. ⌜ Exact (timeOf (countedAt (readBytes signMagnitude (now (bytes .entry)) place .what))) r ⌝ }
 {
-    let o = lines::bytes::read(bytes, place);
+    let o = line_reader::bytes::read(bytes, place);
     let what = o.what;
     let found = values_in(what);
     match found {

@@ -1,14 +1,13 @@
 // The calls that write a report into a line lent as bytes. The report is given by its kind's number and its items, sixteen bytes an item.
 // Any bytes, any place, any kind and any items are taken: what is no record is refused with number 11.
-// Relies on given for the report, lines for the writer, refusals for numbers.
+// Relies on report_items for the report, line_writer for the writer, refusals for numbers.
 ghost use mathlib.Core.Path.{_≡_};
 ghost use Rattle.lines.specs.ByteWriting.{writeBytes};
 ghost use Rattle.reports.specs.Altitude.{signMagnitude};
-ghost use Rattle.host.specs.Given.{given};
+ghost use Rattle.report_items.specs.Given.{given};
 ghost use Rattle.host.specs.Write.{writeRefusal, Writes};
-use crate::given;
 use lines::Wrote;
-use lines::byte_writer;
+use report_items::given;
 
 // Refused, the place given; siamrung_write_refusal tells.
 #[no_mangle]
@@ -16,7 +15,7 @@ pub extern "C" fn siamrung_write(bytes: &mut [u8], place: usize, kind: u32, item
     ensures { λ r. ⌜ Writes (now (bytes .entry)) place (given kind (now (items .entry))) r (now (bytes .exit)) ⌝ }
 {
     let report = given::given(kind, items);
-    let wrote = byte_writer::write(bytes, place, report);
+    let wrote = line_writer::bytes::write(bytes, place, report);
     match wrote {
         Wrote::Next(next) => next,
         Wrote::Refused(_, _) => place,
@@ -28,7 +27,7 @@ pub extern "C" fn siamrung_write_refusal(bytes: &[u8], place: usize, kind: u32, 
     ensures { λ r. ⌜ r ≡ writeRefusal (writeBytes signMagnitude (now (bytes .entry)) place (given kind (now (items .entry)))) ⌝ }
 {
     let report = given::given(kind, items);
-    let answer = byte_writer::answer(bytes, place, report);
+    let answer = line_writer::bytes::answer(bytes, place, report);
     match answer {
         Wrote::Next(_) => 0,
         Wrote::Refused(why, _) => why.number() as u32,

@@ -3,7 +3,6 @@ use mathlib.Core.Path.{ap, sym, _∙_}
 use Rattle.lines.specs.declared.What.{What}
 use Rattle.host.specs.Line.{itemAt}
 use borrow.Author.Needs.{needs}
-use borrow.Author.Tests.{eq-eqb, ne-eqb, lt-ltb, le-ltb}
 use Rattle.host.proofs.line.item_in.Statement.{statement}
 use Rattle.host.proofs.line.item_in.Tie as tie
 

@@ -3,7 +3,6 @@ use mathlib.Core.Path.{ap, sym, _∙_}
 use Rattle.reports.specs.Kinds.{kindNumber}
 use Rattle.host.specs.Line.{kindNumberOf}
 use borrow.Author.Needs.{needs}
-use borrow.Author.Tests.{eq-eqb, ne-eqb, lt-ltb, le-ltb}
 use Rattle.host.proofs.line.kind_number.Statement.{statement}
 use Rattle.host.proofs.line.kind_number.Tie as tie
 

@@ -1,9 +1,9 @@
 -- `host::line::siamrung_has` meets its contract, by the reader's. Assumes nothing.
 use mathlib.Core.Path.{ap, sym, _∙_}
 use Rattle.lines.specs.declared.Outcome.{Outcome}
-use Rattle.host.specs.Line.{itemAt, isOf}
+use Rattle.report_items.specs.Items.{isOf}
+use Rattle.host.specs.Line.{itemAt}
 use borrow.Author.Needs.{needs}
-use borrow.Author.Tests.{eq-eqb, ne-eqb, lt-ltb, le-ltb}
 use Rattle.host.proofs.line.siamrung_has.Statement.{statement}
 use Rattle.host.proofs.line.siamrung_has.Tie as tie
 

@@ -3,9 +3,9 @@ use mir.Facts.{toZ-ofZ}
 use mir.Syntax.{w64}
 use mathlib.Core.Path.{ap, sym, _∙_}
 use Rattle.lines.specs.declared.Outcome.{Outcome}
-use Rattle.host.specs.Line.{itemAt, valueOf}
+use Rattle.report_items.specs.Items.{valueOf}
+use Rattle.host.specs.Line.{itemAt}
 use borrow.Author.Needs.{needs}
-use borrow.Author.Tests.{eq-eqb, ne-eqb, lt-ltb, le-ltb}
 use Rattle.host.proofs.line.siamrung_item.Statement.{statement}
 use Rattle.host.proofs.line.siamrung_item.Tie as tie
 

@@ -3,7 +3,6 @@ use mathlib.Core.Path.{ap, _∙_}
 use Rattle.lines.specs.declared.Outcome.{Outcome}
 use Rattle.host.specs.Line.{kindNumberOf}
 use borrow.Author.Needs.{needs}
-use borrow.Author.Tests.{eq-eqb, ne-eqb, lt-ltb, le-ltb}
 use Rattle.host.proofs.line.siamrung_kind.Statement.{statement}
 use Rattle.host.proofs.line.siamrung_kind.Tie as tie
 

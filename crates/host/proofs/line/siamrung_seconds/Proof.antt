@@ -1,9 +1,8 @@
 -- `host::line::siamrung_seconds` meets its contract: the values are those of the outcome. Assumes nothing.
-use mathlib.Core.Path.{_≡_, refl, sym, ap, _∙_}
-use Rattle.host.specs.Line.{countedAt, has, rangeOf, azimuthOf, timeOf}
+use mathlib.Core.Path.{refl}
+use Rattle.host.specs.Line.{timeOf}
 use Rattle.host.proofs.Values.{measured-at, nothing-at, zero-exact}
 use borrow.Author.Needs.{needs}
-use borrow.Author.Tests.{eq-eqb, ne-eqb, lt-ltb, le-ltb}
 use Rattle.host.proofs.line.siamrung_seconds.Statement.{statement}
 use Rattle.host.proofs.line.siamrung_seconds.Tie as tie
 

@@ -1,8 +1,6 @@
 -- `host::line::values_in` meets its contract, arm by arm. Assumes nothing.
-use mathlib.Core.Path.{_≡_}
 use Rattle.host.proofs.Values.{yields-of}
 use borrow.Author.Needs.{needs}
-use borrow.Author.Tests.{eq-eqb, ne-eqb, lt-ltb, le-ltb}
 use Rattle.host.proofs.line.values_in.Statement.{statement}
 use Rattle.host.proofs.line.values_in.Tie as tie
 

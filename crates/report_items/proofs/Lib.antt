@@ -1,0 +1,5 @@
+pub mod Signed
+pub mod Builds
+pub mod Tally
+pub mod Back
+pub mod Claims

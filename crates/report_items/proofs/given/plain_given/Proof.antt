@@ -1,0 +1,38 @@
+-- `report_items::given::plain_given` meets its contract. Assumes nothing.
+use mathlib.Core.Path.{ap, _∙_}
+use mir.Syntax.{w16}
+use mir.Facts.{toZ-ofZ}
+use Rattle.reports.specs.declared.Height.the-variants.{Altitude}
+use borrow.Author.Needs.{needs}
+use Rattle.report_items.proofs.given.plain_given.Statement.{statement}
+use Rattle.report_items.proofs.given.plain_given.Tie as tie
+
+array-read-altitude-of : tie.Need-array-read-altitude-of
+array-read-altitude-of c = search needs
+
+altitude-of-requires : tie.Need-altitude-of-requires
+altitude-of-requires c κs = search needs
+
+array-read-t12 : tie.Need-array-read-t12
+array-read-t12 c = search needs
+
+cast-t14 : tie.Need-cast-t14
+cast-t14 c = search needs
+
+returns : tie.Need-returns
+returns c =
+    rw (c .before .if1 .taken) (ap Altitude (toZ-ofZ {w = w16} {z = c .altitude-of .result} (search needs) ∙ c .altitude-of .ensures))
+
+returns-2 : tie.Need-returns-2
+returns-2 c = rw (c .if1 .left) (search needs)
+
+pub plain-given-spec : {M : Type 1} → statement M
+plain-given-spec =
+    tie.close
+    (tie.spec
+    array-read-altitude-of
+    altitude-of-requires
+    array-read-t12
+    cast-t14
+    returns
+    returns-2)

@@ -1,0 +1,20 @@
+-- `report_items::items::altitude_item` meets its contract: an arm's item is its key. Assumes nothing.
+use mathlib.Core.Path.{ap, _∙_}
+use mir.Facts.{toZ-ofZ}
+use Rattle.report_items.specs.declared.items.Item.the-variants.{Of}
+use borrow.Author.Needs.{needs}
+use borrow.Author.Tests.{ne-eqb}
+use Rattle.report_items.proofs.items.altitude_item.Statement.{statement}
+use Rattle.report_items.proofs.items.altitude_item.Tie as tie
+
+signed-requires : tie.Need-signed-requires
+signed-requires c κs = search needs
+
+returns : tie.Need-returns
+returns c = rw (c .before .match .keys1) (c .signed .ensures ∙ ap Of (toZ-ofZ (c .before .before .fits .z)))
+
+returns-2 : tie.Need-returns-2
+returns-2 c = search (needs, ne-eqb)
+
+pub altitude-item-spec : {M : Type 1} → statement M
+altitude-item-spec = tie.close (tie.spec signed-requires returns returns-2)

@@ -1,0 +1,22 @@
+-- `report_items::items::carried_item` meets its contract: an arm's item is its key. Assumes nothing.
+use borrow.Author.Needs.{needs}
+use borrow.Author.Tests.{ne-eqb}
+use Rattle.report_items.proofs.items.carried_item.Statement.{statement}
+use Rattle.report_items.proofs.items.carried_item.Tie as tie
+
+count-requires : tie.Need-count-requires
+count-requires c κs = search needs
+
+returns : tie.Need-returns
+returns c = rw (c .before .match .keys1) (c .count .ensures)
+
+returns-2 : tie.Need-returns-2
+returns-2 c = search (needs, ne-eqb)
+
+pub carried-item-spec : {M : Type 1} → statement M
+carried-item-spec =
+    tie.close
+    (tie.spec
+    count-requires
+    returns
+    returns-2)

@@ -1,0 +1,18 @@
+-- `report_items::items::small` meets its contract: a count fits a signed number of 64 bits. Assumes nothing.
+use mathlib.Core.Path.{ap}
+use native.Mathlib.Omega.{arith}
+use mir.Facts.{toZ-pos}
+use mir.Syntax.{w64}
+use Rattle.report_items.specs.declared.items.Item.the-variants.{Of}
+use borrow.Author.Needs.{needs}
+use Rattle.report_items.proofs.items.small.Statement.{statement}
+use Rattle.report_items.proofs.items.small.Tie as tie
+
+cast-t2 : tie.Need-cast-t2
+cast-t2 c = search needs
+
+returns : tie.Need-returns
+returns c = ap Of (toZ-pos w64 (omega arith))
+
+pub small-spec : {M : Type 1} → statement M
+small-spec = tie.close (tie.spec cast-t2 returns)
