@@ -142,12 +142,14 @@ fn row_read(b: &[u8], count: usize, before: usize, way: Direction, code: u64, i:
     if !same_way(its, way) {
         return Plain::Refused(FieldRefusal::WrongDirection);
     }
-    if not_relayed(row.code, before) {
-        return Plain::Refused(FieldRefusal::NotRelayed);
-    }
     let widths = table::widths_at(i);
     let v = parts::values(b, before, code, widths);
-    if !is_sized(count, before, row, v) {
+    let relayed = not_relayed(row.code, before);
+    let sized = is_sized(count, before, row, v);
+    if relayed {
+        return Plain::Refused(FieldRefusal::NotRelayed);
+    }
+    if !sized {
         return Plain::Refused(FieldRefusal::WrongBitCount);
     }
     judged(b, before, i, row, &widths, v)
