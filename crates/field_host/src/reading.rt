@@ -1,6 +1,6 @@
 // The calls that read a link data field: its bytes, its count of bits, and which way it travels: 0 to the sensor, any other number from it.
 // Each answers one thing about it. Any bytes, any count and any number are taken.
-// Relies on fields for the answer, items for the parts; specs/Reading.antt says what each call answers.
+// Relies on field_reader for the answer, items for the parts; specs/Reading.antt says what each call answers.
 ghost use mathlib.Core.Path.{_≡_};
 ghost use Prim.Native.Nat.{_-_};
 ghost use lib.IntN.{pos};
@@ -27,7 +27,7 @@ fn way(from_sensor: u32) -> Direction
 fn answer(bytes: &[u8], count: usize, from_sensor: u32) -> Answer
     ensures { λ r. ⌜ r ≡ answerOf (now (bytes .entry)) count (wayOf «from_sensor») ⌝ }
 {
-    fields::reading::judge(bytes, count, way(from_sensor))
+    field_reader::reading::judge(bytes, count, way(from_sensor))
 }
 
 // ---- what the field is
@@ -36,7 +36,7 @@ fn answer(bytes: &[u8], count: usize, from_sensor: u32) -> Answer
 pub extern "C" fn siamrung_field_refusal(bytes: &[u8], count: usize, from_sensor: u32) -> u32
     ensures { λ r. ⌜ r ≡ answerNumber (answerOf (now (bytes .entry)) count (wayOf «from_sensor»)) ⌝ }
 {
-    fields::reading::number(answer(bytes, count, from_sensor)) as u32
+    field_reader::reading::number(answer(bytes, count, from_sensor)) as u32
 }
 
 fn outer(r: Record) -> u32
@@ -172,7 +172,7 @@ pub extern "C" fn siamrung_field_entry(
 ) -> i64
     ensures { λ r. ⌜ r ≡ getD (readField (now (bytes .entry)) count (wayOf «from_sensor») .list) index (pos 0) ⌝ }
 {
-    let found = fields::reading::read(bytes, count, way(from_sensor));
+    let found = field_reader::reading::read(bytes, count, way(from_sensor));
     let list = found.list;
     entry(list, index)
 }
@@ -183,7 +183,7 @@ pub extern "C" fn siamrung_field_entry(
 pub extern "C" fn siamrung_field_text_length(bytes: &[u8], count: usize, from_sensor: u32) -> usize
     ensures { λ r. ⌜ r ≡ length (textOf (now (bytes .entry)) count (wayOf «from_sensor»)) ⌝ }
 {
-    let t = fields::reading::text(bytes, count, way(from_sensor));
+    let t = field_reader::reading::text(bytes, count, way(from_sensor));
     t.len()
 }
 

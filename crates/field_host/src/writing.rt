@@ -1,7 +1,7 @@
 // The calls that write a link data field: a type, its items as pairs of numbers, a list of thirty numbers and a text, into lent bytes.
 // What the pairs tell is gathered once. The record is made of the items that its type has, by what is told of them; each of its items must be
 // told, and there must be as many pairs: so an item that is missing, foreign or given twice is found by one rule. What is no record becomes one that the writer refuses with 30.
-// Relies on fields for the writer, pairs for what is given, items for the parts; specs/Writing.antt says what each call answers and leaves.
+// Relies on field_writer for the writer, fields for the records, pairs for what is given, items for the parts; specs/Writing.antt says what each call answers and leaves.
 ghost use mathlib.Core.Path.{_≡_};
 ghost use Prim.Native.Nat.{_<_};
 ghost use mathlib.Core.Bool.{true, cond};
@@ -261,7 +261,7 @@ pub extern "C" fn siamrung_field_write(
 {
     let r = record_of(code, told, list);
     let l = list_given(list);
-    bits_of(fields::writing::write(bytes, r, l, text))
+    bits_of(field_writer::writing::write(bytes, r, l, text))
 }
 
 // Why the same call of siamrung_field_write is refused; 0 where it is not. Writes nothing.
@@ -277,5 +277,5 @@ pub extern "C" fn siamrung_field_write_refusal(
 {
     let r = record_of(code, told, list);
     let l = list_given(list);
-    fields::writing::number(fields::writing::answer(bytes, r, l, text)) as u32
+    field_writer::writing::number(field_writer::writing::answer(bytes, r, l, text)) as u32
 }

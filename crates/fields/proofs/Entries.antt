@@ -1,19 +1,10 @@
--- Laws of a list's entries: the next of them.
+-- Laws of a list's entries: the next of them, and how far they reach.
 -- Assumes nothing.
-use mathlib.Core.Path.{_≡_, refl, sym, ap, _∙_}
-use mathlib.Core.List.{List, [], _∷_, _++_}
-use mathlib.Core.Bool.{Bool, true, false, cond, _||_}
-use Prim.Native.Nat.{ℕ, zero, suc, _+_, _-_, _*_, _≤_, _<_, _^_}
-use native.Mathlib.Decide.{decLt}
+use mathlib.Core.Path.{_≡_, ap, _∙_}
+use Prim.Native.Nat.{ℕ, _+_, _-_, _*_, _≤_}
 use native.Mathlib.Nat.{mul-suc, le-trans, mul-le-mul-left, mul-le-mul-right, mul-zero}
 use native.Mathlib.Numerals.{add-one}
 use native.Mathlib.Omega.{arith}
-use lib.IntN.{ℤ, pos}
-use lib.ListN.{replicate}
-use borrow.Author.Tests.{lt-ltb, le-ltb}
-use Rattle.bits.specs.Bits.{bitsOf}
-use Rattle.fields.specs.Table.{valuesOf}
-use Rattle.fields.specs.Lists.{blockUnused, anyUnused, entriesIn, entryOf, entryAt}
 
 -- a product is bounded by its factors' bounds
 pub product : (a b m k : ℕ) → a ≤ m → b ≤ k → a * b ≤ m * k
@@ -23,55 +14,6 @@ product a b m k h l = le-trans (mul-le-mul-right b h) (mul-le-mul-left m l)
 pub next : (a step k : ℕ) → a + step * k + step ≡ a + step * (k + 1)
 next a step k = rw (add-one, mul-suc) (omega arith)
 
--- of n entries from k on: the one at k, and the rest
-pub values-step : (s : List ℕ) (a step n k : ℕ) → k < n →
-    valuesOf s (a + step * k) (replicate (n - k) step) ≡ bitsOf s (a + step * k) step ∷ valuesOf s (a + step * (k + 1)) (replicate (n - (k + 1)) step)
-unfolding valuesOf
-values-step s a step n k h =
-    let e : n - k ≡ suc (n - (k + 1)) = omega arith in
-    rw (e, next a step k) refl
-
-values-none : (s : List ℕ) (a step n k : ℕ) → n ≤ k → valuesOf s a (replicate (n - k) step) ≡ []
-unfolding valuesOf
-values-none s a step n k h =
-    let e : n - k ≡ 0 = omega arith in
-    rw e refl
-
-anyUnused-step : (s : List ℕ) (a n k : ℕ) → k < n →
-    anyUnused (valuesOf s (a + 8 * k) (replicate (n - k) 8)) ≡ (blockUnused (bitsOf s (a + 8 * k) 8) || anyUnused (valuesOf s (a + 8 * (k + 1)) (replicate (n - (k + 1)) 8)))
-unfolding anyUnused
-anyUnused-step s a n k h = rw (values-step s a 8 n k h) refl
-
-pub anyUnused-hit : (s : List ℕ) (a n k : ℕ) → k < n → blockUnused (bitsOf s (a + 8 * k) 8) ≡ true → anyUnused (valuesOf s (a + 8 * k) (replicate (n - k) 8)) ≡ true
-anyUnused-hit s a n k h u =
-    anyUnused-step s a n k h ∙ ap (λ (t : Bool). t || anyUnused (valuesOf s (a + 8 * (k + 1)) (replicate (n - (k + 1)) 8))) u
-
-pub anyUnused-miss : (s : List ℕ) (a n k : ℕ) → k < n → blockUnused (bitsOf s (a + 8 * k) 8) ≡ false →
-    anyUnused (valuesOf s (a + 8 * k) (replicate (n - k) 8)) ≡ anyUnused (valuesOf s (a + 8 * (k + 1)) (replicate (n - (k + 1)) 8))
-anyUnused-miss s a n k h u =
-    anyUnused-step s a n k h ∙ ap (λ (t : Bool). t || anyUnused (valuesOf s (a + 8 * (k + 1)) (replicate (n - (k + 1)) 8))) u
-
-pub anyUnused-none : (s : List ℕ) (a n k : ℕ) → n ≤ k → anyUnused (valuesOf s a (replicate (n - k) 8)) ≡ false
-unfolding anyUnused
-anyUnused-none s a n k h = rw (values-none s a 8 n k h) refl
-
 -- at the first entry nothing is left out
 pub from-first : {X : Type 0} (f : ℕ → ℕ → X) (a step n : ℕ) → f (a + step * 0) (n - 0) ≡ f a n
 from-first f a step n = ap (λ (x : ℕ). f x (n - 0)) (omega (arith, mul-zero step)) ∙ ap (λ (x : ℕ). f a x) (omega arith)
-
--- what is left of the list at entry k
-abbrev pub rest : List ℕ → ℕ → ℕ → ℕ → ℕ → List ℤ
-rest s a step n k = entriesIn step (30 - k) (valuesOf s (a + step * k) (replicate (n - k) step))
-
-pub rest-step : (s : List ℕ) (a step n k : ℕ) → k < 30 → rest s a step n k ≡ entryAt s a step n k ∷ rest s a step n (k + 1)
-unfolding entriesIn entryAt
-rest-step s a step n k h = go (decLt k n)
-  where
-    room : 30 - k ≡ suc (30 - (k + 1))
-    room = omega arith
-
-    go : Dec (k < n) → rest s a step n k ≡ entryAt s a step n k ∷ rest s a step n (k + 1)
-    go (yes l) = rw (room, values-step s a step n k l, lt-ltb k n l) refl
-    go (no l) =
-        rw (room, values-none s (a + step * k) step n k (omega arith), values-none s (a + step * (k + 1)) step n (k + 1) (omega arith), le-ltb k n (omega arith))
-        refl

@@ -4,7 +4,6 @@ use Prim.Native.Nat.{ℕ, zero, suc, _+_, _*_, _/_, _%_}
 use mathlib.Core.List.{List, [], _∷_}
 use mathlib.Core.Bool.{Bool, true, false, not, cond, _&&_, _||_}
 use lib.Dec.{eqb, leb, ltb}
-use Rattle.bits.specs.Bits.{bitsOf}
 use lib.IntN.{ℤ, pos, negsuc, negℤ, natAbs}
 
 -- ---- one entry
@@ -36,17 +35,9 @@ entryOf step x = cond (eqb step 8) (blockOf x) (pos x)
 unfoldable pub entryBits : ℕ → ℤ → ℕ
 entryBits step z = cond (eqb step 8) (blockBits z) (natAbs z)
 
--- entry k of n that begin behind the first a bits; zero from the count on
-unfoldable pub entryAt : List ℕ → ℕ → ℕ → ℕ → ℕ → ℤ
-entryAt s a step n k = cond (ltb k n) (entryOf step (bitsOf s (a + step * k) step)) (pos 0)
-
 -- the numbers that an entry of `step` bits can hold: -79 to 79, or those of 24 bits
 unfoldable pub entryFits : ℕ → ℤ → Bool
 entryFits step z = cond (eqb step 8) (ltb (natAbs z) 80) (not (negative z) && ltb (natAbs z) 16777216)
-
--- number k of a list of n: an entry, or zero from the count on
-unfoldable pub entryOk : ℕ → ℕ → ℕ → ℤ → Bool
-entryOk step n k z = cond (ltb k n) (entryFits step z) (eqb (natAbs z) 0)
 
 -- ---- lists of entries
 

@@ -1,11 +1,9 @@
-// Link data fields (document 01, "Link data fields"; document 004, 5.3): the records, the answers, and the calls that read and write them.
+// Link data fields (document 01, "Link data fields"; document 004, 5.3): the records, the answers, and what the reader and the writer share.
+// `field_reader` reads a field, `field_writer` writes one; what each answers is defined here, and the claims of both are proved here.
 // Relies on `bits` for the bits of lent bytes and on `refusals` for the names and numbers of what is refused.
-mod table; // the known types, their lengths, their parts, and the rules of the parts
-mod parts; // the parts of a field: their values, their faults, and what the counted ones say
+pub mod table; // the known types, their lengths, their parts, and the rules of the parts
+pub mod parts; // the parts of a field: their faults, and what the counted ones say
 pub mod records; // a record from the values of its parts, and back
-mod lists; // the entries of a list: altimeter blocks, addresses, identifiers
-pub mod reading; // a field's bytes to its record, list and text, or a refusal
-pub mod writing; // a record, its list and its text to a field's bytes, or a refusal
 
 use refusals::FieldRefusal;
 
@@ -147,18 +145,6 @@ pub enum Field {
         v1: u64,
         v2: u64,
     },
-}
-
-// Nothing is said against the bytes, or why they are refused.
-pub enum Passed {
-    Sound,
-    Refused(FieldRefusal),
-}
-
-// A field that is no relay, or why there is none.
-pub enum Plain {
-    Read(Field),
-    Refused(FieldRefusal),
 }
 
 // A relay's record is the sensor and the record of the field inside.

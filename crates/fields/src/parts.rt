@@ -1,38 +1,13 @@
-// The parts of a field by the table's widths and rules: their values, their faults, and what the counted ones say.
-// Relies on `bits` and the table; specs/Table.antt says what each function means.
+// The parts of a field by the table's rules: their faults, and what the counted ones say.
+// Relies on the table; specs/Table.antt says what each function means.
 ghost use mathlib.Core.Path.{_≡_};
 ghost use mathlib.Core.Bool.{_||_};
-ghost use Prim.Native.Nat.{ℕ, _≤_};
 ghost use lib.Dec.{eqb};
 ghost use lib.ListN.{length, getD};
-ghost use Rattle.bits.specs.Bits.{bitsOf};
-ghost use Rattle.fields.specs.Table.{valuesOf, hasFault, Quiet, countIn, RowSmall};
-ghost use Rattle.fields.specs.Reading.{listedBy};
+ghost use Rattle.fields.specs.Table.{hasFault, Quiet, countIn, RowSmall};
 use crate::Faults;
 use crate::Row;
 use crate::table;
-
-// The parts of a field that begins behind the first `before` bits, of which the first, its type, is known. Behind a part of no bits stands
-// none that has any.
-pub fn values(b: &[u8], before: usize, code: u64, widths: [u8; 11]) -> [u64; 11]
-    requires { ⌜ (before ≤ 4096) × (code ≡ bitsOf (now b) before (getD widths 0 0)) × ((k : ℕ) → getD widths k 0 ≤ 63) × ((k m : ℕ) → k ≤ m → getD widths k 0 ≡ 0 → getD widths m 0 ≡ 0) ⌝ }
-    ensures { λ r. ⌜ r ≡ valuesOf (now (b .entry)) before widths ⌝ }
-{
-    let mut v = [0u64; 11];
-    v[0] = code;
-    let mut at: usize = before + widths[0] as usize;
-    let mut i: usize = 1;
-    while i < 11 {
-        let w = widths[i] as usize;
-        if w == 0 {
-            return v;
-        }
-        v[i] = bits::read(b, at, w);
-        at += w;
-        i += 1;
-    }
-    v
-}
 
 fn either(a: bool, b: bool) -> bool
     ensures { λ r. ⌜ r ≡ (a || b) ⌝ }
@@ -53,10 +28,9 @@ fn noted(found: Faults, fault: u64) -> Faults
     }
 }
 
-// What is wrong with the parts, in one pass: both kinds of fault. Nothing is wrong from a part of no bits on.
+// What is wrong with the parts, in one pass: both kinds of fault. Where nothing is wrong from a part of no bits on, those behind it are not asked.
 pub fn faults(widths: &[u8; 11], rules: &[u8; 11], v: &[u64; 11]) -> Faults
-    requires { ⌜ (length (now rules) ≡ 11) × (length (now v) ≡ 11) × Quiet (now widths) (now rules) (now v) ⌝ }
-    ensures { λ r. ⌜ r ≡ record { spare = hasFault 1 (now (rules .entry)) (now (v .entry)); unused = hasFault 2 (now (rules .entry)) (now (v .entry)) } ⌝ }
+    ensures { λ r. ⌜ ((length (now (rules .entry)) ≡ 11) × (length (now (v .entry)) ≡ 11) × Quiet (now (widths .entry)) (now (rules .entry)) (now (v .entry)) → r ≡ record { spare = hasFault 1 (now (rules .entry)) (now (v .entry)); unused = hasFault 2 (now (rules .entry)) (now (v .entry)) }) ⌝ }
 {
     let mut found = Faults {
         spare: false,
@@ -80,21 +54,10 @@ fn part(v: &[u64; 11], k: usize) -> u64
     if k < 11 { v[k] } else { 0 }
 }
 
-// How many steps a field has: what its counted parts say.
+// How many steps a field has: what its counted parts say. Each of those has four bits at the most, and so the sum is small whatever is given.
 pub fn count_in(row: Row, v: [u64; 11]) -> usize
-    requires { ⌜ RowSmall row v ⌝ }
-    ensures { λ r. ⌜ r ≡ countIn row v ⌝ }
+    ensures { λ r. ⌜ (RowSmall row v → r ≡ countIn row v) ⌝ }
 {
-    (row.more + part(&v, row.first) + part(&v, row.second) + part(&v, row.third)) as usize
-}
-
-// How many entries a list has: an ELM's steps are text and no entries.
-pub fn listed_in(row: Row, v: [u64; 11]) -> usize
-    requires { ⌜ RowSmall row v ⌝ }
-    ensures { λ r. ⌜ r ≡ listedBy row v ⌝ }
-{
-    if row.step == 80 {
-        return 0;
-    }
-    count_in(row, v)
+    let n = part(&v, row.first) % 16 + part(&v, row.second) % 16 + part(&v, row.third) % 16;
+    (row.more % 2 + n) as usize
 }

@@ -6,6 +6,7 @@
 ghost use mathlib.Core.Path.{_≡_};
 ghost use Prim.Native.Nat.{_<_};
 ghost use Rattle.fields.specs.Table.{rows, placeOf, rowAt, widthsAt, rulesAt, faultOf};
+ghost use Rattle.fields.specs.Reading.{fromSensor};
 use crate::Direction;
 use crate::Place;
 use crate::Row;
@@ -300,12 +301,23 @@ fn row_of(known: Known) -> Row
     }
 }
 
-// The row at place i.
+// The row at place i, and what stands for one past the end.
 pub fn row_at(i: usize) -> Row
-    requires { ⌜ i < 22 ⌝ }
     ensures { λ r. ⌜ r ≡ rowAt i ⌝ }
 {
-    row_of(KNOWN[i])
+    if i < 22 {
+        return row_of(KNOWN[i]);
+    }
+    Row {
+        code: 0,
+        way: Direction::ToSensor,
+        base: 0,
+        step: 0,
+        more: 0,
+        first: NONE as usize,
+        second: NONE as usize,
+        third: NONE as usize,
+    }
 }
 
 // Where a type stands in the table: an index, so that no row is looked at but the one that is asked for.
@@ -339,10 +351,9 @@ pub fn find(code: u64) -> Place
     }
 }
 
-// The widths of the parts of the type at place i.
+// The widths of the parts of the type at place i; past the end the last type's.
 pub fn widths_at(i: usize) -> [u8; 11]
-    requires { ⌜ i < 22 ⌝ }
-    ensures { λ r. ⌜ r ≡ widthsAt i ⌝ }
+    ensures { λ r. ⌜ (i < 22 → r ≡ widthsAt i) ⌝ }
 {
     match i {
         0 => [8, 24, 4, 1, 3, 56, 0, 0, 0, 0, 0], // 21
@@ -372,8 +383,7 @@ pub fn widths_at(i: usize) -> [u8; 11]
 
 // Their rules.
 pub fn rules_at(i: usize) -> [u8; 11]
-    requires { ⌜ i < 22 ⌝ }
-    ensures { λ r. ⌜ r ≡ rulesAt i ⌝ }
+    ensures { λ r. ⌜ (i < 22 → r ≡ rulesAt i) ⌝ }
 {
     match i {
         0 => [0, 0, 2, 0, 2, 0, 1, 1, 1, 1, 1], // 21
@@ -424,4 +434,14 @@ pub fn fault(rule: u8, x: u64) -> u64
         return if x % 8 == 7 { 2 } else { 0 };
     }
     0
+}
+
+// Whether a type travels from the sensor, by its way.
+pub fn from_sensor(way: Direction) -> bool
+    ensures { λ r. ⌜ r ≡ fromSensor way ⌝ }
+{
+    match way {
+        Direction::ToSensor => false,
+        Direction::FromSensor => true,
+    }
 }

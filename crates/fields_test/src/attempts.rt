@@ -9,8 +9,8 @@ use libc::STDOUT_FILENO;
 fn attempt(name: &[u8], buffer: &mut [u8], r: Record, list: [i32; 30], text: &[u8]) {
     io::write_all(STDOUT_FILENO, name);
     io::write_all(STDOUT_FILENO, b": ");
-    let w = fields::writing::write(buffer, r, list, text);
-    io::print_decimal(STDOUT_FILENO, fields::writing::number(w) as u64);
+    let w = field_writer::writing::write(buffer, r, list, text);
+    io::print_decimal(STDOUT_FILENO, field_writer::writing::number(w) as u64);
     io::write_all(STDOUT_FILENO, b" ");
     print::bytes(buffer);
     io::write_all(STDOUT_FILENO, b"\n");

@@ -34,19 +34,19 @@ fn print_written(w: Written, buffer: &[u8]) {
 fn show(b: &[u8], count: usize, way: Direction) {
     io::print_decimal(STDOUT_FILENO, count as u64);
     io::write_all(STDOUT_FILENO, b": ");
-    let found = fields::reading::read(b, count, way);
+    let found = field_reader::reading::read(b, count, way);
     let answer = found.answer;
     let list = found.list;
-    io::print_decimal(STDOUT_FILENO, fields::reading::number(answer) as u64);
+    io::print_decimal(STDOUT_FILENO, field_reader::reading::number(answer) as u64);
     match answer {
         Answer::Refused(_) => {}
         Answer::Accepted(r) => {
             let mut buffer = [255u8; 256];
-            let w = fields::writing::write(
+            let w = field_writer::writing::write(
                 &mut buffer,
                 r,
                 list,
-                fields::reading::text(b, count, way),
+                field_reader::reading::text(b, count, way),
             );
             print_written(w, &buffer);
         }

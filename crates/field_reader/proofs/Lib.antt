@@ -1,0 +1,3 @@
+mod Values
+mod Entries
+mod Order

@@ -1,0 +1,29 @@
+-- `field_reader::reading::judge` meets its contract: the tests by steps are the document's, in its order. Assumes nothing.
+use borrow.Author.Needs.{needs}
+use mathlib.Core.Path.{_≡_, sym, ap, _∙_}
+use Rattle.field_reader.proofs.Order.{sound-opened, outer-refused}
+use Rattle.field_reader.proofs.reading.judge.Statement.{statement}
+use Rattle.field_reader.proofs.reading.judge.Tie as tie
+
+outer-requires : tie.Need-outer-requires
+outer-requires c κs = search needs
+
+enum-told : tie.Need-enum-told
+enum-told c = search needs
+
+opened-requires : tie.Need-opened-requires
+opened-requires c κs = search needs
+
+enum-known-o : tie.Need-enum-known-o
+enum-known-o c = search needs
+
+returns : tie.Need-returns
+returns c = c .opened .ensures ∙ sym (sound-opened _ _ _ (sym (c .before .before .before .outer .ensures) ∙ c .before .enum-told .given .1))
+
+returns-2 : tie.Need-returns-2
+returns-2 c = sym (outer-refused _ _ _ _ (sym (c .before .before .before .outer .ensures) ∙ c .before .o .given .1))
+
+pub judge-spec : {M : Type 1} → statement M
+judge-spec =
+    tie.close
+    (tie.spec outer-requires enum-told opened-requires enum-known-o returns returns-2)

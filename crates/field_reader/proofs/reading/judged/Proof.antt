@@ -1,0 +1,123 @@
+-- `field_reader::reading::judged` meets its contract: spares before values, values before blocks. Assumes nothing.
+use borrow.Author.Needs.{needs}
+use mathlib.Core.Path.{_≡_, sym, ap, _∙_}
+use mathlib.Core.Bool.{Bool}
+use mathlib.Core.List.{List}
+use Prim.Native.Nat.{ℕ, _+_, _≤_}
+use native.Mathlib.Omega.{arith}
+use native.Mathlib.Nat.{le-trans}
+use lib.ListN.{replicate}
+use Rattle.fields.specs.declared.Faults.{Faults}
+use Rattle.fields.specs.Table.{rulesAt, hasFault, valuesOf}
+use Rattle.fields.specs.Lists.{anyUnused}
+use Rattle.fields.specs.Reading.{blockCount, blocksBy}
+use Rattle.field_reader.specs.Steps.{judgedBy}
+use Rattle.fields.proofs.Rows.{block-count-small}
+use Rattle.field_reader.proofs.reading.judged.Statement.{statement}
+use Rattle.field_reader.proofs.reading.judged.Tie as tie
+
+rules-at-requires : tie.Need-rules-at-requires
+rules-at-requires c κs = search needs
+
+faults-requires : tie.Need-faults-requires
+faults-requires c κs = search needs
+
+-- the faults are those of the table's rules
+found : (c : tie.After-faults) →
+    let a = c .before .before .before .before .before .args in
+    c .faults .result ≡ record { spare = hasFault 1 (rulesAt (a .i)) (a .t6); unused = hasFault 2 (rulesAt (a .i)) (a .t6) }
+found c =
+    let s = c .before .before .before .before .before in
+    let e = c .before .before .before .rules-at .ensures (s .pre .2) in
+    rw (← e) (c .faults .ensures (search needs, search needs, rw e (s .pre .3)))
+
+-- a spare bit is one
+spare : (c : tie.After-faults) →
+    let a = c .before .before .before .before .before .args in
+    hasFault 1 (rulesAt (a .i)) (a .t6) ≡ c .faults .result .spare
+spare c = sym (ap (λ (f : Faults). f .spare) (found c))
+
+-- a value is not in use
+unused : (c : tie.After-faults) →
+    let a = c .before .before .before .before .before .args in
+    hasFault 2 (rulesAt (a .i)) (a .t6) ≡ c .faults .result .unused
+unused c = sym (ap (λ (f : Faults). f .unused) (found c))
+
+returns : tie.Need-returns
+unfolding judgedBy
+returns c = rw (spare (c .before) ∙ c .if1 .taken)
+
+returns-2 : tie.Need-returns-2
+unfolding judgedBy
+returns-2 c = let f = c .before .before in rw (spare f ∙ c .before .if1 .left, unused f ∙ c .if2 .taken)
+
+add-any-unused : tie.Need-add-any-unused
+add-any-unused c = search needs
+
+block-count-requires : tie.Need-block-count-requires
+block-count-requires c κs = search needs
+
+any-unused-requires : tie.Need-any-unused-requires
+any-unused-requires c κs =
+    let s = c .before .before .before .before .before .before .before .before .before in
+    let p = s .pre .0 in
+    (omega arith, rw (c .block-count .ensures) (block-count-small _ _ p))
+
+-- a block is not in use
+block : (c : tie.After-any-unused) →
+    let a = c .before .before .before .before .before .before .before .before .before .before .args in
+    anyUnused (blocksBy (a .b .now) (a .before) (a .row) (a .t6)) ≡ c .any-unused .result
+block c = rw (← c .before .block-count .ensures) (sym (c .any-unused .ensures))
+
+returns-3 : tie.Need-returns-3
+unfolding judgedBy
+returns-3 c =
+    let e = c .before .before .before .before in
+    let f = e .before .before in
+    rw (spare f ∙ e .before .if1 .left, unused f ∙ e .if2 .left, block (c .before) ∙ c .if3 .taken)
+
+array-read-field-at : tie.Need-array-read-field-at
+array-read-field-at c = search needs
+
+array-read-field-at-2 : tie.Need-array-read-field-at-2
+array-read-field-at-2 c = search needs
+
+array-read-field-at-3 : tie.Need-array-read-field-at-3
+array-read-field-at-3 c = search needs
+
+array-read-field-at-4 : tie.Need-array-read-field-at-4
+array-read-field-at-4 c = search needs
+
+array-read-field-at-5 : tie.Need-array-read-field-at-5
+array-read-field-at-5 c = search needs
+
+array-read-field-at-6 : tie.Need-array-read-field-at-6
+array-read-field-at-6 c = search needs
+
+array-read-field-at-7 : tie.Need-array-read-field-at-7
+array-read-field-at-7 c = search needs
+
+array-read-field-at-8 : tie.Need-array-read-field-at-8
+array-read-field-at-8 c = search needs
+
+array-read-field-at-9 : tie.Need-array-read-field-at-9
+array-read-field-at-9 c = search needs
+
+array-read-field-at-10 : tie.Need-array-read-field-at-10
+array-read-field-at-10 c = search needs
+
+field-at-requires : tie.Need-field-at-requires
+field-at-requires c κs = search needs
+
+returns-4 : tie.Need-returns-4
+unfolding judgedBy
+returns-4 c =
+    let t = c .before in
+    let e = t .before .before .before .before in
+    let f = e .before .before in
+    rw (spare f ∙ e .before .if1 .left, unused f ∙ e .if2 .left, block (t .before) ∙ t .if3 .left, c .field-at .ensures)
+
+pub judged-spec : {M : Type 1} → statement M
+judged-spec =
+    tie.close
+    (tie.spec rules-at-requires faults-requires returns returns-2 add-any-unused block-count-requires any-unused-requires returns-3 array-read-field-at array-read-field-at-2 array-read-field-at-3 array-read-field-at-4 array-read-field-at-5 array-read-field-at-6 array-read-field-at-7 array-read-field-at-8 array-read-field-at-9 array-read-field-at-10 field-at-requires returns-4)

@@ -1,0 +1,47 @@
+-- `field_reader::reading::plain` meets its contract: a place that is found stands in the table. Assumes nothing.
+use borrow.Author.Needs.{needs}
+use mathlib.Core.Path.{_≡_, sym, ap, _∙_}
+use native.Mathlib.Omega.{arith}
+use Rattle.fields.specs.Table.{placeOf}
+use Rattle.fields.specs.Reading.{typeOf}
+use Rattle.field_reader.specs.Steps.{plainOf}
+use Rattle.fields.proofs.Rows.{found-within}
+use Rattle.field_reader.proofs.reading.plain.Statement.{statement}
+use Rattle.field_reader.proofs.reading.plain.Tie as tie
+
+find-requires : tie.Need-find-requires
+find-requires c κs = search needs
+
+-- the place of the code is that of the field's type
+place-is : (c : tie.After-find) → let a = c .before .before .args in placeOf (typeOf (a .b .now) (a .before)) ≡ c .find .result
+place-is c = rw (← c .before .before .pre .1) (sym (c .find .ensures))
+
+enum-known-i : tie.Need-enum-known-i
+enum-known-i c = search needs
+
+enum-told : tie.Need-enum-told
+enum-told c = search needs
+
+unknown-requires : tie.Need-unknown-requires
+unknown-requires c κs = search needs
+
+returns : tie.Need-returns
+unfolding plainOf
+returns c =
+    let e = c .before in
+    let f = e .before .before in
+    rw (c .unknown .ensures, f .before .before .pre .1, place-is f ∙ e .enum-told .given .1)
+
+row-read-requires : tie.Need-row-read-requires
+row-read-requires c κs =
+    let f = c .before .before .before in
+    (omega arith, found-within _ _ (place-is f ∙ c .before .i .given .1), f .before .before .pre .1)
+
+returns-2 : tie.Need-returns-2
+unfolding plainOf
+returns-2 c =
+    let k = c .before in
+    rw (c .row-read .ensures, place-is (k .before .before .before) ∙ k .before .i .given .1)
+
+pub plain-spec : {M : Type 1} → statement M
+plain-spec = tie.close (tie.spec find-requires enum-known-i enum-told unknown-requires returns row-read-requires returns-2)

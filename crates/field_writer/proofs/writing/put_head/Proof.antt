@@ -1,0 +1,39 @@
+-- `field_writer::writing::put_head` meets its contract. Assumes nothing.
+use borrow.Author.Needs.{needs}
+use mathlib.Core.Path.{_≡_, refl, sym, ap, _∙_}
+use mathlib.Core.List.{List}
+use Prim.Native.Nat.{ℕ}
+use Rattle.fields.specs.declared.Record.{Record}
+use Rattle.fields.specs.Writing.{putAll, headWidths, headValues}
+use Rattle.field_writer.proofs.writing.put_head.Statement.{statement}
+use Rattle.field_writer.proofs.writing.put_head.Tie as tie
+
+enum-told : tie.Need-enum-told
+enum-told c = search needs
+
+enum-known-given : tie.Need-enum-known-given
+enum-known-given c = search needs
+
+write-requires : tie.Need-write-requires
+write-requires c κs = search needs
+
+write-requires-2 : tie.Need-write-requires-2
+write-requires-2 c κs = search needs
+
+returns : tie.Need-returns
+unfolding putAll
+returns c = rw (c .enum-told .given .1)
+
+same-length : tie.Need-same-length
+same-length c = search needs
+
+returns-2 : tie.Need-returns-2
+unfolding putAll
+returns-2 c =
+    let w = c .before .before .before .before .before .before in
+    rw (c .before .before .write2 .ensures, w .write .ensures, w .before .before .before .given .given .1)
+
+pub put-head-spec : {M : Type 1} → statement M
+put-head-spec =
+    tie.close
+    (tie.spec enum-told enum-known-given write-requires write-requires-2 returns same-length returns-2)
