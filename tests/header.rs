@@ -60,7 +60,7 @@ fn main() {
     expected.extend(defined("crates/host/specs/Items.antt", "", "ITEM"));
     expected.extend(types());
     expected.extend(defined("crates/refusals/specs/Numbers.antt", "fieldNumber F.", "FIELD_REFUSAL"));
-    expected.extend(defined("crates/field_host/specs/Items.antt", "", "FIELD_ITEM"));
+    expected.extend(defined("crates/field_items/specs/Items.antt", "", "FIELD_ITEM"));
     let line = defined("crates/host/specs/Line.antt", "", "LINE");
     expected.insert("KIND_REFUSED".into(), line["LINE_REFUSED_KIND"]);
     expected.insert("KIND_END".into(), line["LINE_END_KIND"]);
