@@ -2,7 +2,6 @@
 use Prim.Native.Nat.{ℕ, _-_, _/_}
 use mathlib.Core.Bool.{cond, _||_}
 use lib.Dec.{eqb}
-use lib.ListN.{getD}
 use Rattle.pairs.specs.declared.Found.{Found}
 use Rattle.pairs.specs.declared.Found.the-variants as F
 use Rattle.fields.specs.declared.Direction.{Direction}
@@ -11,18 +10,13 @@ use Rattle.fields.specs.declared.Record.{Record}
 use Rattle.fields.specs.declared.Record.the-variants.{Single, Relay}
 use Rattle.fields.specs.declared.Answer.{Answer}
 use Rattle.fields.specs.declared.Answer.the-variants.{Accepted, Refused}
-use Rattle.fields.specs.Writing.{numbersIn}
-use Rattle.field_host.specs.Items.{itemOf}
+use Rattle.field_items.specs.Items.{itemOf, innerOf}
 
 -- 0 to the sensor, any other number from it
 abbrev pub wayOf : ℕ → Direction
 wayOf k = cond (eqb k 0) ToSensor FromSensor
 
 -- ---- types
-
--- the type that the items speak of: of a relay that of the field inside
-abbrev pub innerOf : Record → ℕ
-innerOf r = getD (numbersIn r) 0 0
 
 abbrev pub outerOf : Record → ℕ
 outerOf (Single f) = innerOf (Single f)

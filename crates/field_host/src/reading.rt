@@ -1,6 +1,6 @@
 // The calls that read a link data field: its bytes, its count of bits, and which way it travels: 0 to the sensor, any other number from it.
 // Each answers one thing about it. Any bytes, any count and any number are taken.
-// Relies on field_reader for the answer, items for the parts; specs/Reading.antt says what each call answers.
+// Relies on field_reader for the answer, field_items for the parts; specs/Reading.antt says what each call answers.
 ghost use mathlib.Core.Path.{_≡_};
 ghost use Prim.Native.Nat.{_-_};
 ghost use lib.IntN.{pos};
@@ -8,7 +8,7 @@ ghost use lib.ListN.{length, getD};
 ghost use Rattle.pairs.specs.Pairs.{valueOf};
 ghost use Rattle.fields.specs.Reading.{answerOf, answerNumber, readField, textOf};
 ghost use Rattle.field_host.specs.Reading.{wayOf, outerOf, innerType, typeOf, itemIn, isThere, entriesOf};
-use crate::items;
+use field_items::items;
 use fields::Answer;
 use fields::Direction;
 use fields::Record;

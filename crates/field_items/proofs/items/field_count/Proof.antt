@@ -1,0 +1,57 @@
+-- `field_items::items::field_count` meets its contract. Assumes nothing.
+use borrow.Author.Needs.{needs}
+use mathlib.Core.Path.{_≡_, refl, sym, ap, _∙_}
+use Prim.Native.Nat.{zero-le}
+use lib.ListN.{getD}
+use Rattle.fields.specs.Table.{placeOf}
+use Rattle.fields.specs.Records.{numbersOf}
+use Rattle.fields.proofs.Rows.{found-within}
+use Rattle.fields.proofs.Taking.{numbers-length}
+use Rattle.field_items.specs.Items.{tallyOf, fieldItems}
+use Rattle.field_items.proofs.Laws.{tally-pairs, items-length}
+use Rattle.field_items.proofs.items.field_count.Statement.{statement}
+use Rattle.field_items.proofs.items.field_count.Tie as tie
+
+numbers-requires : tie.Need-numbers-requires
+numbers-requires c κs = search needs
+
+array-read-place : tie.Need-array-read-place
+array-read-place c = search needs
+
+place-requires : tie.Need-place-requires
+place-requires c κs = search needs
+
+-- where the type stands
+place : (c : tie.After-place) → placeOf (getD (numbersOf (c .before .before .args .f)) 0 0) ≡ c .place .result
+place c = rw (← c .before .numbers .ensures) (sym (c .place .ensures))
+
+enum-known-i : tie.Need-enum-known-i
+enum-known-i c = search needs
+
+enum-told : tie.Need-enum-told
+enum-told c = search needs
+
+returns : tie.Need-returns
+unfolding fieldItems
+returns c = (rw (place (c .before .before) ∙ c .enum-told .given .1) refl, zero-le)
+
+items-at-requires : tie.Need-items-at-requires
+items-at-requires c κs =
+    let k = c .before in
+    found-within _ _ (place (k .before .before) ∙ k .i .given .1)
+
+tally-requires : tie.Need-tally-requires
+tally-requires c κs = search needs
+
+returns-2 : tie.Need-returns-2
+unfolding fieldItems
+returns-2 c =
+    let k = c .before .before .before in
+    let e = place (k .before .before) ∙ k .i .given .1 in
+    let f = k .before .before .before .before .args .f in (
+      rw e (c .tally .ensures .0 ∙ ap tallyOf (c .before .items-at .ensures) ∙ sym (tally-pairs _ _ (items-length _ (found-within _ _ e) ∙ sym (numbers-length f)))),
+      c .tally .ensures .1,
+    )
+
+pub field-count-spec : {M : Type 1} → statement M
+field-count-spec = tie.close (tie.spec numbers-requires array-read-place place-requires enum-known-i enum-told returns items-at-requires tally-requires returns-2)
