@@ -295,7 +295,7 @@ fn built_of(kind: u32, high: bool, v: [u64; 37]) -> Report
 
 // ---- the test
 
-// How many items the record of a kind has, whatever their values are.
+// How many items the record of a kind has, whatever their values are; a number that is no kind's, what stands for no record.
 fn size_of(kind: u32) -> usize
     ensures { λ r. ⌜ ((high : Bool) (v : List ℕ) → length (itemsOf (built kind high v)) ≡ r) ⌝ }
 {
