@@ -3,7 +3,7 @@
 use mathlib.Core.Path.{_≡_, refl, sym}
 use mathlib.Core.List.{List, [], _∷_}
 use mathlib.Core.Bool.{Bool, true, false, cond, not, _&&_, _||_}
-use Prim.Native.Nat.{ℕ, zero, suc, _+_, _-_, _*_, _≤_, _<_, _^_, zero-le}
+use Prim.Native.Nat.{ℕ, zero, suc, _+_, _-_, _*_, _%_, _≤_, _<_, _^_, zero-le}
 use native.Mathlib.Nat.{not-suc-le-zero, le-of-suc-le-suc, lt-of-lt-of-le}
 use native.Mathlib.Decide.{ℕ-discrete}
 use native.Mathlib.Omega.{arith}
@@ -42,7 +42,7 @@ abbrev NotBelow : ℕ → ℕ → Type 0
 NotBelow i zero = Unit {0}
 NotBelow i (suc n) = NotBelow i n × (i ≡ n → ⊥)
 
-not-below : (i n : ℕ) → NotBelow i n → n ≤ i
+pub not-below : (i n : ℕ) → NotBelow i n → n ≤ i
 not-below i zero t = zero-le
 not-below i (suc n) t = next (not-below i n (t .0)) (t .1)
   where
@@ -275,6 +275,10 @@ row-small i vs h f =
 pub count-small : (r : Row) (vs : List ℕ) → RowSmall r vs → countIn r vs ≤ 46
 unfolding countIn
 count-small r vs s = omega arith
+
+-- so modulo 2^64 it is itself
+pub count-whole : (r : Row) (vs : List ℕ) → RowSmall r vs → countIn r vs % 2 ^ 64 ≡ countIn r vs
+count-whole r vs s = let h = count-small r vs s in omega arith
 
 pub block-count-small : (r : Row) (vs : List ℕ) → RowSmall r vs → blockCount r vs ≤ 64
 unfolding blockCount

@@ -2,15 +2,19 @@
 -- Assumes nothing.
 use mathlib.Core.Path.{_≡_, refl, sym, ap, _∙_}
 use mathlib.Core.List.{List, [], _∷_, _++_}
-use mathlib.Core.Bool.{Bool, false, _||_, or-assoc, or-false}
-use Prim.Native.Nat.{ℕ, _+_, _≤_, _<_}
+use mathlib.Core.Bool.{Bool, true, false, _||_, or-assoc, or-false}
+use Prim.Native.Nat.{ℕ, zero, suc, _+_}
+use native.Mathlib.Omega.{arith}
+use borrow.Author.Tests.{eqb-true, eq-eqb, ne-eqb}
 use native.Mathlib.Numerals.{add-one}
 use native.Mathlib.Nat.{add-zero, add-assoc}
 use lib.Dec.{eqb}
 use lib.ListN.{length, drop, getD, drop-of-length-le}
 use lib.Seq.{drop-cons}
 use Rattle.bits.specs.Bits.{bitsOf}
-use Rattle.fields.specs.Table.{valuesOf, hasFault, faultOf}
+use Rattle.fields.specs.declared.Faults.{Faults}
+use Rattle.fields.specs.Table.{valuesOf, hasFault, faultOf, Quiet}
+use Rattle.fields.specs.Steps.{faultWithin}
 use Rattle.fields.specs.Writing.{sumOf}
 
 pub valuesOf-snoc : (s : List ℕ) (a : ℕ) (ws : List ℕ) (w : ℕ) →
@@ -19,19 +23,39 @@ unfolding valuesOf
 valuesOf-snoc s a [] w = rw add-zero refl
 valuesOf-snoc s a (x ∷ ws) w = ap (λ (l : List ℕ). bitsOf s a x ∷ l) (valuesOf-snoc s (a + x) ws w ∙ rw add-assoc refl)
 
--- a fault seen before i or found from i on: the part at i passes from the one to the other
-pub hasFault-next : (k : ℕ) (rs vs : List ℕ) (i : ℕ) (a b : Bool) (f : ℕ) → i < length rs → i < length vs →
+-- ---- faults, up to the first part of no bits
+
+-- a fault seen before i or found from i on: the part at i, which has bits, passes from the one to the other
+pub within-next : (k : ℕ) (ws rs vs : List ℕ) (n m i : ℕ) (a b : Bool) (f : ℕ) → n ≡ suc m → (getD ws i 0 ≡ 0 → ⊥) →
     f ≡ faultOf (getD rs i 0) (getD vs i 0) → b ≡ (a || eqb f k) →
-    (a || hasFault k (drop i rs) (drop i vs)) ≡ (b || hasFault k (drop (i + 1) rs) (drop (i + 1) vs))
-unfolding hasFault
-hasFault-next k rs vs i a b f h l e q =
-    rw (q, e, drop-cons rs i 0 h, drop-cons vs i 0 l, add-one) (sym (or-assoc a _ _))
+    (a || faultWithin k ws rs vs n i) ≡ (b || faultWithin k ws rs vs m (i + 1))
+unfolding faultWithin
+within-next k ws rs vs n m i a b f l h e q = rw (l, ne-eqb _ _ h, q, e) (sym (or-assoc a _ _))
 
--- nor is one found from where all is quiet on
-pub hasFault-quiet : (k : ℕ) (rs vs : List ℕ) (i : ℕ) (a : Bool) → hasFault k (drop i rs) (drop i vs) ≡ false → (a || hasFault k (drop i rs) (drop i vs)) ≡ a
-hasFault-quiet k rs vs i a h = rw h (or-false a)
+-- from a part of no bits on none is found
+pub within-stop : (k : ℕ) (ws rs vs : List ℕ) (n i : ℕ) (a : Bool) → getD ws i 0 ≡ 0 → (a || faultWithin k ws rs vs n i) ≡ a
+unfolding faultWithin
+within-stop k ws rs vs zero i a h = or-false a
+within-stop k ws rs vs (suc n) i a h = rw (eq-eqb _ _ h) (or-false a)
 
--- past the end none is found
-pub hasFault-end : (k : ℕ) (rs vs : List ℕ) (i : ℕ) (a : Bool) → length rs ≤ i → (a || hasFault k (drop i rs) (drop i vs)) ≡ a
-unfolding hasFault
-hasFault-end k rs vs i a h = rw (drop-of-length-le rs h) (or-false a)
+-- nor in no part
+pub within-none : (k : ℕ) (ws rs vs : List ℕ) (n i : ℕ) (a : Bool) → n ≡ 0 → (a || faultWithin k ws rs vs n i) ≡ a
+unfolding faultWithin
+within-none k ws rs vs n i a h = rw h (or-false a)
+
+-- where none is at fault from a part of no bits on, that is every part's
+within-from : (k : ℕ) (ws rs vs : List ℕ) → ((j : ℕ) → getD ws j 0 ≡ 0 → hasFault k (drop j rs) (drop j vs) ≡ false) →
+    (n i : ℕ) → length rs ≡ i + n → length vs ≡ i + n → faultWithin k ws rs vs n i ≡ hasFault k (drop i rs) (drop i vs)
+unfolding faultWithin hasFault
+within-from k ws rs vs quiet zero i r v = rw (drop-of-length-le rs {i = i} (omega (arith, r))) refl
+within-from k ws rs vs quiet (suc n) i r v = go (eqb (getD ws i 0) 0) refl (within-from k ws rs vs quiet n (i + 1) (omega (arith, r)) (omega (arith, v)))
+  where
+    go : (b : Bool) → eqb (getD ws i 0) 0 ≡ b → faultWithin k ws rs vs n (i + 1) ≡ hasFault k (drop (i + 1) rs) (drop (i + 1) vs) →
+        faultWithin k ws rs vs (suc n) i ≡ hasFault k (drop i rs) (drop i vs)
+    go true e more = rw e (sym (quiet i (eqb-true _ _ e)))
+    go false e more = rw (e, more, drop-cons rs i 0 (omega (arith, r)), drop-cons vs i 0 (omega (arith, v)), add-one) refl
+
+pub within-quiet : (ws rs vs : List ℕ) → length rs ≡ 11 → length vs ≡ 11 → Quiet ws rs vs →
+    _≡_ {A = Faults} (record { spare = faultWithin 1 ws rs vs 11 0; unused = faultWithin 2 ws rs vs 11 0 }) (record { spare = hasFault 1 rs vs; unused = hasFault 2 rs vs })
+within-quiet ws rs vs r v quiet =
+    rw (within-from 1 ws rs vs (λ j h. quiet j h .0) 11 0 r v, within-from 2 ws rs vs (λ j h. quiet j h .1) 11 0 r v) refl

@@ -173,12 +173,15 @@ widths = partWidths table
 unfoldable pub rules : List (List ℕ)
 rules = partRules table
 
--- those of the type at a place
+-- those of the type at a place; past the end eleven parts of no bits, with any value
+abbrev pub noParts : List ℕ
+noParts = replicate 11 0
+
 unfoldable pub widthsAt : ℕ → List ℕ
-widthsAt i = getD widths i []
+widthsAt i = getD widths i noParts
 
 unfoldable pub rulesAt : ℕ → List ℕ
-rulesAt i = getD rules i []
+rulesAt i = getD rules i noParts
 
 -- ---- values
 

@@ -4,10 +4,13 @@ ghost use mathlib.Core.Path.{_≡_};
 ghost use mathlib.Core.Bool.{_||_};
 ghost use lib.Dec.{eqb};
 ghost use lib.ListN.{length, getD};
-ghost use Rattle.fields.specs.Table.{hasFault, Quiet, countIn, RowSmall};
+ghost use Prim.Native.Nat.{_%_, _^_};
+ghost use Rattle.fields.specs.Table.{countIn};
+ghost use Rattle.fields.specs.Steps.{faultWithin};
 use crate::Faults;
 use crate::Row;
 use crate::table;
+use std::num::wrapping_add_u64;
 
 fn either(a: bool, b: bool) -> bool
     ensures { λ r. ⌜ r ≡ (a || b) ⌝ }
@@ -28,9 +31,9 @@ fn noted(found: Faults, fault: u64) -> Faults
     }
 }
 
-// What is wrong with the parts, in one pass: both kinds of fault. Where nothing is wrong from a part of no bits on, those behind it are not asked.
+// What is wrong with the parts up to the first of no bits, in one pass: both kinds of fault.
 pub fn faults(widths: &[u8; 11], rules: &[u8; 11], v: &[u64; 11]) -> Faults
-    ensures { λ r. ⌜ ((length (now (rules .entry)) ≡ 11) × (length (now (v .entry)) ≡ 11) × Quiet (now (widths .entry)) (now (rules .entry)) (now (v .entry)) → r ≡ record { spare = hasFault 1 (now (rules .entry)) (now (v .entry)); unused = hasFault 2 (now (rules .entry)) (now (v .entry)) }) ⌝ }
+    ensures { λ r. ⌜ r ≡ record { spare = faultWithin 1 (now (widths .entry)) (now (rules .entry)) (now (v .entry)) 11 0; unused = faultWithin 2 (now (widths .entry)) (now (rules .entry)) (now (v .entry)) 11 0 } ⌝ }
 {
     let mut found = Faults {
         spare: false,
@@ -54,10 +57,12 @@ fn part(v: &[u64; 11], k: usize) -> u64
     if k < 11 { v[k] } else { 0 }
 }
 
-// How many steps a field has: what its counted parts say. Each of those has four bits at the most, and so the sum is small whatever is given.
+// How many steps a field has: what its counted parts say. Every row and every value is taken, so the sum is said modulo 2^64; of a row of the
+// table whose values fit it is below 64.
 pub fn count_in(row: Row, v: [u64; 11]) -> usize
-    ensures { λ r. ⌜ (RowSmall row v → r ≡ countIn row v) ⌝ }
+    ensures { λ r. ⌜ r ≡ countIn row v % 2 ^ 64 ⌝ }
 {
-    let n = part(&v, row.first) % 16 + part(&v, row.second) % 16 + part(&v, row.third) % 16;
-    (row.more % 2 + n) as usize
+    let one = wrapping_add_u64(row.more, part(&v, row.first));
+    let two = wrapping_add_u64(one, part(&v, row.second));
+    wrapping_add_u64(two, part(&v, row.third)) as usize
 }

@@ -351,9 +351,9 @@ pub fn find(code: u64) -> Place
     }
 }
 
-// The widths of the parts of the type at place i; past the end the last type's.
+// The widths of the parts of the type at place i; past the end eleven parts of no bits.
 pub fn widths_at(i: usize) -> [u8; 11]
-    ensures { λ r. ⌜ (i < 22 → r ≡ widthsAt i) ⌝ }
+    ensures { λ r. ⌜ r ≡ widthsAt i ⌝ }
 {
     match i {
         0 => [8, 24, 4, 1, 3, 56, 0, 0, 0, 0, 0], // 21
@@ -377,13 +377,14 @@ pub fn widths_at(i: usize) -> [u8; 11]
         18 => [8, 24, 4, 12, 0, 0, 0, 0, 0, 0, 0], // 45
         19 => [8, 48, 0, 0, 0, 0, 0, 0, 0, 0, 0], // 62
         20 => [8, 24, 24, 2, 11, 3, 2, 11, 3, 1, 1], // 83
-        _ => [8, 8, 0, 0, 0, 0, 0, 0, 0, 0, 0], // 03
+        21 => [8, 8, 0, 0, 0, 0, 0, 0, 0, 0, 0], // 03
+        _ => [0, 0, 0, 0, 0, 0, 0, 0, 0, 0, 0],
     }
 }
 
 // Their rules.
 pub fn rules_at(i: usize) -> [u8; 11]
-    ensures { λ r. ⌜ (i < 22 → r ≡ rulesAt i) ⌝ }
+    ensures { λ r. ⌜ r ≡ rulesAt i ⌝ }
 {
     match i {
         0 => [0, 0, 2, 0, 2, 0, 1, 1, 1, 1, 1], // 21
@@ -407,7 +408,8 @@ pub fn rules_at(i: usize) -> [u8; 11]
         18 => [0, 0, 1, 0, 1, 1, 1, 1, 1, 1, 1], // 45
         19 => [0, 0, 1, 1, 1, 1, 1, 1, 1, 1, 1], // 62
         20 => [0, 0, 0, 0, 6, 5, 0, 6, 5, 0, 0], // 83
-        _ => [0, 0, 1, 1, 1, 1, 1, 1, 1, 1, 1], // 03
+        21 => [0, 0, 1, 1, 1, 1, 1, 1, 1, 1, 1], // 03
+        _ => [0, 0, 0, 0, 0, 0, 0, 0, 0, 0, 0],
     }
 }
 

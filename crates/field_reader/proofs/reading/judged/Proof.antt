@@ -13,6 +13,7 @@ use Rattle.fields.specs.Lists.{anyUnused}
 use Rattle.fields.specs.Reading.{blockCount, blocksBy}
 use Rattle.field_reader.specs.Steps.{judgedBy}
 use Rattle.fields.proofs.Rows.{block-count-small}
+use Rattle.fields.proofs.Values.{within-quiet}
 use Rattle.field_reader.proofs.reading.judged.Statement.{statement}
 use Rattle.field_reader.proofs.reading.judged.Tie as tie
 
@@ -28,8 +29,8 @@ found : (c : tie.After-faults) →
     c .faults .result ≡ record { spare = hasFault 1 (rulesAt (a .i)) (a .t6); unused = hasFault 2 (rulesAt (a .i)) (a .t6) }
 found c =
     let s = c .before .before .before .before .before in
-    let e = c .before .before .before .rules-at .ensures (s .pre .2) in
-    rw (← e) (c .faults .ensures (search needs, search needs, rw e (s .pre .3)))
+    let e = c .before .before .before .rules-at .ensures in
+    rw (← e) (c .faults .ensures ∙ within-quiet _ _ _ (search needs) (search needs) (rw e (s .pre .3)))
 
 -- a spare bit is one
 spare : (c : tie.After-faults) →

@@ -8,7 +8,7 @@ use Rattle.fields.specs.declared.Row.{Row}
 use Rattle.fields.specs.Table.{placeOf, rowAt, widthsAt, valuesOf, countIn, RowSmall}
 use Rattle.fields.specs.Lists.{entriesIn}
 use Rattle.fields.specs.Reading.{typeOf, listIn, listedBy}
-use Rattle.fields.proofs.Rows.{found-within, first-width, row-base, row-step, row-small, values-fit, widths-narrow, widths-taper}
+use Rattle.fields.proofs.Rows.{found-within, first-width, row-base, row-step, row-small, values-fit, widths-narrow, widths-taper, count-whole}
 use Rattle.field_reader.proofs.reading.list_in.Statement.{statement}
 use Rattle.field_reader.proofs.reading.list_in.Tie as tie
 
@@ -61,13 +61,13 @@ values-requires : tie.Need-values-requires
 values-requires c κs =
     let k = c .before .before .before in
     let h = within k in
-    (omega arith, rw (c .widths-at .ensures h, first-width _ h) (k .before .before .before .before .type-at .ensures), rw (c .widths-at .ensures h) (widths-narrow _ h), rw (c .widths-at .ensures h) (widths-taper _ h))
+    (omega arith, rw (c .widths-at .ensures, first-width _ h) (k .before .before .before .before .type-at .ensures), rw (c .widths-at .ensures) (widths-narrow _ h), rw (c .widths-at .ensures) (widths-taper _ h))
 
 -- the values are those of the type's parts
 values-are : (c : tie.After-values) →
     let r = c .before .before .before in
     c .values .result ≡ valuesOf (r .before .before .before .before .before .before .before .args .b .now) 0 (widthsAt (r .before .before .i .given .0 .0))
-values-are c = rw (← c .before .widths-at .ensures (within (c .before .before .before .before))) (c .values .ensures)
+values-are c = rw (← c .before .widths-at .ensures) (c .values .ensures)
 
 small : (c : tie.After-values) → RowSmall (c .before .before .before .row-at .result) (c .values .result)
 small c =
@@ -92,7 +92,7 @@ returns-3 c =
     let e = c .before .before .before .before in
     let r = e .before in
     let k = r .before in
-    rw (place-is (k .before .before .before), k .before .i .given .1, ← r .row-at .ensures, ne-eqb _ _ (e .if1 .left), c .entries3 .ensures, c .before .count-in .ensures (small (c .before .before)), values-are (c .before .before))
+    rw (place-is (k .before .before .before), k .before .i .given .1, ← r .row-at .ensures, ne-eqb _ _ (e .if1 .left), c .entries3 .ensures, (c .before .count-in .ensures ∙ count-whole _ _ (small (c .before .before))), values-are (c .before .before))
 
 pub list-in-spec : {M : Type 1} → statement M
 list-in-spec =

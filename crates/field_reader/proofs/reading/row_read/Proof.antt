@@ -35,14 +35,14 @@ widths-at-requires c κs = search needs
 values-requires : tie.Need-values-requires
 values-requires c κs =
     let s = c .before .before .before .before .before in
-    let w = c .widths-at .ensures (s .pre .1) in
+    let w = c .widths-at .ensures in
     (omega arith, rw (w, first-width (s .args .i) (s .pre .1)) (s .pre .2), rw w (widths-narrow (s .args .i) (s .pre .1)), rw w (widths-taper (s .args .i) (s .pre .1)))
 
 -- the values are those of the type's parts
 values-are : (c : tie.After-values) →
     let a = c .before .before .before .before .before .before .args in
     c .values .result ≡ valuesOf (a .b .now) (a .before) (widthsAt (a .i))
-values-are c = rw (← c .before .widths-at .ensures (c .before .before .before .before .before .before .pre .1)) (c .values .ensures)
+values-are c = rw (← c .before .widths-at .ensures) (c .values .ensures)
 
 small : (c : tie.After-values) → RowSmall (c .before .before .before .before .row-at .result) (c .values .result)
 small c =
@@ -90,7 +90,7 @@ judged-requires c κs =
     let k = c .before .before .before .before .before in
     let s = k .before .before .before .before .before .before in
     let a = s .args in
-    (small k, omega arith, omega arith, rw (values-are k, k .before .widths-at .ensures (s .pre .1)) (rest-quiet (a .i) _ (s .pre .1) (values-fit (a .b .now) (a .before) (widthsAt (a .i)))))
+    (small k, omega arith, omega arith, rw (values-are k, k .before .widths-at .ensures) (rest-quiet (a .i) _ (s .pre .1) (values-fit (a .b .now) (a .before) (widthsAt (a .i)))))
 
 returns-4 : tie.Need-returns-4
 unfolding rowRead

@@ -8,7 +8,7 @@ use Rattle.fields.specs.declared.Row.{Row}
 use Rattle.fields.specs.Table.{rowAt, countIn, sizeIn, RowSmall}
 use Rattle.fields.specs.Records.{numbersOf}
 use Rattle.fields.specs.Writing.{numbersIn, headBits}
-use Rattle.fields.proofs.Rows.{count-small}
+use Rattle.fields.proofs.Rows.{count-small, count-whole}
 use Rattle.fields.proofs.Entries.{product}
 use Rattle.fields.proofs.Puts.{head-small}
 use Rattle.field_writer.proofs.writing.bits_at.Statement.{statement}
@@ -38,7 +38,7 @@ count-in-requires c κs = search needs
 most : (c : tie.After-count-in) → c .before .before .before .before .row-at .result .step * c .count-in .result ≤ 80 * 46
 most c =
     let p = small (c .before .before) in
-    product (c .before .before .before .before .row-at .result .step) (c .count-in .result) 80 46 (p .step) (rw (c .count-in .ensures p) (count-small _ _ p))
+    product (c .before .before .before .before .row-at .result .step) (c .count-in .result) 80 46 (p .step) (rw ((c .count-in .ensures ∙ count-whole _ _ p)) (count-small _ _ p))
 
 mul-result : tie.Need-mul-result
 mul-result c = omega (arith, most (c .before))
@@ -58,7 +58,7 @@ returns c =
     let p = small (c .before .before .before .before) in
     let h : c .before .before .before .head-bits .result ≤ 16 = rw (c .before .before .before .head-bits .ensures) (head-small (c .before .before .before .before .before .before .before .args .given)) in
     let q = c .before .before .before .before in (
-      rw (c .before .before .count-in .ensures p, numbers-are q, q .before .before .row-at .ensures, c .before .before .before .head-bits .ensures) refl,
+      rw ((c .before .before .count-in .ensures ∙ count-whole _ _ p), numbers-are q, q .before .before .row-at .ensures, c .before .before .before .head-bits .ensures) refl,
       omega (arith, most (c .before .before)),
     )
 

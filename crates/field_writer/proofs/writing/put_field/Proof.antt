@@ -80,7 +80,7 @@ put-parts-requires : tie.Need-put-parts-requires
 put-parts-requires c κs =
     let b = bounds (c .before .before .before .before .before .before) in
     let s = c .before .before .before .before .before .before .before .before .before .before .before .before .before .before in
-    (omega arith, rw (c .widths-at .ensures (s .pre .0)) (widths-narrow (s .args .i) (s .pre .0)))
+    (omega arith, rw (c .widths-at .ensures) (widths-narrow (s .args .i) (s .pre .0)))
 
 add-put-entries : tie.Need-add-put-entries
 add-put-entries c = omega (arith, bounds (c .before .before .before .before .before .before .before .before .before .before))
@@ -121,7 +121,7 @@ returns c =
     let b = bounds (c .before .before .before .before .before .before .before .before .before .before .before .before .before .before .before .before .before .before .before .before .before) in
     let n = c .before .before .before .before .before .before .before .before .before .before .before .before .before .before .before .before .before .before .before .before .before .before .before .before in
     let l = c .before .before .before .before .before .before .before .before .before .before .before .before .before .before .before .before .before .before .before .before .before .before in
-    rw (c .before .before .write .ensures, c .before .before .before .before .before .before .put-text .ensures, c .before .before .before .before .before .before .before .before .before .before .put-entries .ensures, c .before .before .before .before .before .before .before .before .before .before .before .before .before .before .put-parts .ensures, c .before .before .before .before .before .before .before .before .before .before .before .before .before .before .before .before .before .before .before .put-head .ensures, c .before .before .before .before .before .before .before .before .before .before .before .before .before .before .before .widths-at .ensures (s .pre .0), listed-is l, c .before .before .before .before .before .before .before .before .before .before .before .before .before .before .before .before .before .before .before .before .before .before .before .head-bits .ensures, numbers-are n, n .before .before .row-at .ensures, c .before .before .before .before .before .before .before .before .before .before .before .before .before .before .before .before .before .before .before .before .before .bits-at .ensures .0, groups (a .i) (a .given) (a .list) (a .text .now) (a .s .now) (s .pre .0) (omega (arith, listed-is l)))
+    rw (c .before .before .write .ensures, c .before .before .before .before .before .before .put-text .ensures, c .before .before .before .before .before .before .before .before .before .before .put-entries .ensures, c .before .before .before .before .before .before .before .before .before .before .before .before .before .before .put-parts .ensures, c .before .before .before .before .before .before .before .before .before .before .before .before .before .before .before .before .before .before .before .put-head .ensures, c .before .before .before .before .before .before .before .before .before .before .before .before .before .before .before .widths-at .ensures, listed-is l, c .before .before .before .before .before .before .before .before .before .before .before .before .before .before .before .before .before .before .before .before .before .before .before .head-bits .ensures, numbers-are n, n .before .before .row-at .ensures, c .before .before .before .before .before .before .before .before .before .before .before .before .before .before .before .before .before .before .before .before .before .bits-at .ensures .0, groups (a .i) (a .given) (a .list) (a .text .now) (a .s .now) (s .pre .0) (omega (arith, listed-is l)))
     refl
 
 pub put-field-spec : {M : Type 1} → statement M

@@ -10,6 +10,7 @@ use Rattle.fields.specs.Lists.{listFits}
 use Rattle.fields.specs.Reading.{listed}
 use Rattle.fields.specs.Writing.{numbersIn, headFits, fitAll, takesAt}
 use Rattle.fields.proofs.Rows.{widths-narrow, rest-quiet}
+use Rattle.fields.proofs.Values.{within-quiet}
 use Rattle.fields.proofs.Taking.{fit-numbers, taken-small}
 use Rattle.field_writer.proofs.writing.takes.Statement.{statement}
 use Rattle.field_writer.proofs.writing.takes.Tie as tie
@@ -37,12 +38,12 @@ widths-at-requires : tie.Need-widths-at-requires
 widths-at-requires c κs = search needs
 
 fit-all-requires : tie.Need-fit-all-requires
-fit-all-requires c κs = let s = c .before .before .before .before .before .before in rw (c .widths-at .ensures (s .pre)) (widths-narrow (s .args .i) (s .pre))
+fit-all-requires c κs = let s = c .before .before .before .before .before .before in rw (c .widths-at .ensures) (widths-narrow (s .args .i) (s .pre))
 
 fit : (c : tie.After-fit-all) →
     let a = c .before .before .before .before .before .before .before .args in
     fitAll (widthsAt (a .i)) (numbersIn (a .given)) ≡ c .fit-all .result
-fit c = rw (← c .before .widths-at .ensures (c .before .before .before .before .before .before .before .pre), ← numbers-are (c .before .before .before .before)) (sym (c .fit-all .ensures))
+fit c = rw (← c .before .widths-at .ensures, ← numbers-are (c .before .before .before .before)) (sym (c .fit-all .ensures))
 
 returns-2 : tie.Need-returns-2
 unfolding takesAt
@@ -65,11 +66,11 @@ unused c =
     let n = e .before .before .before .before .before in
     let st = n .before .before .before in
     let f = fit-numbers (st .args .i) (st .args .given) (st .pre) (fit (e .before) ∙ not-false _ (e .if2 .left)) in
-    let k = r .rules-at .ensures (st .pre) in
+    let k = r .rules-at .ensures in
     rw (← k, ← numbers-are n)
     (sym
     (ap (λ (x : Faults). x .unused)
-    (c .faults .ensures (search needs, search needs, rw (e .before .before .widths-at .ensures (st .pre), k, numbers-are n) (rest-quiet (st .args .i) _ (st .pre) f)))))
+    (c .faults .ensures ∙ within-quiet _ _ _ (search needs) (search needs) (rw (e .before .before .widths-at .ensures, k, numbers-are n) (rest-quiet (st .args .i) _ (st .pre) f)))))
 
 returns-3 : tie.Need-returns-3
 unfolding takesAt

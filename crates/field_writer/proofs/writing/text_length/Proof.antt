@@ -1,10 +1,11 @@
 -- `field_writer::writing::text_length` meets its contract. Assumes nothing.
 use borrow.Author.Needs.{needs}
+use mathlib.Core.Path.{_∙_}
 use borrow.Author.Tests.{eq-eqb, ne-eqb}
 use Prim.Native.Nat.{_≤_}
 use native.Mathlib.Omega.{arith}
 use Rattle.fields.specs.Writing.{textLengthBy}
-use Rattle.fields.proofs.Rows.{count-small}
+use Rattle.fields.proofs.Rows.{count-small, count-whole}
 use Rattle.field_writer.proofs.writing.text_length.Statement.{statement}
 use Rattle.field_writer.proofs.writing.text_length.Tie as tie
 
@@ -13,12 +14,12 @@ count-in-requires c κs = search needs
 
 mul-result : tie.Need-mul-result
 mul-result c =
-    let h : c .count-in .result ≤ 46 = rw (c .count-in .ensures (c .before .before .before .pre)) (count-small _ _ (c .before .before .before .pre)) in
+    let h : c .count-in .result ≤ 46 = rw ((c .count-in .ensures ∙ count-whole _ _ (c .before .before .before .pre))) (count-small _ _ (c .before .before .before .pre)) in
     omega arith
 
 returns : tie.Need-returns
 unfolding textLengthBy
-returns c = rw (eq-eqb _ _ (c .before .if1 .taken), c .count-in .ensures (c .before .before .before .pre))
+returns c = rw (eq-eqb _ _ (c .before .if1 .taken), (c .count-in .ensures ∙ count-whole _ _ (c .before .before .before .pre)))
 
 returns-2 : tie.Need-returns-2
 unfolding textLengthBy

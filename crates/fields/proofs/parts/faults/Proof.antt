@@ -4,38 +4,33 @@ use mathlib.Core.Path.{_≡_, refl, sym, ap, _∙_}
 use mathlib.Core.Bool.{Bool, _||_}
 use Prim.Native.Nat.{ℕ, _-_, _≤_}
 use native.Mathlib.Omega.{arith}
-use lib.ListN.{length, drop}
 use Rattle.fields.specs.declared.Faults.{Faults}
-use Rattle.fields.specs.Table.{hasFault}
-use Rattle.fields.proofs.Values.{hasFault-next, hasFault-quiet, hasFault-end}
+use Rattle.fields.specs.Steps.{faultWithin}
+use Rattle.fields.proofs.Values.{within-next, within-stop, within-none}
 use Rattle.fields.proofs.parts.faults.Statement.{statement}
 use Rattle.fields.proofs.parts.faults.Tie as tie
 
 abbrev Inv-loop : tie.InvT-loop
 Inv-loop widths rules v found₀ i₀ found i =
     (i ≤ 11)
-    × ((length rules ≡ 11) × (length v ≡ 11) →
-    ((found .spare || hasFault 1 (drop i rules) (drop i v)) ≡ hasFault 1 rules v)
-    × ((found .unused || hasFault 2 (drop i rules) (drop i v)) ≡ hasFault 2 rules v))
+    × ((found .spare || faultWithin 1 widths rules v (11 - i) i) ≡ faultWithin 1 widths rules v 11 0)
+    × ((found .unused || faultWithin 2 widths rules v (11 - i) i) ≡ faultWithin 2 widths rules v 11 0)
 
 abbrev μ-loop : tie.MeasureT-loop
 μ-loop widths rules v found₀ i₀ found i = 11 - i
 
 loop-holds : tie.Need-loop-holds Inv-loop μ-loop
-loop-holds c = (omega arith, λ n. (refl, refl))
+loop-holds c = (omega arith, refl, refl)
 
 element-copy-out-if1 : tie.Need-element-copy-out-if1 Inv-loop μ-loop
 element-copy-out-if1 c = omega arith
 
 returns : tie.Need-returns Inv-loop μ-loop
-returns c h =
+returns c =
     let l = c .before .before .before .loop in
-    let st = c .before .before .before .before in
-    let a = st .args in
-    let q = h .2 (l .i) (c .if1 .taken) in
-    let k = l .inv .1 (h .0, h .1) in
-    let s = sym (hasFault-quiet 1 (a .rules .now) (a .v .now) (l .i) (l .found .spare) (q .0)) ∙ k .0 in
-    let u = sym (hasFault-quiet 2 (a .rules .now) (a .v .now) (l .i) (l .found .unused) (q .1)) ∙ k .1 in
+    let a = c .before .before .before .before .args in
+    let s = sym (within-stop 1 (a .widths .now) (a .rules .now) (a .v .now) (11 - l .i) (l .i) (l .found .spare) (c .if1 .taken)) ∙ l .inv .1 in
+    let u = sym (within-stop 2 (a .widths .now) (a .rules .now) (a .v .now) (11 - l .i) (l .i) (l .found .unused) (c .if1 .taken)) ∙ l .inv .2 in
     rw (← s, ← u)
 
 element-copy-out-fault : tie.Need-element-copy-out-fault Inv-loop μ-loop
@@ -63,26 +58,21 @@ loop-again : tie.Need-loop-again Inv-loop μ-loop
 loop-again c =
     let l = c .before .before .before .before .before .before .before .loop in
     let a = c .before .before .before .before .before .before .before .before .args in
-    let r = a .rules .now in
-    let v = a .v .now in
     let f = c .before .fault .ensures in
     let s = ap (λ (x : Faults). x .spare) (c .noted .ensures) in
-    let u = ap (λ (x : Faults). x .unused) (c .noted .ensures) in (
+    let u = ap (λ (x : Faults). x .unused) (c .noted .ensures) in
+    let h = c .before .before .before .before .if1 .left in (
       omega arith,
-      λ n.
-          let k = l .inv .1 n in (
-            sym (hasFault-next 1 r v (l .i) (l .found .spare) _ _ (omega arith) (omega arith) f s) ∙ k .0,
-            sym (hasFault-next 2 r v (l .i) (l .found .unused) _ _ (omega arith) (omega arith) f u) ∙ k .1,
-          ),
+      sym (within-next 1 (a .widths .now) (a .rules .now) (a .v .now) _ _ (l .i) (l .found .spare) _ _ (omega arith) h f s) ∙ l .inv .1,
+      sym (within-next 2 (a .widths .now) (a .rules .now) (a .v .now) _ _ (l .i) (l .found .unused) _ _ (omega arith) h f u) ∙ l .inv .2,
     )
 
 returns-2 : tie.Need-returns-2 Inv-loop μ-loop
-returns-2 c h =
+returns-2 c =
     let l = c .before .loop in
     let a = c .before .before .args in
-    let k = l .inv .1 (h .0, h .1) in
-    let s = sym (hasFault-end 1 (a .rules .now) (a .v .now) (l .i) (l .found .spare) (omega arith)) ∙ k .0 in
-    let u = sym (hasFault-end 2 (a .rules .now) (a .v .now) (l .i) (l .found .unused) (omega arith)) ∙ k .1 in
+    let s = sym (within-none 1 (a .widths .now) (a .rules .now) (a .v .now) (11 - l .i) (l .i) (l .found .spare) (omega arith)) ∙ l .inv .1 in
+    let u = sym (within-none 2 (a .widths .now) (a .rules .now) (a .v .now) (11 - l .i) (l .i) (l .found .unused) (omega arith)) ∙ l .inv .2 in
     rw (← s, ← u)
 
 pub faults-spec : {M : Type 1} → statement M
