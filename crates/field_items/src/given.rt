@@ -14,6 +14,7 @@ use fields::Field;
 use fields::Place;
 use fields::Record;
 use fields::records;
+use fields::table;
 use pairs::Found;
 use pairs::Told;
 
@@ -128,7 +129,7 @@ fn tells_field(told: Told, f: Field) -> bool
     ensures { λ r. ⌜ r ≡ covers told (fieldItems f) ⌝ }
 {
     let v = records::numbers(f);
-    let Place::At(i) = records::place(v[0]) else {
+    let Place::At(i) = table::find(v[0]) else {
         return true;
     };
     tells_parts(told, items::items_at(i), v)
@@ -199,7 +200,7 @@ pub fn record_of(code: u32, told: &[u8], list: &[u8]) -> Record
     if !pairs::whole(told) {
         return unfit();
     }
-    let Place::At(i) = records::place(code as u64) else {
+    let Place::At(i) = table::find(code as u64) else {
         return unfit();
     };
     checked(told, code, i)

@@ -13,6 +13,7 @@ use fields::Field;
 use fields::Place;
 use fields::Record;
 use fields::records;
+use fields::table;
 use pairs::Found;
 
 pub const SENSOR: u64 = 237;
@@ -128,7 +129,7 @@ fn field_item(f: Field, item: u64) -> Found
     ensures { λ r. ⌜ r ≡ findIn item (fieldItems f) ⌝ }
 {
     let v = records::numbers(f);
-    let Place::At(i) = records::place(v[0]) else {
+    let Place::At(i) = table::find(v[0]) else {
         return Found::Missing;
     };
     search(items_at(i), v, item)
@@ -138,7 +139,7 @@ fn field_count(f: Field) -> usize
     ensures { λ r. ⌜ (r ≡ length (fieldItems f)) × (r ≤ 11) ⌝ }
 {
     let v = records::numbers(f);
-    let Place::At(i) = records::place(v[0]) else {
+    let Place::At(i) = table::find(v[0]) else {
         return 0;
     };
     tally(items_at(i))

@@ -1,18 +1,8 @@
 // A record from the values of its parts, and the values of a record's parts: the only two functions that go by type.
-// Relies on the table for a type's place; specs/Records.antt says what each gives.
+// Relies on nothing but the types; specs/Records.antt says what each gives.
 ghost use mathlib.Core.Path.{_≡_};
-ghost use Rattle.fields.specs.Table.{placeOf};
 ghost use Rattle.fields.specs.Records.{fieldAt, numbersOf};
 use crate::Field;
-use crate::Place;
-use crate::table;
-
-// Where a type stands in the table.
-pub fn place(code: u64) -> Place
-    ensures { λ r. ⌜ r ≡ placeOf code ⌝ }
-{
-    table::find(code)
-}
 
 // The record of the type at place `at` of the table, from the values of its parts 1 to 10.
 pub fn field_at(

@@ -24,8 +24,8 @@ returns-2 : tie.Need-returns-2
 unfolding given
 returns-2 c = let w = c .before .before in rw (eq-eqb _ _ (w .before .if1 .left), sym (w .whole .ensures) ∙ not-true _ (c .before .if2 .taken)) (c .unfit2 .ensures)
 
-place-requires : tie.Need-place-requires
-place-requires c κs = search needs
+find-requires : tie.Need-find-requires
+find-requires c κs = search needs
 
 enum-known-i : tie.Need-enum-known-i
 enum-known-i c = search needs
@@ -41,17 +41,17 @@ unfolding given
 returns-3 c =
     let p = c .before .before .before in
     let w = p .before .before in
-    rw (eq-eqb _ _ (w .before .if1 .left), sym (w .whole .ensures) ∙ not-false _ (p .before .if2 .left), sym (p .place .ensures) ∙ c .before .enum-told .given .1) (c .unfit3 .ensures)
+    rw (eq-eqb _ _ (w .before .if1 .left), sym (w .whole .ensures) ∙ not-false _ (p .before .if2 .left), sym (p .find .ensures) ∙ c .before .enum-told .given .1) (c .unfit3 .ensures)
 
 checked-requires : tie.Need-checked-requires
-checked-requires c κs = found-within _ _ (sym (c .before .before .before .place .ensures) ∙ c .before .i .given .1)
+checked-requires c κs = found-within _ _ (sym (c .before .before .before .find .ensures) ∙ c .before .i .given .1)
 
 returns-4 : tie.Need-returns-4
 unfolding given
 returns-4 c =
     let p = c .before .before .before .before in
     let w = p .before .before in
-    rw (eq-eqb _ _ (w .before .if1 .left), sym (w .whole .ensures) ∙ not-false _ (p .before .if2 .left), sym (p .place .ensures) ∙ c .before .before .i .given .1) (c .checked .ensures)
+    rw (eq-eqb _ _ (w .before .if1 .left), sym (w .whole .ensures) ∙ not-false _ (p .before .if2 .left), sym (p .find .ensures) ∙ c .before .before .i .given .1) (c .checked .ensures)
 
 pub record-of-spec : {M : Type 1} → statement M
-record-of-spec = tie.close (tie.spec unfit-requires returns whole-requires unfit-requires-2 returns-2 place-requires enum-known-i enum-told unfit-requires-3 returns-3 checked-requires returns-4)
+record-of-spec = tie.close (tie.spec unfit-requires returns whole-requires unfit-requires-2 returns-2 find-requires enum-known-i enum-told unfit-requires-3 returns-3 checked-requires returns-4)

@@ -13,15 +13,15 @@ use Rattle.field_items.proofs.items.field_item.Tie as tie
 numbers-requires : tie.Need-numbers-requires
 numbers-requires c κs = search needs
 
-array-read-place : tie.Need-array-read-place
-array-read-place c = search needs
+array-read-find : tie.Need-array-read-find
+array-read-find c = search needs
 
-place-requires : tie.Need-place-requires
-place-requires c κs = search needs
+find-requires : tie.Need-find-requires
+find-requires c κs = search needs
 
 -- where the type stands
-place : (c : tie.After-place) → placeOf (getD (numbersOf (c .before .before .args .f)) 0 0) ≡ c .place .result
-place c = rw (← c .before .numbers .ensures) (sym (c .place .ensures))
+place : (c : tie.After-find) → placeOf (getD (numbersOf (c .before .before .args .f)) 0 0) ≡ c .find .result
+place c = rw (← c .before .numbers .ensures) (sym (c .find .ensures))
 
 enum-known-i : tie.Need-enum-known-i
 enum-known-i c = search needs
@@ -48,4 +48,4 @@ returns-2 c =
     rw (place (k .before .before) ∙ k .i .given .1, ← c .before .items-at .ensures, ← k .before .before .before .numbers .ensures) (c .search .ensures)
 
 pub field-item-spec : {M : Type 1} → statement M
-field-item-spec = tie.close (tie.spec numbers-requires array-read-place place-requires enum-known-i enum-told returns items-at-requires search-requires returns-2)
+field-item-spec = tie.close (tie.spec numbers-requires array-read-find find-requires enum-known-i enum-told returns items-at-requires search-requires returns-2)
