@@ -118,11 +118,11 @@ pub nothing-else : (qs ps : List Pair) → T (apart qs) → Covers ps qs → len
 nothing-else qs ps t h m n = go (findIn n qs) (findIn n ps) refl refl
   where
     more : (v : ℕ) → findIn n ps ≡ Value v → findIn n qs ≡ Missing → Covers ps ((n, v) ∷ qs)
-    more v e f k w g = pick (ℕ-discrete n k)
+    more v e f k w g = cond (ℕ-discrete n k)
       where
-        pick : Dec (n ≡ k) → findIn k ps ≡ Value w
-        pick (yes q) = ap (λ (j : ℕ). findIn j ps) (sym q) ∙ e ∙ sym (here (n, v) qs k q) ∙ g
-        pick (no q) = h k w (sym (past (n, v) qs k q) ∙ g)
+        cond : Dec (n ≡ k) → findIn k ps ≡ Value w
+        cond (yes q) = ap (λ (j : ℕ). findIn j ps) (sym q) ∙ e ∙ sym (here (n, v) qs k q) ∙ g
+        cond (no q) = h k w (sym (past (n, v) qs k q) ∙ g)
 
     go : (x y : Found) → findIn n qs ≡ x → findIn n ps ≡ y → findIn n ps ≡ findIn n qs
     go (Value v) y f g = h n v f ∙ sym f

@@ -10,7 +10,6 @@ use lib.Dec.{eqb}
 use lib.ListN.{length, getD, drop, drop-of-length-le}
 use lib.Seq.{drop-cons, drop-drop}
 use borrow.Author.Tests.{ltb-false, eqb-true, ne-eqb}
-use Rattle.words.specs.Tests.{pick}
 use Rattle.words.specs.Word.{idle, wide, odd, even, first, Good}
 use Rattle.words.proofs.Claims.{no-report-word-is-idle}
 use Rattle.line_reader.specs.declared.run.Scan.{Scan}

@@ -3,7 +3,7 @@
 use Prim.Native.Nat.{ℕ, suc, _+_, _-_, _≤_, _<_}
 use native.Mathlib.Nat.{add-zero, zero-add}
 use mathlib.Core.Path.{_≡_, refl, ap, sym, _∙_, subst}
-use mathlib.Core.Bool.{Bool, true, false}
+use mathlib.Core.Bool.{Bool, true, false, cond}
 use mathlib.Core.List.{List, [], _∷_, _++_, append-nil}
 use native.Mathlib.Omega.{arith}
 use native.Mathlib.Numerals.{add-one}
@@ -12,7 +12,6 @@ use lib.ListN.{length, getD, take, drop, length-append, length-take, drop-of-len
 use lib.Seq.{drop-cons, append-snoc, drop-drop, getD-take, getD-drop}
 use borrow.Author.Tests.{lt-ltb, le-ltb, ltb-true, ne-eqb}
 use Rattle.refusals.specs.declared.LineRefusal.the-variants.{PlaceBeyondLine, WordTooWide, EvenWord}
-use Rattle.words.specs.Tests.{pick}
 use Rattle.words.specs.Word.{idle, wide, even, first}
 use Rattle.reports.specs.declared.RunAnswer.{RunAnswer}
 use Rattle.reports.specs.declared.RunAnswer.the-variants as A
@@ -20,7 +19,7 @@ use Rattle.reports.specs.Altitude.{AltitudeForm}
 use Rattle.reports.specs.Records.{reportOf}
 use Rattle.reports.specs.Runs.{Row, firstHit, table, judged, readRun, answerOffset}
 use Rattle.reports.proofs.Refusals.{first-seven}
-use Rattle.reports.proofs.Tests.{by-pick}
+use Rattle.reports.proofs.Tests.{by-cond}
 use Rattle.line_reader.specs.declared.run.Scan.{Scan}
 use Rattle.lines.specs.declared.Outcome.{Outcome}
 use Rattle.lines.specs.Line.{most, gap, stretch, runIn, outcomeAt, placed, notTaken, readBy, readAt}
@@ -94,7 +93,7 @@ first-suc n at fault =
     (λ e. ap suc (picked _ _ e) ∙ sym (picked _ _ (leb·suc-suc (suc at) n ∙ e)))
     (λ e. ap suc (passed _ _ e) ∙ last fault ∙ sym (passed _ _ (leb·suc-suc (suc at) n ∙ e)))
   where
-    last : (t : Bool) → suc (pick t n (n + 1)) ≡ pick t (suc n) (suc n + 1)
+    last : (t : Bool) → suc (cond t n (n + 1)) ≡ cond t (suc n) (suc n + 1)
     last true = refl
     last false = omega arith
 
@@ -200,7 +199,7 @@ Within n (x ∷ rows) = (x .holds ≡ true → x .offset ≤ n) × Within n rows
 -- the first row that holds names a word within the run, if each row does where it holds
 rows-within : (n : ℕ) (rows : List Row) (a : RunAnswer) → Within n rows → answerOffset a ≤ n → answerOffset (firstHit rows a) ≤ n
 rows-within n [] a h k = k
-rows-within n (x ∷ rows) a h k = by-pick (λ (r : RunAnswer). answerOffset r ≤ n) (x .holds) (h .0) (λ e. rows-within n rows a (h .1) k)
+rows-within n (x ∷ rows) a h k = by-cond (λ (r : RunAnswer). answerOffset r ≤ n) (x .holds) (h .0) (λ e. rows-within n rows a (h .1) k)
 
 pub offset-within : (form : AltitudeForm) (ws : List ℕ) (n w e : ℕ) → answerOffset (judged form ws n w e) ≤ n
 offset-within form ws n w e =

@@ -2,11 +2,10 @@
 -- and bytes.rt compute. Definitions only; no promise of a public function names them.
 use Prim.Native.Nat.{ℕ, _+_, _≤_}
 use mathlib.Core.Path.{_≡_}
-use mathlib.Core.Bool.{Bool, true, false}
+use mathlib.Core.Bool.{Bool, true, false, cond}
 use mathlib.Core.List.{List, [], _∷_}
 use lib.Dec.{eqb, ltb}
 use lib.ListN.{length, drop}
-use Rattle.words.specs.Tests.{pick}
 use Rattle.words.specs.Word.{idle, wide, even, first}
 use Rattle.reports.specs.Altitude.{AltitudeForm}
 use Rattle.reports.specs.Runs.{judged}
@@ -20,13 +19,13 @@ start = record { gap = 0; count = 0; wide = 0; even = 0; done = false }
 
 -- the first offset that has a fault, once one word more was seen: as before, or this word, or none yet
 abbrev pub firstMore : ℕ → ℕ → Bool → ℕ
-firstMore n first fault = pick (ltb first n) first (pick fault n (n + 1))
+firstMore n first fault = cond (ltb first n) first (cond fault n (n + 1))
 
 -- one word more: idle words before the run are counted, one behind it ends the run
 abbrev pub stepOf : Scan → ℕ → Scan
 stepOf s w =
-    pick (eqb w idle)
-    (pick (eqb (s .count) 0)
+    cond (eqb w idle)
+    (cond (eqb (s .count) 0)
     (record { gap = s .gap + 1; count = 0; wide = 0; even = 0; done = false })
     (record { gap = s .gap; count = s .count; wide = s .wide; even = s .even; done = true }))
     (record {
@@ -40,7 +39,7 @@ stepOf s w =
 -- word by word, up to the end of the run
 unfoldable pub scanned : Scan → List ℕ → Scan
 scanned s [] = s
-scanned s (w ∷ ws) = pick (s .done) s (scanned (stepOf s w) ws)
+scanned s (w ∷ ws) = cond (s .done) s (scanned (stepOf s w) ws)
 
 -- the line was seen from the place on, up to the end of the run
 pub record Scanned (line : List ℕ) (place : ℕ) (s : Scan) : Type 0 where
@@ -82,5 +81,5 @@ pub record Seen (line : List ℕ) (place : ℕ) (s : Scan) : Type 0 where
 -- the answer: the end of a line of n words, or the run's, whose first seven words are these
 unfoldable pub finished : AltitudeForm → Scan → ℕ → ℕ → List ℕ → Outcome
 finished form s n place ws =
-    pick (eqb (s .count) 0) (endOf n)
+    cond (eqb (s .count) 0) (endOf n)
     (placed (place + s .gap) (s .count) (judged form ws (s .count) (s .wide) (s .even)))

@@ -1,6 +1,7 @@
 -- The byte writer's leaf, one word after the other, and what a call answers and leaves. Assumes nothing.
 use Prim.Native.Nat.{ℕ, suc, _+_, _*_, _-_, _/_, _%_, _≤_, _<_}
 use mathlib.Core.Path.{_≡_, refl, ap, sym, _∙_}
+use mathlib.Core.Bool.{cond}
 use mathlib.Core.List.{List, [], _∷_, _++_, append-assoc}
 use native.Mathlib.Omega.{arith}
 use native.Mathlib.Numerals.{add-one}
@@ -10,7 +11,6 @@ use lib.Seq.{drop-cons, take-suc, set-at, append-snoc, drop-drop, length-take-le
 use borrow.Author.Tests.{lt-ltb, le-ltb, ne-eqb, ltb-false, eqb-false}
 use Rattle.refusals.specs.declared.LineRefusal.{LineRefusal}
 use Rattle.refusals.specs.declared.LineRefusal.the-variants.{OddByteCount, PlaceBeyondLine}
-use Rattle.words.specs.Tests.{pick}
 use Rattle.words.specs.Word.{idle}
 use Rattle.reports.specs.declared.Report.{Report}
 use Rattle.reports.specs.declared.Written.{Written}
@@ -147,9 +147,9 @@ answer-tells form bytes place r =
     let few : length w ≤ most = omega arith in
     passed _ _ t
     ∙ ap
-    (λ (x : Wrote). pick (eqb (length bytes % 2) 1) (W.Refused OddByteCount place) x)
-    (ap (λ (k : ℕ). pick (ltb k place) (W.Refused PlaceBeyondLine place) (roomOfMade k place (written form r))) (sym e)
-    ∙ ap (λ (x : Wrote). pick (ltb (length w) place) (W.Refused PlaceBeyondLine place) x) (made-room w place (written form r))
+    (λ (x : Wrote). cond (eqb (length bytes % 2) 1) (W.Refused OddByteCount place) x)
+    (ap (λ (k : ℕ). cond (ltb k place) (W.Refused PlaceBeyondLine place) (roomOfMade k place (written form r))) (sym e)
+    ∙ ap (λ (x : Wrote). cond (ltb (length w) place) (W.Refused PlaceBeyondLine place) x) (made-room w place (written form r))
     ∙ sym (passed _ _ (le-ltb most (length w) few)))
     ∙ sym (passed _ _ t))
 

@@ -3,7 +3,7 @@
 use Prim.Native.Nat.{ℕ, zero, suc, _+_, _≤_, _<_}
 use native.Mathlib.Nat.{add-zero, zero-add, add-assoc}
 use mathlib.Core.Path.{_≡_, refl, ap, sym, _∙_, subst}
-use mathlib.Core.Bool.{false}
+use mathlib.Core.Bool.{false, cond}
 use mathlib.Core.Logic.{_⊎_, inl, inr}
 use mathlib.Core.List.{List, [], _∷_, _++_, map}
 use native.Mathlib.Omega.{arith}
@@ -11,7 +11,6 @@ use lib.Dec.{eqb}
 use lib.ListN.{length, drop, length-drop}
 use lib.Seq.{drop-drop}
 use borrow.Author.Tests.{le-ltb}
-use Rattle.words.specs.Tests.{pick}
 use Rattle.words.specs.Word.{idle}
 use Rattle.reports.specs.declared.RunAnswer.{RunAnswer}
 use Rattle.reports.specs.declared.RunAnswer.the-variants as A
@@ -97,7 +96,7 @@ runs-some p line w l e =
 
 -- a call that answers this outcome, and the calls after it
 abbrev then : Answer → ℕ → List ℕ → Outcome → List Outcome
-then answer k line o = o ∷ pick (isEnd (o .what)) [] (calls answer k line (o .after))
+then answer k line o = o ∷ cond (isEnd (o .what)) [] (calls answer k line (o .after))
 
 all-calls : (answer : Answer) (k : ℕ) (line : List ℕ) (p : ℕ) → length line ≤ most → p ≤ length line → length (runsFrom p [] (drop p line)) < k
     → calls answer k line p ≡ map (alone answer) (runsFrom p [] (drop p line)) ++ (endOf (length line) ∷ [])

@@ -3,14 +3,13 @@
 use Prim.Native.Nat.{ℕ, _+_, _≤_, _<_}
 use native.Mathlib.Nat.{add-zero, zero-add, add-assoc}
 use mathlib.Core.Path.{_≡_, refl, ap, sym, _∙_}
-use mathlib.Core.Bool.{Bool, true, false}
+use mathlib.Core.Bool.{Bool, true, false, cond}
 use mathlib.Core.Logic.{inr}
 use mathlib.Core.List.{List, [], _∷_, _++_, map, append-assoc}
 use native.Mathlib.Omega.{arith}
 use lib.Dec.{ltb}
 use lib.ListN.{length, length-append}
 use borrow.Author.Tests.{le-ltb, lt-ltb}
-use Rattle.words.specs.Tests.{pick}
 use Rattle.words.specs.Word.{idle}
 use Rattle.lines.specs.declared.Outcome.{Outcome}
 use Rattle.lines.specs.Line.{most, outcomeOf, endOf, isEnd, readBy, outcomes}
@@ -107,11 +106,11 @@ outside-append : (lo hi : ℕ) (os qs : List Outcome) → outside lo hi (os ++ q
 unfolding outside
 outside-append lo hi [] qs = refl
 outside-append lo hi (o ∷ os) qs =
-    ap (λ (l : List Outcome). pick (ltb (o .first) lo) (o ∷ l) (pick (ltb (o .first) hi) l (o ∷ l))) (outside-append lo hi os qs)
+    ap (λ (l : List Outcome). cond (ltb (o .first) lo) (o ∷ l) (cond (ltb (o .first) hi) l (o ∷ l))) (outside-append lo hi os qs)
     ∙ kept (ltb (o .first) lo) (ltb (o .first) hi)
   where
-    kept : (s t : Bool) → pick s (o ∷ (outside lo hi os ++ outside lo hi qs)) (pick t (outside lo hi os ++ outside lo hi qs) (o ∷ (outside lo hi os ++ outside lo hi qs)))
-        ≡ pick s (o ∷ outside lo hi os) (pick t (outside lo hi os) (o ∷ outside lo hi os)) ++ outside lo hi qs
+    kept : (s t : Bool) → cond s (o ∷ (outside lo hi os ++ outside lo hi qs)) (cond t (outside lo hi os ++ outside lo hi qs) (o ∷ (outside lo hi os ++ outside lo hi qs)))
+        ≡ cond s (o ∷ outside lo hi os) (cond t (outside lo hi os) (o ∷ outside lo hi os)) ++ outside lo hi qs
     kept true t = refl
     kept false true = refl
     kept false false = refl

@@ -1,7 +1,7 @@
 -- The writer's leaves, one word after the other, their composition, and what a call answers and leaves. Assumes nothing.
 use Prim.Native.Nat.{ℕ, suc, _+_, _-_, _≤_, _<_}
 use mathlib.Core.Path.{_≡_, refl, ap, sym, _∙_}
-use mathlib.Core.Bool.{not}
+use mathlib.Core.Bool.{not, cond}
 use mathlib.Core.Logic.{_⊎_, inl, inr, ⊎-elim}
 use mathlib.Core.List.{List, [], _∷_, _++_, append-nil, append-assoc}
 use native.Mathlib.Omega.{arith}
@@ -12,7 +12,6 @@ use lib.Seq.{take-all, drop-cons, take-suc, set-at, append-snoc, drop-drop, leng
 use borrow.Author.Tests.{lt-ltb, le-ltb, ltb-false, eq-eqb, ne-eqb}
 use Rattle.refusals.specs.declared.LineRefusal.{LineRefusal}
 use Rattle.refusals.specs.declared.LineRefusal.the-variants.{LineTooLong, PlaceBeyondLine, NoRoom, ValueTooLarge}
-use Rattle.words.specs.Tests.{pick}
 use Rattle.words.specs.Word.{idle}
 use Rattle.reports.specs.declared.Report.{Report}
 use Rattle.reports.specs.declared.Written.{Written}
@@ -160,7 +159,7 @@ words-writes form line place r m w exit k h e f g p =
 
 -- the answer within the line: number 11, then number 10
 pub room-for : (form : AltitudeForm) (line : List ℕ) (place : ℕ) (r : Report)
-    → roomFor line place (written form r) ≡ pick (not (takes form r)) (W.Refused ValueTooLarge place) (room line place (length (wordsOf form r)))
+    → roomFor line place (written form r) ≡ cond (not (takes form r)) (W.Refused ValueTooLarge place) (room line place (length (wordsOf form r)))
 room-for form line place r =
     by-test (takes form r)
     (λ t.

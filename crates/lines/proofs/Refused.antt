@@ -2,7 +2,7 @@
 -- WriterRefuses and ByteWriterRefuses. A chain of tests is gone through row by row, by one law. Assumes nothing.
 use Prim.Native.Nat.{ℕ, _+_, _-_, _%_}
 use mathlib.Core.Path.{_≡_, refl, sym, _∙_, subst}
-use mathlib.Core.Bool.{Bool, true, false, not}
+use mathlib.Core.Bool.{Bool, true, false, not, cond}
 use mathlib.Core.Logic.{_↔_, _⊎_, inl, inr, ⊎-elim}
 use mathlib.Core.List.{List, [], _∷_}
 use native.Mathlib.Omega.{arith}
@@ -11,7 +11,6 @@ use lib.ListN.{length, drop}
 use borrow.Author.Tests.{ltb-false, le-ltb}
 use Rattle.refusals.specs.declared.LineRefusal.{LineRefusal}
 use Rattle.refusals.specs.declared.LineRefusal.the-variants.{LineTooLong, OddByteCount, PlaceBeyondLine, ValueTooLarge, NoRoom}
-use Rattle.words.specs.Tests.{pick}
 use Rattle.reports.specs.declared.Report.{Report}
 use Rattle.reports.specs.declared.RunAnswer.{RunAnswer}
 use Rattle.reports.specs.declared.RunAnswer.the-variants as A
@@ -42,7 +41,7 @@ differ e = let z : _≡_ {A = ℕ} 0 1 = cc in omega arith
 -- `Says x q p`: the answer x is refusal q, and names p
 module _ {X : Type 0} (Says : X → LineRefusal → ℕ → Type 0) (one : (x : X) (a b : LineRefusal) (m n : ℕ) → Says x a m → Says x b n → (a ≡ b) × (m ≡ n)) where
   one-row : (b : Bool) (x rest : X) (a q : LineRefusal) (m p : ℕ) (T : Type 0) → Says x a m → (b ≡ false → Says rest q p ↔ T)
-      → Says (pick b x rest) q p ↔ (((b ≡ true) × (a ≡ q) × (m ≡ p)) ⊎ ((b ≡ false) × T))
+      → Says (cond b x rest) q p ↔ (((b ≡ true) × (a ≡ q) × (m ≡ p)) ⊎ ((b ≡ false) × T))
   one-row true x rest a q m p T s h = (
     λ e. let k = one x a q m p s e in inl (refl, k .0, k .1),
     ⊎-elim (λ k. subst (λ (n : ℕ). Says x q n) (k .2) (subst (λ (r : LineRefusal). Says x r m) (k .1) s)) (λ k. absurd (differ (k .0))),
@@ -64,7 +63,7 @@ one-read o a b m n s t = (same a b (sym (s .0) ∙ t .0), sym (s .1) ∙ t .1)
     same : (a b : LineRefusal) → W.Refused a ≡ W.Refused b → a ≡ b
     same a b e = cc
 
-placed-pick : (f n : ℕ) (b : Bool) (x y : RunAnswer) → placed f n (pick b x y) ≡ pick b (placed f n x) (placed f n y)
+placed-pick : (f n : ℕ) (b : Bool) (x y : RunAnswer) → placed f n (cond b x y) ≡ cond b (placed f n x) (placed f n y)
 placed-pick f n true x y = refl
 placed-pick f n false x y = refl
 
@@ -83,7 +82,7 @@ run-refuses form n f (w ∷ ws) q p = table-refuses f (length (w ∷ ws)) (table
 -- the reader on a line that is short enough
 abbrev within : AltitudeForm → List ℕ → ℕ → Outcome
 within form line place =
-    pick (ltb (length line) place) (notTaken PlaceBeyondLine place)
+    cond (ltb (length line) place) (notTaken PlaceBeyondLine place)
     (outcomeAt (readRun form) (length line) (place + gap (drop place line)) (runIn (drop place line)))
 
 within-refuses : (form : AltitudeForm) (line : List ℕ) (place : ℕ) (q : LineRefusal) (p : ℕ) → Reads (within form line place) q p ↔ Hit (placeRows form line place) q p
@@ -115,7 +114,7 @@ byte-reader-refuses form bytes place q p =
     let whole = readAt form line place in
     let rows = placeRows form line place in
     let isOdd = eqb (length bytes % 2) 1 in
-    one-row Reads one-read (ltb mostBytes (length bytes)) (notTaken LineTooLong place) (pick isOdd (notTaken OddByteCount place) whole) LineTooLong q place p
+    one-row Reads one-read (ltb mostBytes (length bytes)) (notTaken LineTooLong place) (cond isOdd (notTaken OddByteCount place) whole) LineTooLong q place p
     _ (refl, refl)
     (λ b. one-row Reads one-read isOdd (notTaken OddByteCount place) whole OddByteCount q place p (Hit rows q p) (refl, refl)
     (λ c. same-iff (λ (o : Outcome). Reads o q p) (short form bytes place b) (within-refuses form line place q p)))
@@ -130,7 +129,7 @@ one-answer w a b m n s t = (cc, cc)
 
 -- the writer on a line that is short enough
 abbrev placed-write : AltitudeForm → List ℕ → ℕ → Report → Wrote
-placed-write form line place r = pick (ltb (length line) place) (P.Refused PlaceBeyondLine place) (roomFor line place (written form r))
+placed-write form line place r = cond (ltb (length line) place) (P.Refused PlaceBeyondLine place) (roomFor line place (written form r))
 
 write-refuses : (form : AltitudeForm) (line : List ℕ) (place : ℕ) (r : Report) (q : LineRefusal) (p : ℕ)
     → Answers (placed-write form line place r) q p ↔ Hit (writerPlaceRows form line place r) q p
@@ -162,6 +161,6 @@ byte-writer-refuses form bytes place r q p =
     let line = wordsIn bytes in
     let whole = writeAt form line place r in
     let isOdd = eqb (length bytes % 2) 1 in
-    one-row Answers one-answer (ltb mostBytes (length bytes)) (P.Refused LineTooLong place) (pick isOdd (P.Refused OddByteCount place) whole) LineTooLong q place p _ refl
+    one-row Answers one-answer (ltb mostBytes (length bytes)) (P.Refused LineTooLong place) (cond isOdd (P.Refused OddByteCount place) whole) LineTooLong q place p _ refl
     (λ b. one-row Answers one-answer isOdd (P.Refused OddByteCount place) whole OddByteCount q place p (Hit (writerPlaceRows form line place r) q p) refl
     (λ c. same-iff (λ (w : Wrote). Answers w q p) (short-write form bytes place r b) (write-refuses form line place r q p)))

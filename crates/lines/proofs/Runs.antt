@@ -14,7 +14,7 @@ use borrow.Author.Tests.{ne-eqb}
 use Rattle.words.specs.Word.{idle, AllGood}
 use Rattle.words.proofs.Claims.{no-report-word-is-idle}
 use Rattle.words.proofs.Faults.{NoneHas}
-use Rattle.reports.proofs.Tests.{by-pick}
+use Rattle.reports.proofs.Tests.{by-cond}
 use Rattle.lines.specs.Line.{gap, stretch, runIn}
 use Rattle.lines.specs.Stretches.{Run, closed, runsFrom}
 use Rattle.lines.specs.Claims.{EndsIdle, BeginsIdle}
@@ -125,7 +125,7 @@ module _ (P : Run → Type 0) (lo hi : ℕ) (each : (p w : ℕ) (ws : List ℕ) 
   unfolding runsFrom
   all-runs p open′ [] f a b = closed-all p open′ [] f a (omega arith) tt
   all-runs p open′ (w ∷ ws) f a b =
-      by-pick (All P) (eqb w idle)
+      by-cond (All P) (eqb w idle)
       (λ e. closed-all p open′ (runsFrom (p + length open′ + 1) [] ws) f a (omega arith) (all-runs (p + length open′ + 1) [] ws tt (omega arith) (omega arith)))
       (λ e. let k = length-append open′ (w ∷ []) in all-runs p (open′ ++ (w ∷ [])) ws (free-snoc open′ w f e) a (omega arith))
 

@@ -3,12 +3,11 @@
 use Prim.Native.Nat.{ℕ, suc, _+_, _-_, _≤_}
 use native.Mathlib.Nat.{add-zero}
 use mathlib.Core.Path.{_≡_, refl, ap, _∙_}
-use mathlib.Core.Bool.{Bool, true, false, not}
+use mathlib.Core.Bool.{Bool, true, false, not, cond}
 use mathlib.Core.List.{List, [], _∷_, _++_, map}
 use native.Mathlib.Omega.{arith}
 use lib.Dec.{eqb}
 use lib.ListN.{length, length-append}
-use Rattle.words.specs.Tests.{pick}
 use Rattle.words.specs.Word.{idle}
 use Rattle.reports.specs.declared.RunAnswer.{RunAnswer}
 use Rattle.reports.specs.declared.RunAnswer.the-variants as A
@@ -29,7 +28,7 @@ module _ (answer : Answer) where
   both : List Run → ℕ
   both rs = wordsWhere isAccepted answer rs + wordsWhere (λ a. not (isAccepted a)) answer rs
 
-  halves : (b : Bool) (n x y : ℕ) → pick b n 0 + x + (pick (not b) n 0 + y) ≡ n + (x + y)
+  halves : (b : Bool) (n x y : ℕ) → cond b n 0 + x + (cond (not b) n 0 + y) ≡ n + (x + y)
   halves true n x y = omega arith
   halves false n x y = omega arith
 
@@ -75,19 +74,19 @@ pub record Same (test : What → Bool) (on : RunAnswer → Bool) : Type 0 where
 
 module _ (answer : Answer) (test : What → Bool) (on : RunAnswer → Bool) (same : Same test on) where
   Counted : Run → Type 0
-  Counted r = pick (test (alone answer r .what)) (alone answer r .after - alone answer r .first) 0 ≡ pick (on (answer (r .words))) (length (r .words)) 0
+  Counted r = cond (test (alone answer r .what)) (alone answer r .after - alone answer r .first) 0 ≡ cond (on (answer (r .words))) (length (r .words)) 0
 
   counted : (p w : ℕ) (ws : List ℕ) → alone answer (record { place = p; words = w ∷ ws }) ≡ placed p (length (w ∷ ws)) (answer (w ∷ ws)) → Counted (record { place = p; words = w ∷ ws })
   unfolding Counted
   counted p w ws e =
       let n = length (w ∷ ws) in
-      ap (λ (o : Outcome). pick (test (o .what)) (o .after - o .first) 0) e
-      ∙ ap (λ (b : Bool). pick b (p + n - p) 0) (same .answers (answer (w ∷ ws)))
-      ∙ ap (λ (k : ℕ). pick (on (answer (w ∷ ws))) k 0) (let z : p + n - p ≡ n = omega arith in z)
+      ap (λ (o : Outcome). cond (test (o .what)) (o .after - o .first) 0) e
+      ∙ ap (λ (b : Bool). cond b (p + n - p) 0) (same .answers (answer (w ∷ ws)))
+      ∙ ap (λ (k : ℕ). cond (on (answer (w ∷ ws))) k 0) (let z : p + n - p ≡ n = omega arith in z)
 
   all-counted : (n : ℕ) (rs : List Run) → All Counted rs → spanned test (map (alone answer) rs ++ (endOf n ∷ [])) ≡ wordsWhere on answer rs
   unfolding Counted spanned wordsWhere
-  all-counted n [] h = ap (λ (b : Bool). pick b (n - n) 0 + 0) (same .none) ∙ add-zero 0
+  all-counted n [] h = ap (λ (b : Bool). cond b (n - n) 0 + 0) (same .none) ∙ add-zero 0
   all-counted n (r ∷ rs) h = λ i. h .0 i + all-counted n rs (h .1) i
 
   count : (line : List ℕ) → length line ≤ most → spanned test (outcomes answer line) ≡ wordsWhere on answer (runs line)

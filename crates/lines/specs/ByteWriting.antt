@@ -1,11 +1,11 @@
 -- The writer on a line held as bytes, two a word, high byte first: what a call answers, and the bytes that it leaves. Definitions only.
 use Prim.Native.Nat.{ℕ, _+_, _-_, _*_, _/_, _%_}
 use mathlib.Core.Path.{_≡_}
+use mathlib.Core.Bool.{cond}
 use mathlib.Core.List.{List, [], _∷_, _++_}
 use lib.Dec.{eqb, ltb}
 use lib.ListN.{length, take, drop}
 use Rattle.refusals.specs.declared.LineRefusal.the-variants.{LineTooLong, OddByteCount, PlaceBeyondLine, NoRoom}
-use Rattle.words.specs.Tests.{pick}
 use Rattle.words.specs.Word.{idle}
 use Rattle.reports.specs.declared.Report.{Report}
 use Rattle.reports.specs.declared.Written.{Written}
@@ -25,13 +25,13 @@ bytesOf (w ∷ ws) = w / 256 % 256 ∷ w % 256 ∷ bytesOf ws
 -- the writer's answer: number 2, then number 14, then as on the line of the words that the bytes hold
 unfoldable pub writeBytes : AltitudeForm → List ℕ → ℕ → Report → Wrote
 writeBytes form bytes place r =
-    pick (ltb mostBytes (length bytes)) (W.Refused LineTooLong place)
-    (pick (eqb (length bytes % 2) 1) (W.Refused OddByteCount place)
+    cond (ltb mostBytes (length bytes)) (W.Refused LineTooLong place)
+    (cond (eqb (length bytes % 2) 1) (W.Refused OddByteCount place)
     (writeAt form (wordsIn bytes) place r))
 
 -- the same by numbers alone: so many words in the line, a place among them, n words to be put there
 abbrev pub roomOf : ℕ → ℕ → ℕ → Wrote
-roomOf size place n = pick (ltb (size - place) (n + 1)) (W.Refused NoRoom place) (W.Next (place + n + 1))
+roomOf size place n = cond (ltb (size - place) (n + 1)) (W.Refused NoRoom place) (W.Next (place + n + 1))
 
 abbrev pub roomOfMade : ℕ → ℕ → Written → Wrote
 roomOfMade size place (M.Four a b c d) = roomOf size place 4
@@ -41,9 +41,9 @@ roomOfMade size place (M.Refused q) = W.Refused q place
 -- so many bytes, a place, and what a report was made into
 unfoldable pub answerOf : ℕ → ℕ → Written → Wrote
 answerOf size place made =
-    pick (ltb mostBytes size) (W.Refused LineTooLong place)
-    (pick (eqb (size % 2) 1) (W.Refused OddByteCount place)
-    (pick (ltb (size / 2) place) (W.Refused PlaceBeyondLine place)
+    cond (ltb mostBytes size) (W.Refused LineTooLong place)
+    (cond (eqb (size % 2) 1) (W.Refused OddByteCount place)
+    (cond (ltb (size / 2) place) (W.Refused PlaceBeyondLine place)
     (roomOfMade (size / 2) place made)))
 
 -- the bytes that a call leaves: what stood before the place, the words' bytes, the idle word's, what stood behind; refused, nothing has

@@ -2,14 +2,13 @@
 -- to a run. Proved in proofs/: the file is named at each.
 use Prim.Native.Nat.{ℕ, _+_, _-_, _/_, _≤_, _<_}
 use mathlib.Core.Logic.{_↔_, _⊎_}
-use mathlib.Core.Bool.{Bool, false}
+use mathlib.Core.Bool.{Bool, false, cond}
 use mathlib.Core.Path.{_≡_}
 use mathlib.Core.List.{List, [], _∷_, _++_, map}
 use lib.Dec.{ltb}
 use lib.ListN.{length, take, drop, replicate}
 use Rattle.refusals.specs.declared.LineRefusal.{LineRefusal}
 use Rattle.refusals.specs.declared.LineRefusal.the-variants.{WrongLength}
-use Rattle.words.specs.Tests.{pick}
 use Rattle.words.specs.Word.{idle}
 use Rattle.reports.specs.declared.Report.{Report}
 use Rattle.reports.specs.declared.RunAnswer.{RunAnswer}
@@ -126,7 +125,7 @@ BeginsIdle ws = (ws ≡ []) ⊎ ((rest : List ℕ) × (ws ≡ idle ∷ rest))
 -- the outcomes before the end
 unfoldable pub beforeEnd : List Outcome → List Outcome
 beforeEnd [] = []
-beforeEnd (o ∷ os) = pick (isEnd (o .what)) [] (o ∷ beforeEnd os)
+beforeEnd (o ∷ os) = cond (isEnd (o .what)) [] (o ∷ beforeEnd os)
 
 -- a line in three parts that meet at idle words has the outcomes of the parts, moved along
 abbrev pub Splits : Type 0
@@ -140,7 +139,7 @@ Splits =
 unfoldable pub outside : ℕ → ℕ → List Outcome → List Outcome
 outside lo hi [] = []
 outside lo hi (o ∷ os) =
-    pick (ltb (o .first) lo) (o ∷ outside lo hi os) (pick (ltb (o .first) hi) (outside lo hi os) (o ∷ outside lo hi os))
+    cond (ltb (o .first) lo) (o ∷ outside lo hi os) (cond (ltb (o .first) hi) (outside lo hi os) (o ∷ outside lo hi os))
 
 -- the words between two idle words that stay are replaced by equally many others: every outcome outside is the same
 abbrev pub Replaced : Type 0
@@ -168,7 +167,7 @@ TotalsAdd = (answer : Answer) (line : List ℕ) → idleWords line + reportedWor
 -- the words of the outcomes of a kind
 unfoldable pub spanned : (What → Bool) → List Outcome → ℕ
 spanned test [] = 0
-spanned test (o ∷ os) = pick (test (o .what)) (o .after - o .first) 0 + spanned test os
+spanned test (o ∷ os) = cond (test (o .what)) (o .after - o .first) 0 + spanned test os
 
 -- they can be counted while the line is read
 abbrev pub TotalsCounted : Type 0

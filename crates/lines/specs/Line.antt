@@ -1,13 +1,12 @@
 -- The line (document 01, "The line"): what the reader answers at a place, and the calls one after the other. Whatever looks at a run's
 -- words is a parameter, an answer to a run; document 01's is `readRun` of an altitude form. Definitions only.
 use Prim.Native.Nat.{ℕ, zero, suc, _+_}
-use mathlib.Core.Bool.{Bool, true, false}
+use mathlib.Core.Bool.{Bool, true, false, cond}
 use mathlib.Core.List.{List, [], _∷_}
 use lib.Dec.{eqb, ltb}
 use lib.ListN.{length, drop}
 use Rattle.refusals.specs.declared.LineRefusal.{LineRefusal}
 use Rattle.refusals.specs.declared.LineRefusal.the-variants.{LineTooLong, PlaceBeyondLine}
-use Rattle.words.specs.Tests.{pick}
 use Rattle.words.specs.Word.{idle}
 use Rattle.reports.specs.declared.RunAnswer.{RunAnswer}
 use Rattle.reports.specs.declared.RunAnswer.the-variants as A
@@ -63,12 +62,12 @@ isEnd W.End = true
 -- how many idle words stand in front
 unfoldable pub gap : List ℕ → ℕ
 gap [] = 0
-gap (w ∷ ws) = pick (eqb w idle) (suc (gap ws)) 0
+gap (w ∷ ws) = cond (eqb w idle) (suc (gap ws)) 0
 
 -- the words in front of the first idle word
 unfoldable pub stretch : List ℕ → List ℕ
 stretch [] = []
-stretch (w ∷ ws) = pick (eqb w idle) [] (w ∷ stretch ws)
+stretch (w ∷ ws) = cond (eqb w idle) [] (w ∷ stretch ws)
 
 -- the run behind the idle words in front
 abbrev pub runIn : List ℕ → List ℕ
@@ -83,8 +82,8 @@ outcomeAt answer n first (w ∷ ws) = placed first (length (w ∷ ws)) (answer (
 unfoldable pub readBy : (List ℕ → RunAnswer) → List ℕ → ℕ → Outcome
 readBy answer line place =
     let rest = drop place line in
-    pick (ltb most (length line)) (notTaken LineTooLong place)
-    (pick (ltb (length line) place) (notTaken PlaceBeyondLine place)
+    cond (ltb most (length line)) (notTaken LineTooLong place)
+    (cond (ltb (length line) place) (notTaken PlaceBeyondLine place)
     (outcomeAt answer (length line) (place + gap rest) (runIn rest)))
 
 -- the reader of document 01's reports
@@ -96,7 +95,7 @@ readAt form line place = readBy (readRun form) line place
 -- the outcomes of at most k calls, the first from a place, each other from the place after the one before it, up to the end
 unfoldable pub calls : (List ℕ → RunAnswer) → ℕ → List ℕ → ℕ → List Outcome
 calls answer zero line place = []
-calls answer (suc k) line place = let o = readBy answer line place in o ∷ pick (isEnd (o .what)) [] (calls answer k line (o .after))
+calls answer (suc k) line place = let o = readBy answer line place in o ∷ cond (isEnd (o .what)) [] (calls answer k line (o .after))
 
 -- a line of at most `most` words read from its start: as many calls as it has words, and one, which CallsEnough (Claims.antt) shows to be enough
 abbrev pub outcomes : (List ℕ → RunAnswer) → List ℕ → List Outcome

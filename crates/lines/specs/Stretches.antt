@@ -1,11 +1,10 @@
 -- The unbroken stretches of non-idle words of a line, and how many of its words are idle, in reports and in refused runs: said without
 -- the reader. Definitions only.
 use Prim.Native.Nat.{ℕ, suc, _+_}
-use mathlib.Core.Bool.{Bool, true, false, not}
+use mathlib.Core.Bool.{Bool, true, false, not, cond}
 use mathlib.Core.List.{List, [], _∷_, _++_}
 use lib.Dec.{eqb}
 use lib.ListN.{length}
-use Rattle.words.specs.Tests.{pick}
 use Rattle.words.specs.Word.{idle}
 use Rattle.reports.specs.declared.RunAnswer.{RunAnswer}
 use Rattle.reports.specs.declared.RunAnswer.the-variants as A
@@ -24,7 +23,7 @@ closed place (w ∷ ws) rs = record { place = place; words = w ∷ ws } ∷ rs
 unfoldable pub runsFrom : ℕ → List ℕ → List ℕ → List Run
 runsFrom place open′ [] = closed place open′ []
 runsFrom place open′ (w ∷ ws) =
-    pick (eqb w idle) (closed place open′ (runsFrom (place + length open′ + 1) [] ws)) (runsFrom place (open′ ++ (w ∷ [])) ws)
+    cond (eqb w idle) (closed place open′ (runsFrom (place + length open′ + 1) [] ws)) (runsFrom place (open′ ++ (w ∷ [])) ws)
 
 -- the stretches of a line, in order; RunsAre (Claims.antt) says what else they are
 abbrev pub runs : List ℕ → List Run
@@ -34,7 +33,7 @@ runs line = runsFrom 0 [] line
 
 unfoldable pub idleWords : List ℕ → ℕ
 idleWords [] = 0
-idleWords (w ∷ ws) = pick (eqb w idle) (suc (idleWords ws)) (idleWords ws)
+idleWords (w ∷ ws) = cond (eqb w idle) (suc (idleWords ws)) (idleWords ws)
 
 abbrev pub isAccepted : RunAnswer → Bool
 isAccepted (A.Accepted r) = true
@@ -43,7 +42,7 @@ isAccepted (A.Refused q o) = false
 -- the words of the runs whose answer passes a test
 unfoldable pub wordsWhere : (RunAnswer → Bool) → (List ℕ → RunAnswer) → List Run → ℕ
 wordsWhere test answer [] = 0
-wordsWhere test answer (r ∷ rs) = pick (test (answer (r .words))) (length (r .words)) 0 + wordsWhere test answer rs
+wordsWhere test answer (r ∷ rs) = cond (test (answer (r .words))) (length (r .words)) 0 + wordsWhere test answer rs
 
 -- the words in reports, and in refused runs
 abbrev pub reportedWords : (List ℕ → RunAnswer) → List ℕ → ℕ

@@ -1,11 +1,11 @@
 -- The writer (document 01, "The line"): what a call answers, the line that it leaves, and calls one after the other. Definitions only.
 use Prim.Native.Nat.{ℕ, _+_, _-_}
 use mathlib.Core.Path.{_≡_}
+use mathlib.Core.Bool.{cond}
 use mathlib.Core.List.{List, [], _∷_, _++_}
 use lib.Dec.{ltb}
 use lib.ListN.{length, take, drop}
 use Rattle.refusals.specs.declared.LineRefusal.the-variants.{LineTooLong, PlaceBeyondLine, NoRoom}
-use Rattle.words.specs.Tests.{pick}
 use Rattle.words.specs.Word.{idle}
 use Rattle.reports.specs.declared.Report.{Report}
 use Rattle.reports.specs.declared.Written.{Written}
@@ -20,7 +20,7 @@ use Rattle.lines.specs.Line.{most}
 
 -- n words and one idle word from a place on: number 10 where there are fewer, else the place after them
 abbrev pub room : List ℕ → ℕ → ℕ → Wrote
-room line place n = pick (ltb (length line - place) (n + 1)) (W.Refused NoRoom place) (W.Next (place + n + 1))
+room line place n = cond (ltb (length line - place) (n + 1)) (W.Refused NoRoom place) (W.Next (place + n + 1))
 
 -- for four words or for seven; a report that has none gets its own refusal (number 11)
 abbrev pub roomFor : List ℕ → ℕ → Written → Wrote
@@ -31,8 +31,8 @@ roomFor line place (M.Refused q) = W.Refused q place
 -- the writer's answer: number 2, then number 1, then 11, then 10, or the place after the words and the idle word
 unfoldable pub writeAt : AltitudeForm → List ℕ → ℕ → Report → Wrote
 writeAt form line place r =
-    pick (ltb most (length line)) (W.Refused LineTooLong place)
-    (pick (ltb (length line) place) (W.Refused PlaceBeyondLine place)
+    cond (ltb most (length line)) (W.Refused LineTooLong place)
+    (cond (ltb (length line) place) (W.Refused PlaceBeyondLine place)
     (roomFor line place (written form r)))
 
 -- the line that a call leaves: what stood before the place, the words, the idle word, what stood behind; refused, nothing has changed

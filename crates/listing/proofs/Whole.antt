@@ -3,14 +3,13 @@
 use Prim.Native.Nat.{ℕ, zero, suc, _+_, _-_, _/_, _%_, _≤_, _<_}
 use native.Mathlib.Nat.{add-zero, zero-add, add-assoc}
 use mathlib.Core.Path.{_≡_, refl, ap, sym, _∙_}
-use mathlib.Core.Bool.{Bool, true, false, not}
+use mathlib.Core.Bool.{Bool, true, false, not, cond}
 use mathlib.Core.Logic.{_⊎_, inl, inr, ⊎-elim}
 use mathlib.Core.List.{List, [], _∷_, _++_, map, append-nil, append-assoc}
 use native.Mathlib.Omega.{arith}
 use lib.Dec.{eqb, ltb}
 use lib.ListN.{length}
 use borrow.Author.Tests.{lt-ltb, le-ltb, ltb-true, ltb-false, eq-eqb, ne-eqb, eqb-true, eqb-false}
-use Rattle.words.specs.Tests.{pick}
 use Rattle.refusals.specs.Numbers.{lineNumber}
 use Rattle.reports.specs.declared.RunAnswer.{RunAnswer}
 use Rattle.reports.specs.declared.RunAnswer.the-variants as A
@@ -65,7 +64,7 @@ told n w (o ∷ os) = said (stepOn n w o) ++ told n (onward w (stepOn n w o)) os
 
 hasEnd : List Outcome → Bool
 hasEnd [] = false
-hasEnd (o ∷ os) = pick (isEnd (o .what)) true (hasEnd os)
+hasEnd (o ∷ os) = cond (isEnd (o .what)) true (hasEnd os)
 
 -- a walk that has counted no more words than lie before its place
 pub record Sound (n : ℕ) (w : Walk) : Type 0 where
@@ -114,9 +113,9 @@ module _ (bytes : List ℕ) (short : length bytes ≤ mostBytes) (even : length 
       (λ e.
       let on = sound-on n w (o .what) (o .first) (o .after) (o .named) s (e .0) (b .behind) (b .forward) (b .inside) in
       let same : calls answer k line (onward w t .place) ≡ calls answer k line (o .after) = ap (calls answer k line) (on .1) in
-      let rest : pick (isEnd (o .what)) [] (calls answer k line (o .after)) ≡ calls answer k line (o .after) = passed _ _ (e .0) in
+      let rest : cond (isEnd (o .what)) [] (calls answer k line (o .after)) ≡ calls answer k line (o .after) = passed _ _ (e .0) in
       let more = fills-told k (onward w t) (on .0)
-      (ap hasEnd same ∙ sym (ap hasEnd rest) ∙ sym (passed true (hasEnd (pick (isEnd (o .what)) [] (calls answer k line (o .after)))) (e .0)) ∙ h) in
+      (ap hasEnd same ∙ sym (ap hasEnd rest) ∙ sym (passed true (hasEnd (cond (isEnd (o .what)) [] (calls answer k line (o .after)))) (e .0)) ∙ h) in
       let all = one-fill k bytes w t _ (step-is w s) more in (
         all .0 ∙ ap (λ (os : List Outcome). said t ++ told n (onward w t) os) (same ∙ sym rest),
         all .1,
@@ -142,7 +141,7 @@ Placed r = alone answer r ≡ placed (r .place) (length (r .words)) (answer (r .
 
 -- what is said of one run, and what is counted
 one-told : (n p r q f c : ℕ) (a : RunAnswer) (os : List Outcome)
-    → told n (at p r q) (placed f c a ∷ os) ≡ lineFor f c a ++ told n (at (f + c) (r + pick (isAccepted a) c 0) (q + pick (not (isAccepted a)) c 0)) os
+    → told n (at p r q) (placed f c a ∷ os) ≡ lineFor f c a ++ told n (at (f + c) (r + cond (isAccepted a) c 0) (q + cond (not (isAccepted a)) c 0)) os
 unfolding told
 one-told n p r q f c (A.Accepted report) os =
     let z : f + c - f ≡ c = omega arith in
@@ -162,14 +161,14 @@ runs-told n p r q (x ∷ rs) h =
     let f = x .place in
     let c = length (x .words) in
     let a = answer (x .words) in
-    let r2 = r + pick (isAccepted a) c 0 in
-    let q2 = q + pick (not (isAccepted a)) c 0 in
+    let r2 = r + cond (isAccepted a) c 0 in
+    let q2 = q + cond (not (isAccepted a)) c 0 in
     ap (λ (o : Outcome). told n (at p r q) (o ∷ (map (alone answer) rs ++ (endOf n ∷ [])))) (h .0)
     ∙ one-told n p r q f c a (map (alone answer) rs ++ (endOf n ∷ []))
     ∙ ap (λ (l : List ℕ). lineFor f c a ++ l) (runs-told n (f + c) r2 q2 rs (h .1))
     ∙ sym (append-assoc (lineFor f c a) (runLines rs) (totals n (r2 + reported rs) (q2 + refused rs)))
-    ∙ ap (λ (k : ℕ). lineFor f c a ++ runLines rs ++ totals n k (q2 + refused rs)) (add-assoc r (pick (isAccepted a) c 0) (reported rs))
-    ∙ ap (λ (k : ℕ). lineFor f c a ++ runLines rs ++ totals n (r + (pick (isAccepted a) c 0 + reported rs)) k) (add-assoc q (pick (not (isAccepted a)) c 0) (refused rs))
+    ∙ ap (λ (k : ℕ). lineFor f c a ++ runLines rs ++ totals n k (q2 + refused rs)) (add-assoc r (cond (isAccepted a) c 0) (reported rs))
+    ∙ ap (λ (k : ℕ). lineFor f c a ++ runLines rs ++ totals n (r + (cond (isAccepted a) c 0 + reported rs)) k) (add-assoc q (cond (not (isAccepted a)) c 0) (refused rs))
 
 end-last : (n : ℕ) (os : List Outcome) → hasEnd (os ++ (endOf n ∷ [])) ≡ true
 unfolding hasEnd

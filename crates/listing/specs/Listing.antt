@@ -1,10 +1,10 @@
 -- The whole listing of a recording, over the words of its line (document 01, "The C host and the lister"): said without the reader.
 -- Definitions only.
 use Prim.Native.Nat.{ℕ, _+_, _%_}
+use mathlib.Core.Bool.{cond}
 use mathlib.Core.List.{List, [], _∷_, _++_}
 use lib.Dec.{eqb, ltb}
 use lib.ListN.{length}
-use Rattle.words.specs.Tests.{pick}
 use Rattle.refusals.specs.Numbers.{lineNumber}
 use Rattle.reports.specs.declared.RunAnswer.{RunAnswer}
 use Rattle.reports.specs.declared.RunAnswer.the-variants as A
@@ -37,6 +37,6 @@ listingOf line =
 -- the listing of a recording: over 65,536 bytes LONG, else for an odd number ODD, else that of its words
 unfoldable pub listing : List ℕ → List ℕ
 listing bytes =
-    pick (ltb mostBytes (length bytes)) (text "LONG\n")
-    (pick (eqb (length bytes % 2) 1) (text "ODD\n")
+    cond (ltb mostBytes (length bytes)) (text "LONG\n")
+    (cond (eqb (length bytes % 2) 1) (text "ODD\n")
     (listingOf (wordsIn bytes)))

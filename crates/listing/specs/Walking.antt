@@ -1,11 +1,10 @@
 -- The walk over a recording: what one call comes to, and calls one after the other. Definitions only.
 use Prim.Native.Nat.{ℕ, zero, suc, _+_, _-_, _%_, _≤_}
 use mathlib.Core.Path.{_≡_}
-use mathlib.Core.Bool.{Bool, true, false}
+use mathlib.Core.Bool.{Bool, true, false, cond}
 use mathlib.Core.List.{List, [], _∷_, _++_}
 use lib.Dec.{eqb, ltb}
 use lib.ListN.{length, drop}
-use Rattle.words.specs.Tests.{pick}
 use Rattle.refusals.specs.Numbers.{lineNumber}
 use Rattle.reports.specs.Altitude.{signMagnitude}
 use Rattle.reports.specs.Kinds.{kindOf}
@@ -52,17 +51,17 @@ stepOn n w o = stepFor n w (o .what) (o .first) (o .after) (o .named)
 -- lie before it, is no walk over this line; else the reader's outcome at the place
 unfoldable pub stepAt : List ℕ → Walk → Step
 stepAt bytes w =
-    pick (w .done) Ended
-    (pick (ltb mostBytes (length bytes)) (Says (text "LONG\n") (closed w))
-    (pick (eqb (length bytes % 2) 1) (Says (text "ODD\n") (closed w))
-    (pick (ltb (length (wordsIn bytes)) (w .place)) Astray
-    (pick (ltb (w .place) (w .reported)) Astray
-    (pick (ltb (w .place - w .reported) (w .refused)) Astray
+    cond (w .done) Ended
+    (cond (ltb mostBytes (length bytes)) (Says (text "LONG\n") (closed w))
+    (cond (eqb (length bytes % 2) 1) (Says (text "ODD\n") (closed w))
+    (cond (ltb (length (wordsIn bytes)) (w .place)) Astray
+    (cond (ltb (w .place) (w .reported)) Astray
+    (cond (ltb (w .place - w .reported) (w .refused)) Astray
     (stepOn (length (wordsIn bytes)) w (readBytes signMagnitude bytes (w .place))))))))
 
 -- the same into a buffer of so many bytes
 unfoldable pub stepIn : ℕ → List ℕ → Walk → Step
-stepIn room bytes w = pick (ltb room 64) Cramped (stepAt bytes w)
+stepIn room bytes w = cond (ltb room 64) Cramped (stepAt bytes w)
 
 -- ---- one call and the buffer
 

@@ -1,6 +1,6 @@
 -- From what the items say to the record: every field has its own value back. Assumes nothing.
 use mathlib.Core.Path.{_≡_, refl, ap, sym, _∙_}
-use mathlib.Core.Bool.{Bool, true, false}
+use mathlib.Core.Bool.{Bool, true, false, cond}
 use mathlib.Core.List.{List, [], _∷_}
 use Prim.Native.Nat.{ℕ, zero, suc, _-_, _/_, _%_, _≤_, _<_}
 use native.Mathlib.Nat.{mod-eq-of-lt}
@@ -9,7 +9,6 @@ use borrow.Author.Tests.{ltb-true, ltb-false, leb-true}
 use lib.Dec.{eqb, leb, ltb, lit<, lit≤}
 use lib.IntN.{ℤ, pos, negsuc, natAbs}
 use lib.ListN.{getD}
-use Rattle.words.specs.Tests.{pick}
 use Rattle.words.proofs.Tests.{picked, passed, by-test}
 use Rattle.pairs.specs.declared.Found.{Found}
 use Rattle.pairs.specs.declared.Found.the-variants as F
@@ -91,18 +90,18 @@ module _ (ps : List Pair) where
       let b : valueOf (findIn n ps) ≡ k = found-count (findIn n ps) k e in
       rw b (mod-eq-of-lt h)
 
-  flag-back : (n : ℕ) (b : Bool) → told ps n ≡ I.Of (pos (pick b 1 0)) → eqb (valueOf (findIn n ps)) 1 ≡ b
+  flag-back : (n : ℕ) (b : Bool) → told ps n ≡ I.Of (pos (cond b 1 0)) → eqb (valueOf (findIn n ps)) 1 ≡ b
   unfolding told
   flag-back n true e = rw (found-count (findIn n ps) 1 e) refl
   flag-back n false e = rw (found-count (findIn n ps) 0 e) refl
 
 -- ---- what fits
 
-pub both : (a b : Bool) → pick a b false ≡ true → (a ≡ true) × (b ≡ true)
+pub both : (a b : Bool) → cond a b false ≡ true → (a ≡ true) × (b ≡ true)
 both true b e = (refl, e)
 both false b e = let z : _≡_ {A = ℕ} 0 1 = cc in absurd (omega arith)
 
-one : (n w : ℕ) → pick (ltb n w) true false ≡ true → n < w
+one : (n w : ℕ) → cond (ltb n w) true false ≡ true → n < w
 one n w e = ltb-true n w (both _ _ e .0)
 
 -- where all words fit, each does

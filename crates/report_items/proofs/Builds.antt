@@ -1,13 +1,12 @@
 -- The test of the items, by its outcome, and by what is gathered. Assumes nothing.
 use mathlib.Core.Path.{_≡_, refl, ap, sym, _∙_}
-use mathlib.Core.Bool.{Bool, true, false}
+use mathlib.Core.Bool.{Bool, true, false, cond}
 use mathlib.Core.List.{List}
 use Prim.Native.Nat.{ℕ, zero, suc, _^_, _≤_}
 use native.Mathlib.Omega.{arith}
 use lib.ListN.{length}
 use native.Mathlib.Nat.{zero-add}
 use borrow.Author.Tests.{eq-eqb, ne-eqb}
-use Rattle.words.specs.Tests.{pick}
 use Rattle.words.proofs.Tests.{picked, passed}
 use Rattle.pairs.specs.declared.Found.{Found}
 use Rattle.pairs.specs.declared.Found.the-variants as F
@@ -29,11 +28,11 @@ module _ (kind : ℕ) (ps : List Pair) (r : Report) (is : r ≡ builtFrom kind p
   sizes : length (itemsOf r) ≡ length (itemsOf (builtFrom kind ps))
   sizes = ap (λ (x : Report). length (itemsOf x)) is
 
-  agreed : {t : Bool} → length ps ≡ length (itemsOf r) → agreeTo 36 r (told ps) ≡ t → agree (builtFrom kind ps) ps ≡ pick t true false
+  agreed : {t : Bool} → length ps ≡ length (itemsOf r) → agreeTo 36 r (told ps) ≡ t → agree (builtFrom kind ps) ps ≡ cond t true false
   unfolding agree
   agreed {t} n e =
       picked _ _ (eq-eqb (length ps) (length (itemsOf (builtFrom kind ps))) (n ∙ sizes))
-      ∙ ap (λ (x : Bool). pick x true false) (ap (λ (x : Report). agreeTo 36 x (told ps)) (sym is) ∙ e)
+      ∙ ap (λ (x : Bool). cond x true false) (ap (λ (x : Report). agreeTo 36 x (told ps)) (sym is) ∙ e)
 
   pub by-items : length ps ≡ length (itemsOf r) → agreeTo 36 r (told ps) ≡ false → givenBy kind ps ≡ unfit
   unfolding givenBy
@@ -46,7 +45,7 @@ module _ (kind : ℕ) (ps : List Pair) (r : Report) (is : r ≡ builtFrom kind p
 -- ---- by what is gathered
 
 -- what is gathered says what the pairs say
-item-from : (f : Found) → pick (isFound f) (I.Of (asSigned (2 ^ 63) (valueOf f))) I.Missing ≡ itemFrom f
+item-from : (f : Found) → cond (isFound f) (I.Of (asSigned (2 ^ 63) (valueOf f))) I.Missing ≡ itemFrom f
 item-from (F.Value v) = refl
 item-from F.Missing = refl
 
@@ -59,8 +58,8 @@ same-to : (m : ℕ) (r : Report) (f g : ℕ → Item) → ((n : ℕ) → n ≤ m
 unfolding agreeTo
 same-to zero r f g h = refl
 same-to (suc m) r f g h =
-    ap (λ (x : Item). pick (sameItem (itemOf r (suc m)) x) (agreeTo m r f) false) (h (suc m) (omega arith))
-    ∙ ap (λ (b : Bool). pick (sameItem (itemOf r (suc m)) (g (suc m))) b false) (same-to m r f g (λ n l. h n (omega arith)))
+    ap (λ (x : Item). cond (sameItem (itemOf r (suc m)) x) (agreeTo m r f) false) (h (suc m) (omega arith))
+    ∙ ap (λ (b : Bool). cond (sameItem (itemOf r (suc m)) (g (suc m))) b false) (same-to m r f g (λ n l. h n (omega arith)))
 
 pub gathered : (r : Report) (ps : List Pair) → agreeTo 36 r (itemTold (toldFrom 0 ps)) ≡ agreeTo 36 r (told ps)
 gathered r ps = same-to 36 r (itemTold (toldFrom 0 ps)) (told ps) (told-of ps)

@@ -1,6 +1,6 @@
 -- The claims of specs/Claims.antt: what is given is a report's own kind and items, and nothing else. Assumes nothing.
 use mathlib.Core.Path.{_≡_, refl, ap, sym, subst, _∙_}
-use mathlib.Core.Bool.{Bool, true, false}
+use mathlib.Core.Bool.{Bool, true, false, cond}
 use mathlib.Core.List.{List}
 use mathlib.Core.Logic.{_⊎_, inl, inr, ⊎-elim}
 use Prim.Native.Nat.{ℕ, zero, suc, _%_, _≤_, _<_}
@@ -10,7 +10,6 @@ use borrow.Author.Tests.{eq-eqb, eqb-true}
 use lib.Dec.{eqb}
 use lib.IntN.{pos, negsuc}
 use lib.ListN.{length}
-use Rattle.words.specs.Tests.{pick}
 use Rattle.words.proofs.Tests.{picked, passed, by-test}
 use Rattle.pairs.specs.Pairs.{Pair, pairsIn, findIn, isFound}
 use Rattle.reports.specs.declared.Report.{Report}
@@ -70,7 +69,7 @@ module _ (r : Report) (said : ℕ → Item) where
 abbrev Kinded : ℕ → Report → Type 0
 Kinded kind r = (r ≡ unfit) ⊎ (kindNumber (kindOf r) ≡ kind)
 
-arm : (kind k : ℕ) (a b : Report) → kindNumber (kindOf a) ≡ k → Kinded kind b → Kinded kind (pick (eqb kind k) a b)
+arm : (kind k : ℕ) (a b : Report) → kindNumber (kindOf a) ≡ k → Kinded kind b → Kinded kind (cond (eqb kind k) a b)
 arm kind k a b e o =
     by-test (eqb kind k)
     (λ t. inr (ap (λ (r : Report). kindNumber (kindOf r)) (picked a b t) ∙ e ∙ sym (eqb-true kind k t)))

@@ -1,13 +1,12 @@
 -- Items that a report has as they are told, and that are as many as it has, are all that it has. Assumes nothing.
 use Prim.Native.Nat.{ℕ, zero, suc, _+_, _-_, _^_, _≤_, _<_}
 use mathlib.Core.Path.{_≡_, refl, sym, _∙_}
-use mathlib.Core.Bool.{Bool, true, false}
+use mathlib.Core.Bool.{Bool, true, false, cond}
 use native.Mathlib.Omega.{arith}
 use lib.Dec.{eqb}
 use lib.IntN.{ℤ}
 use lib.ListN.{length, getD}
 use borrow.Author.Tests.{eq-eqb, ne-eqb}
-use Rattle.words.specs.Tests.{pick}
 use Rattle.words.proofs.Tests.{picked, by-test}
 use Rattle.pairs.specs.declared.Told.{Told}
 use Rattle.reports.specs.declared.Height.{Height}
@@ -32,7 +31,7 @@ stands own I.Missing = true
 
 unfoldable pub standTo : ℕ → Report → (ℕ → Item) → Bool
 standTo zero r said = true
-standTo (suc n) r said = pick (stands (itemOf r (suc n)) (said (suc n))) (standTo n r said) false
+standTo (suc n) r said = cond (stands (itemOf r (suc n)) (said (suc n))) (standTo n r said) false
 
 -- ---- one number
 
@@ -50,26 +49,26 @@ stands-same I.Missing I.Missing e = (omega arith, λ h. refl)
 
 -- of what is gathered
 pub stands-by : (own : Item) (t : Told) (n : ℕ)
-    → pick (getD (t .there) n false) (sameItem own (I.Of (asSigned (2 ^ 63) (getD (t .values) n 0)))) true ≡ stands own (itemTold t n)
+    → cond (getD (t .there) n false) (sameItem own (I.Of (asSigned (2 ^ 63) (getD (t .values) n 0)))) true ≡ stands own (itemTold t n)
 unfolding itemTold
 stands-by own t n = go (getD (t .there) n false) (asSigned (2 ^ 63) (getD (t .values) n 0))
   where
-    go : (b : Bool) (z : ℤ) → pick b (sameItem own (I.Of z)) true ≡ stands own (pick b (I.Of z) I.Missing)
+    go : (b : Bool) (z : ℤ) → cond b (sameItem own (I.Of z)) true ≡ stands own (cond b (I.Of z) I.Missing)
     go true z = refl
     go false z = refl
 
-pub one-by : (t : Told) (n : ℕ) → pick (getD (t .there) n false) 1 0 ≡ isOf (itemTold t n)
+pub one-by : (t : Told) (n : ℕ) → cond (getD (t .there) n false) 1 0 ≡ isOf (itemTold t n)
 unfolding itemTold
 one-by t n = go (getD (t .there) n false) (asSigned (2 ^ 63) (getD (t .values) n 0))
   where
-    go : (b : Bool) (z : ℤ) → pick b 1 0 ≡ isOf (pick b (I.Of z) I.Missing)
+    go : (b : Bool) (z : ℤ) → cond b 1 0 ≡ isOf (cond b (I.Of z) I.Missing)
     go true z = refl
     go false z = refl
 
 -- ---- from number to number
 
 module _ (r : Report) (said : ℕ → Item) where
-  pub stand-next : (n : ℕ) → 0 < n → standTo n r said ≡ pick (stands (itemOf r n) (said n)) (standTo (n - 1) r said) false
+  pub stand-next : (n : ℕ) → 0 < n → standTo n r said ≡ cond (stands (itemOf r n) (said n)) (standTo (n - 1) r said) false
   unfolding standTo
   stand-next zero h = absurd (omega arith)
   stand-next (suc n) h = let e : suc n - 1 ≡ n = omega arith in rw e refl

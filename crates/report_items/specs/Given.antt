@@ -2,12 +2,12 @@
 -- values, whatever they are, and is then held against the items: what is not exactly its own items is no record, and stands for one that
 -- the writer refuses with number 11. Definitions only.
 use Prim.Native.Nat.{ℕ, zero, suc, _-_, _%_, _^_}
-use mathlib.Core.Bool.{Bool, true, false}
+use mathlib.Core.Bool.{Bool, true, false, cond}
 use mathlib.Core.List.{List, [], _∷_}
 use lib.Dec.{eqb, ltb}
 use lib.IntN.{ℤ, pos, negsuc}
 use lib.ListN.{length, getD}
-use Rattle.words.specs.Tests.{pick, all}
+use Rattle.words.specs.Tests.{all}
 use Rattle.pairs.specs.declared.Found.{Found}
 use Rattle.pairs.specs.declared.Found.the-variants as F
 use Rattle.pairs.specs.declared.Told.{Told}
@@ -36,7 +36,7 @@ use Rattle.report_items.specs.Items.{itemsOf, itemOf}
 
 -- two's complement of 64 bits: the number that v stands for where it lies from -h to h - 1, else 0
 unfoldable pub asSigned : ℕ → ℕ → ℤ
-asSigned h v = pick (ltb v h) (pos v) (pick (ltb (2 ^ 64 - 1 - v) h) (negsuc (2 ^ 64 - 1 - v)) (pos 0))
+asSigned h v = cond (ltb v h) (pos v) (cond (ltb (2 ^ 64 - 1 - v) h) (negsuc (2 ^ 64 - 1 - v)) (pos 0))
 
 abbrev pub itemFrom : Found → Item
 itemFrom (F.Value v) = I.Of (asSigned (2 ^ 63) v)
@@ -48,7 +48,7 @@ told ps n = itemFrom (findIn n ps)
 
 -- the same of what is gathered for the numbers from 0 on
 unfoldable pub itemTold : Told → ℕ → Item
-itemTold t n = pick (getD (t .there) n false) (I.Of (asSigned (2 ^ 63) (getD (t .values) n 0))) I.Missing
+itemTold t n = cond (getD (t .there) n false) (I.Of (asSigned (2 ^ 63) (getD (t .values) n 0))) I.Missing
 
 -- the eight bytes as they stand, for every item's number, and 0 which is none's
 unfoldable pub valuesIn : List Pair → List ℕ
@@ -120,7 +120,7 @@ rtqcGiven v = record {
 
 -- bits 79 to 90 without another radar's data: an altitude, if there is one among the items, else twelve carried bits
 abbrev pub plainGiven : Bool → List ℕ → Height
-plainGiven high v = pick high (H.Altitude (asSigned (2 ^ 15) (getD v N.altitude 0))) (H.Carried (countOf 16 v N.carried))
+plainGiven high v = cond high (H.Altitude (asSigned (2 ^ 15) (getD v N.altitude 0))) (H.Carried (countOf 16 v N.carried))
 
 abbrev pub cdGiven : List ℕ → Height
 cdGiven v = H.Cd (flagOf v N.modeC) (record { 0 = countOf 8 v N.run })
@@ -207,21 +207,21 @@ unfit = R.Status record { test = false; faa = false; af = false; second = 65535;
 -- by the kind's number; a number that is no kind's stands for no record
 unfoldable pub built : ℕ → Bool → List ℕ → Report
 built kind high v =
-    pick (eqb kind (kindNumber K.Search)) (R.Search (searchGiven v))
-    (pick (eqb kind (kindNumber K.Strobe)) (R.Strobe (strobeGiven v))
-    (pick (eqb kind (kindNumber K.Map)) (R.Map (mapGiven v))
-    (pick (eqb kind (kindNumber K.Status)) (R.Status (statusGiven v))
-    (pick (eqb kind (kindNumber K.Rtqc)) (R.Rtqc (rtqcGiven v))
-    (pick (eqb kind (kindNumber K.Dabs)) (R.Dabs (dabsGiven v (plainGiven high v)))
-    (pick (eqb kind (kindNumber K.DabsCd)) (R.Dabs (dabsGiven v (cdGiven v)))
-    (pick (eqb kind (kindNumber K.DabsMtd)) (R.Dabs (dabsGiven v (mtdHeightGiven v)))
-    (pick (eqb kind (kindNumber K.DabsRdas)) (R.Dabs (dabsGiven v (rdasHeightGiven v)))
-    (pick (eqb kind (kindNumber K.Atcrbs)) (R.Atcrbs (atcrbsGiven v (plainGiven high v)))
-    (pick (eqb kind (kindNumber K.AtcrbsCd)) (R.Atcrbs (atcrbsGiven v (cdGiven v)))
-    (pick (eqb kind (kindNumber K.AtcrbsMtd)) (R.Atcrbs (atcrbsGiven v (mtdHeightGiven v)))
-    (pick (eqb kind (kindNumber K.AtcrbsRdas)) (R.Atcrbs (atcrbsGiven v (rdasHeightGiven v)))
-    (pick (eqb kind (kindNumber K.Mtd)) (R.Mtd (mtdGiven v))
-    (pick (eqb kind (kindNumber K.Rdas)) (R.Rdas (rdasGiven v))
+    cond (eqb kind (kindNumber K.Search)) (R.Search (searchGiven v))
+    (cond (eqb kind (kindNumber K.Strobe)) (R.Strobe (strobeGiven v))
+    (cond (eqb kind (kindNumber K.Map)) (R.Map (mapGiven v))
+    (cond (eqb kind (kindNumber K.Status)) (R.Status (statusGiven v))
+    (cond (eqb kind (kindNumber K.Rtqc)) (R.Rtqc (rtqcGiven v))
+    (cond (eqb kind (kindNumber K.Dabs)) (R.Dabs (dabsGiven v (plainGiven high v)))
+    (cond (eqb kind (kindNumber K.DabsCd)) (R.Dabs (dabsGiven v (cdGiven v)))
+    (cond (eqb kind (kindNumber K.DabsMtd)) (R.Dabs (dabsGiven v (mtdHeightGiven v)))
+    (cond (eqb kind (kindNumber K.DabsRdas)) (R.Dabs (dabsGiven v (rdasHeightGiven v)))
+    (cond (eqb kind (kindNumber K.Atcrbs)) (R.Atcrbs (atcrbsGiven v (plainGiven high v)))
+    (cond (eqb kind (kindNumber K.AtcrbsCd)) (R.Atcrbs (atcrbsGiven v (cdGiven v)))
+    (cond (eqb kind (kindNumber K.AtcrbsMtd)) (R.Atcrbs (atcrbsGiven v (mtdHeightGiven v)))
+    (cond (eqb kind (kindNumber K.AtcrbsRdas)) (R.Atcrbs (atcrbsGiven v (rdasHeightGiven v)))
+    (cond (eqb kind (kindNumber K.Mtd)) (R.Mtd (mtdGiven v))
+    (cond (eqb kind (kindNumber K.Rdas)) (R.Rdas (rdasGiven v))
     unfit))))))))))))))
 
 abbrev pub builtFrom : ℕ → List Pair → Report
@@ -244,7 +244,7 @@ sameItem I.Missing I.Missing = true
 -- for each of the numbers 1 to n the record has what is said of it
 unfoldable pub agreeTo : ℕ → Report → (ℕ → Item) → Bool
 agreeTo zero r said = true
-agreeTo (suc n) r said = pick (sameItem (itemOf r (suc n)) (said (suc n))) (agreeTo n r said) false
+agreeTo (suc n) r said = cond (sameItem (itemOf r (suc n)) (said (suc n))) (agreeTo n r said) false
 
 -- by the pairs, and there are as many: so none is foreign, and none is there twice
 unfoldable pub agree : Report → List Pair → Bool
@@ -252,8 +252,8 @@ agree r ps = all (eqb (length ps) (length (itemsOf r)) ∷ agreeTo 36 r (told ps
 
 -- the record of a kind's number and these pairs
 unfoldable pub givenBy : ℕ → List Pair → Report
-givenBy kind ps = pick (agree (builtFrom kind ps) ps) (builtFrom kind ps) unfit
+givenBy kind ps = cond (agree (builtFrom kind ps) ps) (builtFrom kind ps) unfit
 
 -- and of items in bytes
 unfoldable pub given : ℕ → List ℕ → Report
-given kind items = pick (eqb (length items % 16) 0) (givenBy kind (pairsIn items)) unfit
+given kind items = cond (eqb (length items % 16) 0) (givenBy kind (pairsIn items)) unfit

@@ -1,11 +1,10 @@
 -- The items of a report by which a C program asks for a field, and the number of each. The document gives none: these are ours, and none is
 -- ever used for another item. Definitions only.
 use Prim.Native.Nat.{ℕ}
-use mathlib.Core.Bool.{Bool}
+use mathlib.Core.Bool.{Bool, cond}
 use mathlib.Core.List.{List, [], _∷_}
 use lib.Dec.{eqb}
 use lib.IntN.{ℤ, pos}
-use Rattle.words.specs.Tests.{pick}
 use Rattle.reports.specs.declared.Height.{Height}
 use Rattle.reports.specs.declared.Height.the-variants as H
 use Rattle.reports.specs.declared.Report.{Report}
@@ -19,7 +18,7 @@ Entry = ℕ × ℤ
 
 -- a flag is 0 or 1, and a count is itself
 abbrev pub flag : ℕ → Bool → Entry
-flag n b = (n, pos (pick b 1 0))
+flag n b = (n, pos (cond b 1 0))
 
 abbrev pub count : ℕ → ℕ → Entry
 count n k = (n, pos k)
@@ -157,7 +156,7 @@ itemsOf (R.Rdas x) = flag test (x .test) ∷ flag faa (x .faa) ∷ count range (
 -- the value of an item, where the list has it
 abbrev pub lookup : ℕ → List Entry → Item
 lookup n [] = I.Missing
-lookup n (e ∷ es) = pick (eqb n (e .0)) (I.Of (e .1)) (lookup n es)
+lookup n (e ∷ es) = cond (eqb n (e .0)) (I.Of (e .1)) (lookup n es)
 
 abbrev pub itemOf : Report → ℕ → Item
 itemOf r n = lookup n (itemsOf r)

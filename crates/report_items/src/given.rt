@@ -4,11 +4,10 @@
 // one record that the writer refuses.
 // Relies on pairs for the items' values, items for a record's own.
 ghost use mathlib.Core.Path.{_≡_};
-ghost use mathlib.Core.Bool.{Bool, true};
+ghost use mathlib.Core.Bool.{Bool, true, cond};
 ghost use mathlib.Core.List.{List};
 ghost use Prim.Native.Nat.{ℕ, _^_, _≤_};
 ghost use lib.ListN.{length};
-ghost use Rattle.words.specs.Tests.{pick};
 ghost use Rattle.pairs.specs.Pairs.{pairsIn};
 ghost use Rattle.report_items.specs.Items.{itemOf, itemsOf};
 ghost use Rattle.report_items.specs.Given.{asSigned, itemTold, searchGiven, strobeGiven, mapGiven, statusGiven, rtqcGiven, plainGiven, cdGiven, mtdHeightGiven, rdasHeightGiven, dabsGiven, atcrbsGiven, mtdGiven, rdasGiven, unfit, built, sameNumber, sameItem, agreeTo, givenBy, given};
@@ -354,7 +353,7 @@ fn same(a: Item, b: Item) -> bool
 
 // A value that is told of a number is what the report has there.
 fn stands(report: Report, n: u32, there: bool, v: u64) -> bool
-    ensures { λ r. ⌜ r ≡ pick there (sameItem (itemOf report n) (Item.Of (asSigned (2 ^ 63) v))) true ⌝ }
+    ensures { λ r. ⌜ r ≡ cond there (sameItem (itemOf report n) (Item.Of (asSigned (2 ^ 63) v))) true ⌝ }
 {
     if there {
         let own = item_of(report, n);
@@ -365,7 +364,7 @@ fn stands(report: Report, n: u32, there: bool, v: u64) -> bool
 }
 
 fn one(there: bool) -> usize
-    ensures { λ r. ⌜ (r ≡ pick there 1 0) × (r ≤ 1) ⌝ }
+    ensures { λ r. ⌜ (r ≡ cond there 1 0) × (r ≤ 1) ⌝ }
 {
     if there { 1 } else { 0 }
 }

@@ -1,8 +1,8 @@
 // The items of a report: what a C program asks for by number. Every number is answered: an item that the report has not is Missing.
 // Relies on the records of reports.
 ghost use mathlib.Core.Path.{_≡_};
+ghost use mathlib.Core.Bool.{cond};
 ghost use lib.IntN.{pos};
-ghost use Rattle.words.specs.Tests.{pick};
 ghost use Rattle.reports.specs.declared.Height.the-variants as Ht;
 ghost use Rattle.reports.specs.declared.Report.the-variants as R;
 ghost use Rattle.report_items.specs.Items.{lookup, heightItems, itemOf};
@@ -27,7 +27,7 @@ pub enum Item {
 // ---- values
 
 fn flag(b: bool) -> Item
-    ensures { λ r. ⌜ r ≡ Item.Of (pos (pick b 1 0)) ⌝ }
+    ensures { λ r. ⌜ r ≡ Item.Of (pos (cond b 1 0)) ⌝ }
 {
     if b { Item::Of(1) } else { Item::Of(0) }
 }

@@ -2,14 +2,13 @@
 -- Assumes nothing.
 use Prim.Native.Nat.{ℕ, _+_, _/_, _≤_}
 use mathlib.Core.Path.{_≡_, refl}
-use mathlib.Core.Bool.{Bool, true, false}
+use mathlib.Core.Bool.{Bool, true, false, cond}
 use mathlib.Core.List.{List, [], _∷_}
 use native.Mathlib.Omega.{arith}
 use borrow.Author.Tests.{eqb-true, eq-eqb, ne-eqb}
 use lib.Dec.{eqb}
 use lib.ListN.{getD}
 use Rattle.refusals.specs.declared.LineRefusal.the-variants.{ValueTooLarge}
-use Rattle.words.specs.Tests.{pick}
 use Rattle.words.specs.Word.{wordOf}
 use Rattle.words.specs.Layout.{Field, span, joined, fittingAll, dataOrMore, wordsBy, fittingBy, twelveEach}
 use Rattle.words.proofs.Layouts.{both, joined-small, fit-data, unfit-data}
@@ -57,13 +56,13 @@ unfit-overs (fs ∷ l) h = go (fittingAll fs) refl (λ k. unfit-overs l k)
 -- ---- four words, and seven
 
 abbrev Made : List (List Field) → Type 0
-Made l = fromData (dataBy l) ≡ pick (fittingBy l) (asWritten (wordsBy l)) (W.Refused ValueTooLarge)
+Made l = fromData (dataBy l) ≡ cond (fittingBy l) (asWritten (wordsBy l)) (W.Refused ValueTooLarge)
 
 four-made : (a b c d : List Field) → twelveEach (a ∷ b ∷ c ∷ d ∷ []) ≡ true → Made (a ∷ b ∷ c ∷ d ∷ [])
 unfolding overs Each
 four-made a b c d t = go (fittingBy (a ∷ b ∷ c ∷ d ∷ [])) refl
   where
-    go : (x : Bool) → fittingBy (a ∷ b ∷ c ∷ d ∷ []) ≡ x → fromData (dataBy (a ∷ b ∷ c ∷ d ∷ [])) ≡ pick x (asWritten (wordsBy (a ∷ b ∷ c ∷ d ∷ []))) (W.Refused ValueTooLarge)
+    go : (x : Bool) → fittingBy (a ∷ b ∷ c ∷ d ∷ []) ≡ x → fromData (dataBy (a ∷ b ∷ c ∷ d ∷ [])) ≡ cond x (asWritten (wordsBy (a ∷ b ∷ c ∷ d ∷ []))) (W.Refused ValueTooLarge)
     go true e =
         let k = fit-each (a ∷ b ∷ c ∷ d ∷ []) e in
         rw (eq-eqb (dataOrMore a / 4096 + dataOrMore b / 4096 + dataOrMore c / 4096 + dataOrMore d / 4096) 0 (omega (arith, fit-overs (a ∷ b ∷ c ∷ d ∷ []) t e)))
@@ -76,7 +75,7 @@ unfolding overs Each
 seven-made a b c d e f g t = go (fittingBy (a ∷ b ∷ c ∷ d ∷ e ∷ f ∷ g ∷ [])) refl
   where
     go : (x : Bool) → fittingBy (a ∷ b ∷ c ∷ d ∷ e ∷ f ∷ g ∷ []) ≡ x
-        → fromData (dataBy (a ∷ b ∷ c ∷ d ∷ e ∷ f ∷ g ∷ [])) ≡ pick x (asWritten (wordsBy (a ∷ b ∷ c ∷ d ∷ e ∷ f ∷ g ∷ []))) (W.Refused ValueTooLarge)
+        → fromData (dataBy (a ∷ b ∷ c ∷ d ∷ e ∷ f ∷ g ∷ [])) ≡ cond x (asWritten (wordsBy (a ∷ b ∷ c ∷ d ∷ e ∷ f ∷ g ∷ []))) (W.Refused ValueTooLarge)
     go true h =
         let k = fit-each (a ∷ b ∷ c ∷ d ∷ e ∷ f ∷ g ∷ []) h in
         rw (eq-eqb (dataOrMore a / 4096 + dataOrMore b / 4096 + dataOrMore c / 4096 + dataOrMore d / 4096 + dataOrMore e / 4096 + dataOrMore f / 4096 + dataOrMore g / 4096) 0 (omega (arith, fit-overs (a ∷ b ∷ c ∷ d ∷ e ∷ f ∷ g ∷ []) t h)))

@@ -2,10 +2,10 @@
 // Each word's data is computed without a branch, field by field as its layout has it; a value too large pushes the number above 4095
 // (`dataOrMore`), and one function looks at the numbers at the end and makes the words. Relies on words for the parity bit.
 ghost use mathlib.Core.Path.{_≡_};
+ghost use mathlib.Core.Bool.{cond};
 ghost use mathlib.Core.List.{[], _∷_};
 ghost use Prim.Native.Nat.{_/_, _<_, _^_};
 ghost use lib.ListN.{getD};
-ghost use Rattle.words.specs.Tests.{pick};
 ghost use Rattle.words.specs.Word.{wordOf};
 ghost use Rattle.words.specs.Layout.{joined, dataOrMore, flag, count, rest, fixed, spare};
 ghost use Rattle.reports.specs.Altitude.{signMagnitude};
@@ -36,7 +36,7 @@ enum Data {
 const TOO_LARGE: u32 = 4096;
 
 fn bit(b: bool) -> u32
-    ensures { λ r. ⌜ (r ≡ pick b 1 0) × (r < 2) ⌝ }
+    ensures { λ r. ⌜ (r ≡ cond b 1 0) × (r < 2) ⌝ }
 {
     if b { 1 } else { 0 }
 }

@@ -2,18 +2,17 @@
 -- Assumes nothing.
 use Prim.Native.Nat.{ℕ, zero, suc, _+_, _*_, _/_, _%_, _≤_, _<_}
 use mathlib.Core.Path.{_≡_, refl}
-use mathlib.Core.Bool.{Bool, true, false}
+use mathlib.Core.Bool.{Bool, true, false, cond}
 use native.Mathlib.Omega.{arith}
 use borrow.Author.Tests.{eq-eqb, ne-eqb, leb-true, le-leb}
 use lib.Dec.{eqb, leb, eqb·suc-zero}
 use lib.IntN.{ℤ, pos, negsuc}
-use Rattle.words.specs.Tests.{pick}
 use Rattle.reports.specs.Altitude.{Sound, sign, magnitude, signed, signMagnitude}
 
 -- ---- from an altitude to its bits and back
 
 -- an altitude that has twelve bits is within the range
-in-range : (b : Bool) (n : ℕ) → pick b n 4096 < 4096 → b ≡ true
+in-range : (b : Bool) (n : ℕ) → cond b n 4096 < 4096 → b ≡ true
 in-range true n h = refl
 in-range false n h = absurd (omega arith)
 
@@ -39,7 +38,7 @@ back (negsuc n) h =
 again : (n : ℕ) → n < 4096 → signMagnitude .refused n ≡ false → signMagnitude .bitsOf (signMagnitude .altitude n) ≡ n
 again n l h = go (n / 2048) (n % 2048) (omega arith) (omega arith) (omega arith) h
   where
-    go : (s m : ℕ) → s < 2 → m < 2048 → n ≡ s * 2048 + m → pick (eqb s 1) (pick (eqb m 0) true false) false ≡ false → signMagnitude .bitsOf (signed (eqb s 1) m) ≡ n
+    go : (s m : ℕ) → s < 2 → m < 2048 → n ≡ s * 2048 + m → cond (eqb s 1) (cond (eqb m 0) true false) false ≡ false → signMagnitude .bitsOf (signed (eqb s 1) m) ≡ n
     go zero m a b e h = rw (le-leb m 2047 (omega arith)) (omega arith)
     go (suc zero) zero a b e h = absurd (let z : _≡_ {A = ℕ} 0 1 = cc in omega arith)
     go (suc zero) (suc m) a b e h = rw (le-leb (suc m) 2047 (omega arith)) (omega arith)

@@ -3,14 +3,13 @@
 -- layout exactly when they are its words is one law of `words`. Assumes nothing.
 use Prim.Native.Nat.{ℕ}
 use mathlib.Core.Path.{_≡_, refl, ap, sym, _∙_, subst}
-use mathlib.Core.Bool.{Bool, true, false}
+use mathlib.Core.Bool.{Bool, true, false, cond}
 use mathlib.Core.List.{List}
 use mathlib.Core.Logic.{_⊎_, inl, inr}
 use borrow.Author.Tests.{eqb-true, eq-eqb, not-false}
 use lib.Dec.{eqb}
 use lib.ListN.{length}
 use Rattle.refusals.specs.declared.LineRefusal.the-variants.{ValueTooLarge}
-use Rattle.words.specs.Tests.{pick}
 use Rattle.words.specs.Word.{AllGood}
 use Rattle.words.specs.Layout.{Laid, LaidFrom}
 use Rattle.words.proofs.Layouts as words
@@ -25,7 +24,7 @@ use Rattle.reports.specs.Layouts.{layoutOf, wordsOf, Fits, Takes, asWrit
 use Rattle.reports.specs.Conditions.{zeros, HasLayout}
 use Rattle.reports.specs.Runs.{readRun}
 use Rattle.reports.specs.Claims as claims
-use Rattle.reports.proofs.Tests.{by-pick}
+use Rattle.reports.proofs.Tests.{by-cond}
 use Rattle.reports.proofs.Widths.{twelve}
 use Rattle.reports.proofs.Refusals.{accepted-layout, layout-accepted}
 use Rattle.reports.proofs.Four as four
@@ -34,7 +33,7 @@ use Rattle.reports.proofs.Seven as seven
 -- ---- words that have a layout hold the fields of what they are read as
 
 -- not seven words, and a form that is known: four words
-is-four : (x y : Bool) → pick x y true ≡ false → x ≡ true
+is-four : (x y : Bool) → cond x y true ≡ false → x ≡ true
 is-four true y h = refl
 is-four false y h = sym h
 
@@ -45,23 +44,23 @@ Long form n r = length (layoutOf form r) ≡ n
 four-length : (form : AltitudeForm) (ws : List ℕ) → Long form 4 (fourOf ws)
 unfolding fourOf
 four-length form ws =
-    by-pick (Long form 4) (isSearch ws) (λ k. refl)
-    (λ k. by-pick (Long form 4) (isStrobe ws) (λ k. refl)
-    (λ k. by-pick (Long form 4) (isStatus ws) (λ k. refl)
-    (λ k. by-pick (Long form 4) (hasRtqcPattern ws) (λ k. refl) (λ k. refl))))
+    by-cond (Long form 4) (isSearch ws) (λ k. refl)
+    (λ k. by-cond (Long form 4) (isStrobe ws) (λ k. refl)
+    (λ k. by-cond (Long form 4) (isStatus ws) (λ k. refl)
+    (λ k. by-cond (Long form 4) (hasRtqcPattern ws) (λ k. refl) (λ k. refl))))
 
 seven-length : (form : AltitudeForm) (ws : List ℕ) → Long form 7 (sevenOf form ws)
 unfolding sevenOf
 seven-length form ws =
-    by-pick (Long form 7) (isDabs ws) (λ k. refl)
-    (λ k. by-pick (Long form 7) (isMtdSearch ws) (λ k. refl)
-    (λ k. by-pick (Long form 7) (isRdasSearch ws) (λ k. refl) (λ k. refl)))
+    by-cond (Long form 7) (isDabs ws) (λ k. refl)
+    (λ k. by-cond (Long form 7) (isMtdSearch ws) (λ k. refl)
+    (λ k. by-cond (Long form 7) (isRdasSearch ws) (λ k. refl) (λ k. refl)))
 
 layout-length : (form : AltitudeForm) (ws : List ℕ) → length ws ≡ wordCount ws → length ws ≡ length (layoutOf form (reportOf form ws))
 unfolding reportOf
 layout-length form ws h = go (isSeven ws) h
   where
-    go : (x : Bool) → length ws ≡ pick x 7 4 → length ws ≡ length (layoutOf form (pick x (sevenOf form ws) (fourOf ws)))
+    go : (x : Bool) → length ws ≡ cond x 7 4 → length ws ≡ length (layoutOf form (cond x (sevenOf form ws) (fourOf ws)))
     go true e = e ∙ sym (seven-length form ws)
     go false e = e ∙ sym (four-length form ws)
 
@@ -72,7 +71,7 @@ layout-laid form sound ws h = go (isSeven ws) refl
     none : eqb (zeros ws) 0 ≡ true
     none = not-false _ (h .spares)
 
-    go : (x : Bool) → isSeven ws ≡ x → LaidFrom 1 (layoutOf form (pick x (sevenOf form ws) (fourOf ws))) ws
+    go : (x : Bool) → isSeven ws ≡ x → LaidFrom 1 (layoutOf form (cond x (sevenOf form ws) (fourOf ws))) ws
     go true s = seven.seven-laid form sound ws (eqb-true _ _ s) (h .assigned) (h .altitude) (eqb-true _ _ (simp s at none))
     go false s = four.four-laid form ws (eqb-true _ _ (is-four (isFour ws) _ (simp s at (h .known)))) (h .known) (eqb-true _ _ (simp s at none))
 
@@ -167,7 +166,7 @@ layout-is-words form sound ws = (
 )
 
 taken-written : (form : AltitudeForm) (r : Report) → Takes form r → written form r ≡ asWritten (wordsOf form r)
-taken-written form r t = ap (λ (b : Bool). pick b (asWritten (wordsOf form r)) (W.Refused ValueTooLarge)) t
+taken-written form r t = ap (λ (b : Bool). cond b (asWritten (wordsOf form r)) (W.Refused ValueTooLarge)) t
 
 pub written-again : claims.WrittenAgain
 written-again form sound ws r h =

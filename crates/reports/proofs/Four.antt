@@ -2,12 +2,11 @@
 -- tests and are read as that report. Assumes nothing.
 use Prim.Native.Nat.{ℕ, _≤_}
 use mathlib.Core.Path.{_≡_, refl}
-use mathlib.Core.Bool.{true, false}
+use mathlib.Core.Bool.{true, false, cond}
 use mathlib.Core.List.{List}
 use native.Mathlib.Omega.{arith}
 use borrow.Author.Tests.{eqb-true, ne-eqb}
 use lib.Dec.{eqb, lit≤}
-use Rattle.words.specs.Tests.{pick}
 use Rattle.words.specs.Word.{bits, bit}
 use Rattle.words.specs.Layout.{LaidFrom}
 use Rattle.words.proofs.Fields.{flagged, unflagged}
@@ -24,7 +23,7 @@ use Rattle.reports.specs.Forms.{isSearch, isStrobe, isStatus, isMap, has
 use Rattle.reports.specs.Records.{searchOf, strobeOf, mapOf, statusOf, rtqcOf, fourOf}
 use Rattle.reports.specs.Layouts.{layoutOf}
 use Rattle.reports.specs.Conditions.{unknownForm, fourZeros}
-use Rattle.reports.proofs.Tests.{by-picks, last-holds, _&_}
+use Rattle.reports.proofs.Tests.{by-conds, last-holds, _&_}
 
 -- an RTQC's pattern is no Map's
 rtqc-no-map : (ws : List ℕ) → bits ws 4 10 ≡ 0b1001000 → isMap ws ≡ false
@@ -76,7 +75,7 @@ module _ (form : AltitudeForm) (ws : List ℕ) (two : bits ws 2 3 ≡ 0b00) wher
   module _ (known : unknownForm ws ≡ false) (n1 : isSearch ws ≡ false) (n2 : isStrobe ws ≡ false) (n3 : isStatus ws ≡ false) where
     -- what is known and none of the others is a Map or an RTQC, and an RTQC has bit 1 one
     one : hasRtqcPattern ws ≡ true → bits ws 1 1 ≡ 1
-    one k = eqb-true _ _ (both (bit ws 1) true (last-holds (pick (bit ws 1) true false) (simp (two, n1, n2, n3, rtqc-no-map ws (eqb-true _ _ k), k) at known)) .0)
+    one k = eqb-true _ _ (both (bit ws 1) true (last-holds (cond (bit ws 1) true false) (simp (two, n1, n2, n3, rtqc-no-map ws (eqb-true _ _ k), k) at known)) .0)
 
     none : hasRtqcPattern ws ≡ false → bits ws 4 8 ≡ 0b00000
     none n4 = eqb-true _ _ (last-holds (isMap ws) (simp (two, n1, n2, n3, n4) at known))
@@ -87,10 +86,10 @@ module _ (form : AltitudeForm) (ws : List ℕ) (two : bits ws 2 3 ≡ 0b00) wher
   pub four-laid : unknownForm ws ≡ false → Laid4 (fourOf ws) (fourZeros ws)
   unfolding fourOf fourZeros
   four-laid u =
-      by-picks Laid4 (isSearch ws) (λ k. search-laid (eqb-true _ _ k))
-      (λ n1. by-picks Laid4 (isStrobe ws) (λ k. strobe-laid (eqb-true _ _ k))
-      (λ n2. by-picks Laid4 (isStatus ws) (λ k z. status-laid (eqb-true _ _ k))
-      (λ n3. by-picks Laid4 (hasRtqcPattern ws) (λ k. rtqc-laid (one u n1 n2 n3 k) (eqb-true _ _ k))
+      by-conds Laid4 (isSearch ws) (λ k. search-laid (eqb-true _ _ k))
+      (λ n1. by-conds Laid4 (isStrobe ws) (λ k. strobe-laid (eqb-true _ _ k))
+      (λ n2. by-conds Laid4 (isStatus ws) (λ k z. status-laid (eqb-true _ _ k))
+      (λ n3. by-conds Laid4 (hasRtqcPattern ws) (λ k. rtqc-laid (one u n1 n2 n3 k) (eqb-true _ _ k))
       (λ n4 z. map-laid (none u n1 n2 n3 n4) (omega arith) (omega arith)))))
 
 -- ---- from fields to words: the tests find the fixed fields, and each field of the record is its bits

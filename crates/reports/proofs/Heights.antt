@@ -2,14 +2,13 @@
 -- Assumes nothing.
 use Prim.Native.Nat.{ℕ, _<_}
 use mathlib.Core.Path.{_≡_, refl, sym, ap, _∙_, subst}
-use mathlib.Core.Bool.{Bool, true, false}
+use mathlib.Core.Bool.{Bool, true, false, cond}
 use mathlib.Core.List.{List}
 use native.Mathlib.Nat.{mod-lt}
 use native.Mathlib.Omega.{arith}
 use borrow.Author.Tests.{eqb-true}
 use lib.Dec.{eqb, lit<}
 use lib.IntN.{ℤ}
-use Rattle.words.specs.Tests.{pick}
 use Rattle.words.specs.Word.{bits, bit}
 use Rattle.words.specs.Layout.{StandFrom}
 use Rattle.words.proofs.Fields.{flagged, unflagged}
@@ -20,11 +19,11 @@ use Rattle.reports.specs.Forms.{told, isCd, isMtd, isRdas, isMtdSearch, 
 use Rattle.reports.specs.Records.{heightOf}
 use Rattle.reports.specs.Layouts.{lastWord, modeC, radar}
 use Rattle.reports.specs.Conditions.{unassigned, heightSpares, minusZero}
-use Rattle.reports.proofs.Tests.{by-picks, bit-one, bit-zero, _&_}
+use Rattle.reports.proofs.Tests.{by-conds, bit-one, bit-zero, _&_}
 
 -- ---- what bits 12 and 88 to 90 tell
 
-told-is : (b : Bool) (m k : ℕ) → k < 8 → pick b m 8 ≡ k → (b ≡ true) × (m ≡ k)
+told-is : (b : Bool) (m k : ℕ) → k < 8 → cond b m 8 ≡ k → (b ≡ true) × (m ≡ k)
 told-is true m k l e = (refl, e)
 told-is false m k l e = absurd (omega arith)
 
@@ -34,13 +33,13 @@ tells ws k l h = let t = told-is (bit ws 12) (bits ws 88 90) k l (eqb-true _ k h
 
 -- ---- from words to the height
 
-holds-not : (b : Bool) → pick b true false ≡ false → b ≡ false
+holds-not : (b : Bool) → cond b true false ≡ false → b ≡ false
 holds-not true h = h
 holds-not false h = refl
 
 -- the words hold the height h
 abbrev pub Stands : AltitudeForm → List ℕ → Height → Type 0
-Stands form ws h = (bits ws 6 6 ≡ pick (modeC h) 1 0) × (bits ws 12 12 ≡ pick (radar h) 1 0) × StandFrom 79 (lastWord form h) ws
+Stands form ws h = (bits ws 6 6 ≡ cond (modeC h) 1 0) × (bits ws 12 12 ≡ cond (radar h) 1 0) × StandFrom 79 (lastWord form h) ws
 
 module _ (form : AltitudeForm) (sound : Sound form) (ws : List ℕ) (two : bits ws 2 3 ≡ 0b11) where
   abbrev Laid79 : Height → ℕ → Type 0
@@ -50,12 +49,12 @@ module _ (form : AltitudeForm) (sound : Sound form) (ws : List ℕ) (two : bits 
   pub height-laid : (isCd ws ≡ false → isMtd ws ≡ false → isRdas ws ≡ false → bit ws 12 ≡ false) → minusZero form ws ≡ false → Laid79 (heightOf form ws) (heightSpares ws)
   unfolding heightOf heightSpares
   height-laid other sign =
-      by-picks Laid79 (isCd ws) (λ k z. let t = tells ws 0b100 (lit< tt) k in (flagged _, t .0, refl & z & t .1 & tt))
-      (λ n1. by-picks Laid79 (isMtd ws) (λ k z. let t = tells ws 0b110 (lit< tt) k in (flagged _, t .0, refl & z & t .1 & tt))
-      (λ n2. by-picks Laid79 (isRdas ws) (λ k z. let t = tells ws 0b101 (lit< tt) k in (flagged _, t .0, refl & z & t .1 & tt))
+      by-conds Laid79 (isCd ws) (λ k z. let t = tells ws 0b100 (lit< tt) k in (flagged _, t .0, refl & z & t .1 & tt))
+      (λ n1. by-conds Laid79 (isMtd ws) (λ k z. let t = tells ws 0b110 (lit< tt) k in (flagged _, t .0, refl & z & t .1 & tt))
+      (λ n2. by-conds Laid79 (isRdas ws) (λ k z. let t = tells ws 0b101 (lit< tt) k in (flagged _, t .0, refl & z & t .1 & tt))
       (λ n3. plain (other n1 n2 n3) (bit ws 6) refl)))
     where
-      plain : bit ws 12 ≡ false → (b : Bool) → bit ws 6 ≡ b → Laid79 (pick b (H.Altitude (form .altitude (bits ws 79 90))) (H.Carried (bits ws 79 90))) 0
+      plain : bit ws 12 ≡ false → (b : Bool) → bit ws 6 ≡ b → Laid79 (cond b (H.Altitude (form .altitude (bits ws 79 90))) (H.Carried (bits ws 79 90))) 0
       plain none true k z = (
         bit-one _ k,
         bit-zero _ none,

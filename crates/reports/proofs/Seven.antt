@@ -23,7 +23,7 @@ use Rattle.reports.specs.Forms.{isDabs, isCd, isMtd, isRdas, isMtdSearch
 use Rattle.reports.specs.Records.{heightOf, dabsOf, atcrbsOf, mtdOf, rdasOf, sevenOf}
 use Rattle.reports.specs.Layouts.{layoutOf}
 use Rattle.reports.specs.Conditions.{unassigned, sevenSpares, minusZero}
-use Rattle.reports.proofs.Tests.{by-picks, bit-zero, _&_}
+use Rattle.reports.proofs.Tests.{by-conds, bit-zero, _&_}
 use Rattle.reports.proofs.Heights.{Stands, tells, height-laid, height-held}
 
 -- ---- from words to fields: a flag is its bit, a fixed field is what a test found, a number in two parts is its parts, any other is read
@@ -98,10 +98,10 @@ module _ (form : AltitudeForm) (sound : Sound form) (ws : List ℕ) (two : bits 
   pub seven-laid : unassigned ws ≡ false → minusZero form ws ≡ false → Laid7 (sevenOf form ws) (sevenSpares ws)
   unfolding sevenOf sevenSpares
   seven-laid u m =
-      by-picks Laid7 (isDabs ws)
+      by-conds Laid7 (isDabs ws)
       (λ k z. dabs-laid (heightOf form ws) (height-laid form sound ws two (λ n1 n2 n3. dabs-plain u k n1 n2 n3) m (omega arith)) (eqb-true _ _ k) (omega arith))
-      (λ k. by-picks Laid7 (isMtdSearch ws) (mtd-laid (bit-zero _ k))
-      (λ m2. by-picks Laid7 (isRdasSearch ws) (rdas-laid (bit-zero _ k))
+      (λ k. by-conds Laid7 (isMtdSearch ws) (mtd-laid (bit-zero _ k))
+      (λ m2. by-conds Laid7 (isRdasSearch ws) (rdas-laid (bit-zero _ k))
       (λ m1 z. atcrbs-laid (heightOf form ws) (height-laid form sound ws two (λ n1 n2 n3. atcrbs-plain u k m2 m1 n1 n2 n3) m z) (bit-zero _ k))))
 
 -- ---- from fields to words: the tests find the fixed fields, and each field of the record is its bits

@@ -2,24 +2,23 @@
 -- Assumes nothing.
 use Prim.Native.Nat.{ℕ, _%_}
 use mathlib.Core.Path.{_≡_, refl, sym}
-use mathlib.Core.Bool.{Bool, true, false, not}
+use mathlib.Core.Bool.{Bool, true, false, not, cond}
 use native.Mathlib.Omega.{arith}
 use borrow.Author.Tests.{eqb-true, eqb-false}
 use lib.Dec.{eqb}
-use Rattle.words.specs.Tests.{pick}
 
 -- what holds of both that a test picks from, under the test's outcome, holds of what it picks
-pub by-pick : {X : Type 0} (P : X → Type 0) (b : Bool) {x y : X} → (b ≡ true → P x) → (b ≡ false → P y) → P (pick b x y)
-by-pick P true p q = p refl
-by-pick P false p q = q refl
+pub by-cond : {X : Type 0} (P : X → Type 0) (b : Bool) {x y : X} → (b ≡ true → P x) → (b ≡ false → P y) → P (cond b x y)
+by-cond P true p q = p refl
+by-cond P false p q = q refl
 
 -- the same where one test picks twice
-pub by-picks : {X Y : Type 0} (P : X → Y → Type 0) (b : Bool) {x u : X} {y v : Y} → (b ≡ true → P x y) → (b ≡ false → P u v) → P (pick b x u) (pick b y v)
-by-picks P true p q = p refl
-by-picks P false p q = q refl
+pub by-conds : {X Y : Type 0} (P : X → Y → Type 0) (b : Bool) {x u : X} {y v : Y} → (b ≡ true → P x y) → (b ≡ false → P u v) → P (cond b x u) (cond b y v)
+by-conds P true p q = p refl
+by-conds P false p q = q refl
 
 -- where one of a list of tests holds and only this one is left, it holds
-pub last-holds : (b : Bool) → not (pick b true false) ≡ false → b ≡ true
+pub last-holds : (b : Bool) → not (cond b true false) ≡ false → b ≡ true
 last-holds true h = refl
 last-holds false h = sym h
 

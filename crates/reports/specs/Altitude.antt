@@ -2,11 +2,11 @@
 -- Definitions only.
 use Prim.Native.Nat.{ℕ, _+_, _/_, _%_, _<_}
 use mathlib.Core.Path.{_≡_}
-use mathlib.Core.Bool.{Bool, true, false}
+use mathlib.Core.Bool.{Bool, true, false, cond}
 use mathlib.Core.List.{[], _∷_}
 use lib.Dec.{eqb, leb}
 use lib.IntN.{ℤ, pos, negsuc, negℤ, natAbs}
-use Rattle.words.specs.Tests.{pick, all}
+use Rattle.words.specs.Tests.{all}
 
 pub record AltitudeForm : Type 0 where
   -- these twelve bits are no altitude (refusal 9)
@@ -31,7 +31,7 @@ abbrev pub magnitude : ℕ → ℕ
 magnitude n = n % 2048
 
 abbrev pub signed : Bool → ℕ → ℤ
-signed s n = pick s (negℤ (pos n)) (pos n)
+signed s n = cond s (negℤ (pos n)) (pos n)
 
 abbrev pub negative : ℤ → Bool
 negative (pos n) = false
@@ -41,5 +41,5 @@ abbrev pub signMagnitude : AltitudeForm
 signMagnitude = record {
   refused = λ n. all (sign n ∷ eqb (magnitude n) 0 ∷ []);
   altitude = λ n. signed (sign n) (magnitude n);
-  bitsOf = λ z. pick (leb (natAbs z) 2047) (pick (negative z) 2048 0 + natAbs z) 4096;
+  bitsOf = λ z. cond (leb (natAbs z) 2047) (cond (negative z) 2048 0 + natAbs z) 4096;
 }

@@ -2,10 +2,11 @@
 -- proofs/Claims.antt, Demand2.antt and Refusals.antt prove them.
 use Prim.Native.Nat.{ℕ, _<_}
 use mathlib.Core.Path.{_≡_}
-use mathlib.Core.Bool.{true, false}
+use mathlib.Core.Bool.{true}
 use mathlib.Core.List.{List, [], _∷_}
-use mathlib.Core.Logic.{_↔_, _⊎_}
+use mathlib.Core.Logic.{_↔_}
 use lib.ListN.{length, getD}
+use Rattle.rows.specs.Claims.{FirstIs}
 use Rattle.refusals.specs.Numbers.{lineNumber, fieldNumber}
 use Rattle.refusals.specs.declared.LineRefusal.{LineRefusal}
 use Rattle.refusals.specs.declared.FieldRefusal.{FieldRefusal}
@@ -18,7 +19,7 @@ use Rattle.reports.specs.Altitude.{AltitudeForm, Sound, signMagnitude}
 use Rattle.words.specs.Layout.{twelveEach}
 use Rattle.reports.specs.Layouts.{layoutOf, wordsOf, Fits, Takes, asWritten, written}
 use Rattle.reports.specs.Conditions.{HasLayout}
-use Rattle.reports.specs.Runs.{Row, tableOf, judged, readRun}
+use Rattle.reports.specs.Runs.{tableOf, judged, readRun}
 
 -- document 01's form of the altitude is one of those of which the claims below speak
 abbrev pub DocumentForm : Type 0
@@ -59,14 +60,9 @@ TakesWhatFits = (form : AltitudeForm) (r : Report) → Fits form r → Takes for
 
 -- ---- the refusals
 
--- the row of refusal q and offset o is the first that holds
-abbrev pub Hit : List Row → LineRefusal → ℕ → Type 0
-Hit [] q o = ⊥
-Hit (x ∷ rows) q o = ((x .holds ≡ true) × (x .refusal ≡ q) × (x .offset ≡ o)) ⊎ ((x .holds ≡ false) × Hit rows q o)
-
 -- a refusal is given exactly where its row's condition holds and none of an earlier row does
 abbrev pub RefusedExactly : Type 0
-RefusedExactly = (form : AltitudeForm) (ws : List ℕ) (q : LineRefusal) (o : ℕ) → (readRun form ws ≡ Refused q o) ↔ Hit (tableOf form ws) q o
+RefusedExactly = (form : AltitudeForm) (ws : List ℕ) (q : LineRefusal) (o : ℕ) → (readRun form ws ≡ Refused q o) ↔ FirstIs (tableOf form ws) (Refused q o)
 
 -- ---- for the line
 

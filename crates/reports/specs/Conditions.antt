@@ -2,11 +2,11 @@
 -- run's words and bits alone. Definitions only.
 use Prim.Native.Nat.{ℕ, _+_}
 use mathlib.Core.Path.{_≡_}
-use mathlib.Core.Bool.{Bool, false, not}
+use mathlib.Core.Bool.{Bool, false, not, cond}
 use mathlib.Core.List.{List, [], _∷_}
 use lib.Dec.{eqb, ltb}
 use lib.ListN.{length}
-use Rattle.words.specs.Tests.{pick, all, any}
+use Rattle.words.specs.Tests.{all, any}
 use Rattle.words.specs.Word.{bits, bit, wide, even, first, AllGood}
 use Rattle.reports.specs.Altitude.{AltitudeForm}
 use Rattle.reports.specs.Forms.{isFour, isSeven, wordCount, isSearch, isStrobe, isMap, isStatus, hasRtqcPattern, isRtqc, isDabs, isCd, isMtd, isRdas, isMtdSearch, isRdasSearch}
@@ -21,7 +21,7 @@ evenWord ws = ltb (first even ws) (length ws)
 
 -- 5: first word: bits 2-3 are 01 or 10, or are 00 and no pattern fits, RTQC with bit 1 zero included
 abbrev pub unknownForm : List ℕ → Bool
-unknownForm ws = pick (isFour ws) (not (any (isSearch ws ∷ isStrobe ws ∷ isStatus ws ∷ isMap ws ∷ isRtqc ws ∷ []))) (not (isSeven ws))
+unknownForm ws = cond (isFour ws) (not (any (isSearch ws ∷ isStrobe ws ∷ isStatus ws ∷ isMap ws ∷ isRtqc ws ∷ []))) (not (isSeven ws))
 
 -- 6: run is not 4 (or 7) words as bits 2-3 say
 abbrev pub wrongLength : List ℕ → Bool
@@ -39,30 +39,30 @@ unassigned ws = all (isSeven ws ∷ bit ws 12 ∷ not (assigned (bits ws 88 90))
 -- the zero bits of four words: 25, of a Map 51 too, of Status none
 unfoldable pub fourZeros : List ℕ → ℕ
 fourZeros ws =
-    pick (isSearch ws) (bits ws 25 25)
-    (pick (isStrobe ws) (bits ws 25 25)
-    (pick (isStatus ws) 0
-    (pick (hasRtqcPattern ws) (bits ws 25 25)
+    cond (isSearch ws) (bits ws 25 25)
+    (cond (isStrobe ws) (bits ws 25 25)
+    (cond (isStatus ws) 0
+    (cond (hasRtqcPattern ws) (bits ws 25 25)
     (bits ws 25 25 + bits ws 51 51))))
 
 -- the spare bits of the last word of DABS and ATCRBS: with substitution, what is left to bit 87
 unfoldable pub heightSpares : List ℕ → ℕ
 heightSpares ws =
-    pick (isCd ws) (bits ws 82 87)
-    (pick (isMtd ws) (bits ws 81 87)
-    (pick (isRdas ws) (bits ws 83 87)
+    cond (isCd ws) (bits ws 82 87)
+    (cond (isMtd ws) (bits ws 81 87)
+    (cond (isRdas ws) (bits ws 83 87)
     0))
 
 -- the spare bits of seven words
 unfoldable pub sevenSpares : List ℕ → ℕ
 sevenSpares ws =
-    pick (isDabs ws) (bits ws 45 46 + heightSpares ws)
-    (pick (isMtdSearch ws) (bits ws 5 10 + bits ws 45 45 + bits ws 87 87)
-    (pick (isRdasSearch ws) (bits ws 5 10 + bits ws 45 45 + bits ws 53 64 + bits ws 83 84 + bits ws 86 87)
+    cond (isDabs ws) (bits ws 45 46 + heightSpares ws)
+    (cond (isMtdSearch ws) (bits ws 5 10 + bits ws 45 45 + bits ws 87 87)
+    (cond (isRdasSearch ws) (bits ws 5 10 + bits ws 45 45 + bits ws 53 64 + bits ws 83 84 + bits ws 86 87)
     (heightSpares ws)))
 
 unfoldable pub zeros : List ℕ → ℕ
-zeros ws = pick (isSeven ws) (sevenSpares ws) (fourZeros ws)
+zeros ws = cond (isSeven ws) (sevenSpares ws) (fourZeros ws)
 
 abbrev pub spareSet : List ℕ → Bool
 spareSet ws = not (eqb (zeros ws) 0)

@@ -1,9 +1,9 @@
 -- Which form words have, by the bits that tell it (document 01, "Formats and fields"). Definitions only.
 use Prim.Native.Nat.{ℕ}
-use mathlib.Core.Bool.{Bool}
+use mathlib.Core.Bool.{Bool, cond}
 use mathlib.Core.List.{List, [], _∷_}
 use lib.Dec.{eqb}
-use Rattle.words.specs.Tests.{pick, all}
+use Rattle.words.specs.Tests.{all}
 use Rattle.words.specs.Word.{bits, bit}
 
 -- bits 2-3: 00 is a 4-word report, 11 a 7-word report
@@ -15,7 +15,7 @@ isSeven ws = eqb (bits ws 2 3) 0b11
 
 -- how many words they ask for (where they are 01 or 10, refusal 5 stands before any count)
 abbrev pub wordCount : List ℕ → ℕ
-wordCount ws = pick (isSeven ws) 7 4
+wordCount ws = cond (isSeven ws) 7 4
 
 -- ---- four words: bits 4-10
 
@@ -47,7 +47,7 @@ isDabs ws = bit ws 4
 
 -- with bit 12 one, bits 88-90 tell; with bit 12 zero they do not, and this is 8, which no three bits are
 abbrev pub told : List ℕ → ℕ
-told ws = pick (bit ws 12) (bits ws 88 90) 8
+told ws = cond (bit ws 12) (bits ws 88 90) 8
 
 abbrev pub isCd : List ℕ → Bool
 isCd ws = eqb (told ws) 0b100

@@ -1,12 +1,11 @@
 -- The words of a record: the tables' columns once more, by widths, with a word a line. Definitions only.
 use Prim.Native.Nat.{ℕ, _/_, _^_}
 use mathlib.Core.Path.{_≡_}
-use mathlib.Core.Bool.{Bool, true, false}
+use mathlib.Core.Bool.{Bool, true, false, cond}
 use mathlib.Core.List.{List, [], _∷_}
 use lib.Dec.{eqb}
 use lib.ListN.{length, getD}
 use Rattle.refusals.specs.declared.LineRefusal.the-variants.{ValueTooLarge}
-use Rattle.words.specs.Tests.{pick}
 use Rattle.words.specs.Layout.{Field, flag, count, rest, fixed, spare, wordsBy, fittingBy}
 use Rattle.reports.specs.declared.Height.{Height}
 use Rattle.reports.specs.declared.Height.the-variants as H
@@ -133,10 +132,10 @@ Takes form r = takes form r ≡ true
 -- four words or seven, as the writer hands them out
 abbrev pub asWritten : List ℕ → Written
 asWritten ws =
-    pick (eqb (length ws) 4)
+    cond (eqb (length ws) 4)
     (W.Four (getD ws 0 0) (getD ws 1 0) (getD ws 2 0) (getD ws 3 0))
     (W.Seven (getD ws 0 0) (getD ws 1 0) (getD ws 2 0) (getD ws 3 0) (getD ws 4 0) (getD ws 5 0) (getD ws 6 0))
 
 -- the writer's answer: the words, or 11 for a value too large for its field
 abbrev pub written : AltitudeForm → Report → Written
-written form r = pick (takes form r) (asWritten (wordsOf form r)) (W.Refused ValueTooLarge)
+written form r = cond (takes form r) (asWritten (wordsOf form r)) (W.Refused ValueTooLarge)

@@ -1,8 +1,8 @@
 -- The records by the document's bit numbers: each field is the bits that the table gives it, and the form tells which record it is.
 -- Definitions only.
 use Prim.Native.Nat.{ℕ}
+use mathlib.Core.Bool.{cond}
 use mathlib.Core.List.{List}
-use Rattle.words.specs.Tests.{pick}
 use Rattle.words.specs.Word.{bits, bit, bitsThen}
 use Rattle.reports.specs.declared.Search.{Search}
 use Rattle.reports.specs.declared.Strobe.{Strobe}
@@ -82,10 +82,10 @@ rtqcOf ws = record {
 -- bits 79 to 90 of DABS and ATCRBS
 unfoldable pub heightOf : AltitudeForm → List ℕ → Height
 heightOf form ws =
-    pick (isCd ws) (H.Cd (bit ws 6) (record { 0 = bits ws 79 81 }))
-    (pick (isMtd ws) (H.Mtd (bit ws 6) (bits ws 79 80))
-    (pick (isRdas ws) (H.Rdas (bit ws 6) (bits ws 79 82))
-    (pick (bit ws 6) (H.Altitude (form .altitude (bits ws 79 90)))
+    cond (isCd ws) (H.Cd (bit ws 6) (record { 0 = bits ws 79 81 }))
+    (cond (isMtd ws) (H.Mtd (bit ws 6) (bits ws 79 80))
+    (cond (isRdas ws) (H.Rdas (bit ws 6) (bits ws 79 82))
+    (cond (bit ws 6) (H.Altitude (form .altitude (bits ws 79 90)))
     (H.Carried (bits ws 79 90)))))
 
 abbrev pub dabsOf : List ℕ → Height → Dabs
@@ -162,18 +162,18 @@ rdasOf ws = record {
 
 unfoldable pub fourOf : List ℕ → Report
 fourOf ws =
-    pick (isSearch ws) (R.Search (searchOf ws))
-    (pick (isStrobe ws) (R.Strobe (strobeOf ws))
-    (pick (isStatus ws) (R.Status (statusOf ws))
-    (pick (hasRtqcPattern ws) (R.Rtqc (rtqcOf ws))
+    cond (isSearch ws) (R.Search (searchOf ws))
+    (cond (isStrobe ws) (R.Strobe (strobeOf ws))
+    (cond (isStatus ws) (R.Status (statusOf ws))
+    (cond (hasRtqcPattern ws) (R.Rtqc (rtqcOf ws))
     (R.Map (mapOf ws)))))
 
 unfoldable pub sevenOf : AltitudeForm → List ℕ → Report
 sevenOf form ws =
-    pick (isDabs ws) (R.Dabs (dabsOf ws (heightOf form ws)))
-    (pick (isMtdSearch ws) (R.Mtd (mtdOf ws))
-    (pick (isRdasSearch ws) (R.Rdas (rdasOf ws))
+    cond (isDabs ws) (R.Dabs (dabsOf ws (heightOf form ws)))
+    (cond (isMtdSearch ws) (R.Mtd (mtdOf ws))
+    (cond (isRdasSearch ws) (R.Rdas (rdasOf ws))
     (R.Atcrbs (atcrbsOf ws (heightOf form ws)))))
 
 unfoldable pub reportOf : AltitudeForm → List ℕ → Report
-reportOf form ws = pick (isSeven ws) (sevenOf form ws) (fourOf ws)
+reportOf form ws = cond (isSeven ws) (sevenOf form ws) (fourOf ws)

@@ -2,14 +2,13 @@
 -- Assumes nothing.
 use Prim.Native.Nat.{ℕ, suc, _%_}
 use mathlib.Core.Path.{_≡_, refl, sym, _∙_}
-use mathlib.Core.Bool.{Bool, true, false}
+use mathlib.Core.Bool.{Bool, true, false, cond}
 use mathlib.Core.List.{List, [], _∷_}
 use native.Mathlib.Omega.{arith}
 use borrow.Author.Tests.{eqb-true, eq-eqb, ltb-false, le-ltb, not-false}
 use lib.Count.{ones}
 use lib.Dec.{ltb, leb·suc-suc}
 use lib.ListN.{length}
-use Rattle.words.specs.Tests.{pick}
 use Rattle.words.specs.Word.{largest, wide, odd, even, Good, AllGood, first}
 
 -- no word has the fault p
@@ -27,7 +26,7 @@ unfolding first
 first-none p [] h = tt
 first-none p (w ∷ ws) h = go (p w) refl h (first-none p ws)
   where
-    go : (b : Bool) → p w ≡ b → ltb (pick b 0 (suc (first p ws))) (suc (length ws)) ≡ false
+    go : (b : Bool) → p w ≡ b → ltb (cond b 0 (suc (first p ws))) (suc (length ws)) ≡ false
         → (ltb (first p ws) (length ws) ≡ false → NoneHas p ws) → NoneHas p (w ∷ ws)
     go true e k more = absurd (let z = ltb-false 0 (suc (length ws)) k in omega arith)
     go false e k more = (e, more (sym (leb·suc-suc (suc (first p ws)) (length ws)) ∙ k))

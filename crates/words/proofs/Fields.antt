@@ -2,23 +2,22 @@
 -- Assumes nothing.
 use Prim.Native.Nat.{ℕ, zero, suc, _+_, _*_, _/_, _%_, _<_, _^_}
 use mathlib.Core.Path.{_≡_, refl, sym}
-use mathlib.Core.Bool.{Bool, true, false}
+use mathlib.Core.Bool.{Bool, true, false, cond}
 use native.Mathlib.Nat.{mod-lt}
 use native.Mathlib.Omega.{arith}
 use lib.Dec.{eqb, lit<}
 use lib.Pow.{high, low, pow-pos}
-use Rattle.words.specs.Tests.{pick}
 
 -- what a flag's bit holds is the flag
-pub flagged : (n : ℕ) → n % 2 ≡ pick (eqb (n % 2) 1) 1 0
+pub flagged : (n : ℕ) → n % 2 ≡ cond (eqb (n % 2) 1) 1 0
 flagged n = go (n % 2) (mod-lt n (lit< tt))
   where
-    go : (m : ℕ) → m < 2 → m ≡ pick (eqb m 1) 1 0
+    go : (m : ℕ) → m < 2 → m ≡ cond (eqb m 1) 1 0
     go zero h = refl
     go (suc zero) h = refl
     go (suc (suc m)) h = absurd (omega arith)
 
-pub unflagged : (b : Bool) → eqb (pick b 1 0) 1 ≡ b
+pub unflagged : (b : Bool) → eqb (cond b 1 0) 1 ≡ b
 unflagged true = refl
 unflagged false = refl
 

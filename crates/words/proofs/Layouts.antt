@@ -3,7 +3,7 @@
 -- Assumes nothing.
 use Prim.Native.Nat.{ℕ, zero, suc, _+_, _*_, _/_, _%_, _-_, _≤_, _<_, _^_}
 use mathlib.Core.Path.{_≡_, refl, ap, ap₂, sym, _∙_, subst}
-use mathlib.Core.Bool.{Bool, true, false}
+use mathlib.Core.Bool.{Bool, true, false, cond}
 use mathlib.Core.List.{List, [], _∷_}
 use mathlib.Core.Logic.{_↔_}
 use native.Mathlib.Nat.{div-eq-of-lt, le-div-iff-mul-le, mod-lt, mod-eq-of-lt, mod-one, add-assoc, mul-assoc, add-mul, add-comm}
@@ -15,18 +15,17 @@ use lib.Dec.{eqb}
 use lib.ListN.{length, getD, drop}
 use lib.Pow.{mod-pow-add, high, low, pow-pos, pow-add, shr-shr}
 use lib.Seq.{drop-length, drop-cons}
-use Rattle.words.specs.Tests.{pick}
 use Rattle.words.specs.Word.{wordOf, bits, Good, AllGood}
 use Rattle.words.specs.Layout.{Field, flag, count, rest, fixed, width, value, fitting, overrun, span, joined, fittingAll, overrunAll, dataOrMore, StandFrom, wordsBy, fittingBy, twelveEach, LaidFrom, Laid}
 
 -- two tests of which the second is made where the first holds
-pub both : (a b : Bool) → pick a b false ≡ true → (a ≡ true) × (b ≡ true)
+pub both : (a b : Bool) → cond a b false ≡ true → (a ≡ true) × (b ≡ true)
 both true b h = (refl, h)
 both false b h = absurd (let z : _≡_ {A = ℕ} 0 1 = cc in omega arith)
 
 -- ---- one field
 
-flag-lt : (b : Bool) → pick b 1 0 < 2
+flag-lt : (b : Bool) → cond b 1 0 < 2
 flag-lt true = omega arith
 flag-lt false = omega arith
 
@@ -62,7 +61,7 @@ stands-joined (f ∷ fs) w h =
 stands-fits : (fs : List Field) (w : ℕ) → Stands fs w → fittingAll fs ≡ true
 stands-fits [] w h = refl
 stands-fits (f ∷ fs) w h =
-    ap (λ (b : Bool). pick b (fittingAll fs) false)
+    ap (λ (b : Bool). cond b (fittingAll fs) false)
     (lt-fits f (subst (λ (x : ℕ). x < 2 ^ width f) (h .0) (mod-lt (w / 2 ^ (span fs + 1)) (pow-pos (width f)))))
     ∙ stands-fits fs w (h .1)
 
@@ -166,7 +165,7 @@ each-words (fs ∷ l) (w ∷ ws) t g h =
     let k = both (eqb (span fs) 12) (twelveEach l) t in
     let r = each-words l ws (k .1) (g .1) (h .1) in (
       ap₂ (λ (x : ℕ) (xs : List ℕ). x ∷ xs) (stands-word fs w (eqb-true (span fs) 12 (k .0)) (g .0) (h .0)) (r .0),
-      ap (λ (b : Bool). pick b (fittingBy l) false) (stands-fits fs w (h .0)) ∙ r .1,
+      ap (λ (b : Bool). cond b (fittingBy l) false) (stands-fits fs w (h .0)) ∙ r .1,
     )
 
 words-each : (l : List (List Field)) → fittingBy l ≡ true → StandEach l (wordsBy l)

@@ -1,12 +1,11 @@
 -- How a definition by tests is gone through. Assumes nothing.
 use mathlib.Core.Path.{_≡_, refl}
-use mathlib.Core.Bool.{Bool, true, false}
-use Rattle.words.specs.Tests.{pick}
+use mathlib.Core.Bool.{Bool, true, false, cond}
 
-pub picked : {X : Type 0} (a b : X) {t : Bool} → t ≡ true → pick t a b ≡ a
+pub picked : {X : Type 0} (a b : X) {t : Bool} → t ≡ true → cond t a b ≡ a
 picked a b e = rw e
 
-pub passed : {X : Type 0} (a b : X) {t : Bool} → t ≡ false → pick t a b ≡ b
+pub passed : {X : Type 0} (a b : X) {t : Bool} → t ≡ false → cond t a b ≡ b
 passed a b e = rw e
 
 -- a test holds or it does not

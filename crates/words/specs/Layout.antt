@@ -2,11 +2,10 @@
 -- whether every value fits, and at which of the document's bit numbers each value stands. Definitions only.
 use Prim.Native.Nat.{ℕ, _+_, _*_, _/_, _%_, _-_, _^_}
 use mathlib.Core.Path.{_≡_}
-use mathlib.Core.Bool.{Bool, true, false}
+use mathlib.Core.Bool.{Bool, true, false, cond}
 use mathlib.Core.List.{List, [], _∷_}
 use lib.Dec.{eqb, ltb}
 use lib.ListN.{length}
-use Rattle.words.specs.Tests.{pick}
 use Rattle.words.specs.Word.{wordOf, bits}
 
 -- ---- a field
@@ -30,7 +29,7 @@ width (rest k n) = k
 width (fixed k n) = k
 
 abbrev pub value : Field → ℕ
-value (flag b) = pick b 1 0
+value (flag b) = cond b 1 0
 value (count k n) = n
 value (rest k n) = n % 2 ^ k
 value (fixed k n) = n
@@ -63,7 +62,7 @@ joined (f ∷ fs) = value f * 2 ^ span fs + joined fs
 
 abbrev pub fittingAll : List Field → Bool
 fittingAll [] = true
-fittingAll (f ∷ fs) = pick (fitting f) (fittingAll fs) false
+fittingAll (f ∷ fs) = cond (fitting f) (fittingAll fs) false
 
 abbrev pub overrunAll : List Field → ℕ
 overrunAll [] = 0
@@ -88,12 +87,12 @@ wordsBy (fs ∷ l) = wordOf (joined fs) ∷ wordsBy l
 -- every value fits its field
 abbrev pub fittingBy : List (List Field) → Bool
 fittingBy [] = true
-fittingBy (fs ∷ l) = pick (fittingAll fs) (fittingBy l) false
+fittingBy (fs ∷ l) = cond (fittingAll fs) (fittingBy l) false
 
 -- every word has all of its twelve data bits laid out
 abbrev pub twelveEach : List (List Field) → Bool
 twelveEach [] = true
-twelveEach (fs ∷ l) = pick (eqb (span fs) 12) (twelveEach l) false
+twelveEach (fs ∷ l) = cond (eqb (span fs) 12) (twelveEach l) false
 
 -- the fields stand where the layout has them: a word's begin thirteen bits after those of the word before
 abbrev pub LaidFrom : ℕ → List (List Field) → List ℕ → Type 0

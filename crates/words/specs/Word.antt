@@ -2,13 +2,12 @@
 -- `ones` is the language's own count of a number's set digits.
 use Prim.Native.Nat.{ℕ, suc, _+_, _*_, _/_, _%_, _-_, _≤_, _^_}
 use mathlib.Core.Path.{_≡_}
-use mathlib.Core.Bool.{Bool, not}
+use mathlib.Core.Bool.{Bool, not, cond}
 use mathlib.Core.List.{List, [], _∷_}
 use lib.Bits.{bitXor}
 use lib.Count.{ones}
 use lib.Dec.{eqb, ltb}
 use lib.ListN.{getD}
-use Rattle.words.specs.Tests.{pick}
 
 -- ---- one word
 
@@ -60,7 +59,7 @@ AllGood (w ∷ ws) = Good w × AllGood ws
 -- the offset of the first word that has the fault p; where none has, the number of words
 unfoldable pub first : (ℕ → Bool) → List ℕ → ℕ
 first p [] = 0
-first p (w ∷ ws) = pick (p w) 0 (suc (first p ws))
+first p (w ∷ ws) = cond (p w) 0 (suc (first p ws))
 
 -- ---- the bits of a report
 

@@ -31,18 +31,6 @@ returns-2 c =
     let room = length (a .out .now) in
     silent (is-done room bs w (c .before .if1 .left) (c .if2 .taken)) refl
 
-slice-aggregate-put-text : tie.Need-slice-aggregate-put-text
-slice-aggregate-put-text c = search needs
-
-put-text-requires : tie.Need-put-text-requires
-put-text-requires c κs = search needs
-
-closed-requires : tie.Need-closed-requires
-closed-requires c κs = search needs
-
-same-length : tie.Need-same-length
-same-length c = search needs
-
 returns-3 : tie.Need-returns-3
 returns-3 c =
     let s = c .before .before .before .before .before .before .before .before .before .before .before in
@@ -51,18 +39,6 @@ returns-3 c =
     let w = a .walk in
     let room = length (a .out .now) in
     tells (is-long room bs w (c .before .before .before .before .before .before .before .before .if1 .left) (c .before .before .before .before .before .before .before .if2 .left) (c .before .before .before .before .before .before .if3 .taken) ∙ ap (λ (x : Walk). Says (text "LONG\n") x) (sym (c .closed .ensures))) (c .before .before .before .put-text .ensures)
-
-slice-aggregate-put-text-2 : tie.Need-slice-aggregate-put-text-2
-slice-aggregate-put-text-2 c = search needs
-
-put-text-requires-2 : tie.Need-put-text-requires-2
-put-text-requires-2 c κs = search needs
-
-closed-requires-2 : tie.Need-closed-requires-2
-closed-requires-2 c κs = search needs
-
-same-length-2 : tie.Need-same-length-2
-same-length-2 c = search needs
 
 returns-4 : tie.Need-returns-4
 returns-4 c =
@@ -100,9 +76,6 @@ returns-7 c =
     let room = length (a .out .now) in
     silent (roomy room bs w (c .before .before .before .before .before .before .before .before .before .before .if1 .left) ∙ is-more bs w (length bs / 2) (c .before .before .before .before .before .before .before .before .before .if2 .left) (c .before .before .before .before .before .before .before .before .if3 .left) (c .before .before .before .before .before .before .before .if4 .left) refl (c .before .before .before .before .before .if5 .left) (c .before .before .before .if6 .left) (c .if7 .taken)) refl
 
-read-requires : tie.Need-read-requires
-read-requires c κs = search needs
-
 say-requires : tie.Need-say-requires
 say-requires c κs =
     let s = c .before .before .before .before .before .before .before .before .before .before .before .before .before .before .before in
@@ -111,9 +84,6 @@ say-requires c κs =
     let w = a .walk in
     let room = length (a .out .now) in
     (c .before .before .before .before .before .before .before .before .before .before .before .before .if1 .left, within bs w (length bs / 2) (c .before .read .result) (c .before .before .before .before .before .before .before .before .before .before .if3 .left) (c .before .before .before .before .before .before .before .before .before .if4 .left) refl (c .before .before .before .before .before .before .before .if5 .left) (c .before .before .before .before .before .if6 .left) (c .before .before .if7 .left) (c .before .read .ensures))
-
-same-length-3 : tie.Need-same-length-3
-same-length-3 c = search needs
 
 returns-8 : tie.Need-returns-8
 returns-8 c =
@@ -130,20 +100,20 @@ next-spec =
     (tie.spec
     returns
     returns-2
-    slice-aggregate-put-text
-    put-text-requires
-    closed-requires
-    same-length
+    (λ c. search needs)
+    (λ c κs. search needs)
+    (λ c κs. search needs)
+    (λ c. search needs)
     returns-3
-    slice-aggregate-put-text-2
-    put-text-requires-2
-    closed-requires-2
-    same-length-2
+    (λ c. search needs)
+    (λ c κs. search needs)
+    (λ c κs. search needs)
+    (λ c. search needs)
     returns-4
     returns-5
     returns-6
     returns-7
-    read-requires
+    (λ c κs. search needs)
     say-requires
-    same-length-3
+    (λ c. search needs)
     returns-8)

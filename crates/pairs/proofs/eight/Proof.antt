@@ -11,18 +11,6 @@ use Rattle.bits.proofs.Laws.{whole}
 use Rattle.pairs.proofs.eight.Statement.{statement}
 use Rattle.pairs.proofs.eight.Tie as tie
 
-sub-read : tie.Need-sub-read
-sub-read c = search needs
-
-part-read-start : tie.Need-part-read-start
-part-read-start c = search needs
-
-part-read-end : tie.Need-part-read-end
-part-read-end c = search needs
-
-read-requires : tie.Need-read-requires
-read-requires c κs = search needs
-
 returns : tie.Need-returns
 returns c =
     let a = c .before .before .before .args in
@@ -30,4 +18,4 @@ returns c =
     ∙ ap (λ (l : List ℕ). bitsOf l 0 64) (take-all (length (a .items .now) - a .at) (drop (a .at) (a .items .now)) (rw length-drop (omega arith)))
 
 pub eight-spec : {M : Type 1} → statement M
-eight-spec = tie.close (tie.spec sub-read part-read-start part-read-end read-requires returns)
+eight-spec = tie.close (tie.spec (λ c. search needs) (λ c. search needs) (λ c. search needs) (λ c κs. search needs) returns)

@@ -14,12 +14,6 @@ same : (a b c d e f g : ℕ) → four (a ∷ b ∷ c ∷ d ∷ []) ≡ four (a �
 unfolding fourOf fourZeros
 same a b c d e f g = refl
 
-seven-of-requires : tie.Need-seven-of-requires
-seven-of-requires c κs = search needs
-
-four-of-requires : tie.Need-four-of-requires
-four-of-requires c κs = search needs
-
 returns : tie.Need-returns
 unfolding reportOf zeros
 returns c = simp (eq-eqb _ _ (c .before .if1 .taken)) (c .seven-of .ensures)
@@ -29,4 +23,4 @@ unfolding reportOf zeros
 returns-2 c = simp (ne-eqb _ _ (c .before .if1 .left)) (c .four-of .ensures ∙ same _ _ _ _ _ _ _)
 
 pub found-of-spec : {M : Type 1} → statement M
-found-of-spec = tie.close (tie.spec seven-of-requires four-of-requires returns returns-2)
+found-of-spec = tie.close (tie.spec (λ c κs. search needs) (λ c κs. search needs) returns returns-2)

@@ -15,32 +15,17 @@ use Rattle.report_reader.proofs.height_of.Tie as tie
 abbrev plain : ℤ → FoundHeight
 plain z = record { height = Altitude z; spare = 0 }
 
-told-by-requires : tie.Need-told-by-requires
-told-by-requires c κs = search needs
-
-cast-t13 : tie.Need-cast-t13
-cast-t13 c = search needs
-
 returns : tie.Need-returns
 unfolding heightOf heightSpares
 returns c = simp (eq-eqb _ _ (sym (c .before .told-by .ensures) ∙ c .if1 .taken))
-
-cast-quality : tie.Need-cast-quality
-cast-quality c = search needs
 
 returns-2 : tie.Need-returns-2
 unfolding heightOf heightSpares
 returns-2 c = simp (ne-eqb _ _ (λ e. c .before .if1 .left (c .before .before .told-by .ensures ∙ e)), eq-eqb _ _ (sym (c .before .before .told-by .ensures) ∙ c .if2 .taken))
 
-cast-quality-2 : tie.Need-cast-quality-2
-cast-quality-2 c = search needs
-
 returns-3 : tie.Need-returns-3
 unfolding heightOf heightSpares
 returns-3 c = simp (ne-eqb _ _ (λ e. c .before .before .if1 .left (c .before .before .before .told-by .ensures ∙ e)), ne-eqb _ _ (λ e. c .before .if2 .left (c .before .before .before .told-by .ensures ∙ e)), eq-eqb _ _ (sym (c .before .before .before .told-by .ensures) ∙ c .if3 .taken))
-
-altitude-of-requires : tie.Need-altitude-of-requires
-altitude-of-requires c κs = search needs
 
 returns-4 : tie.Need-returns-4
 unfolding heightOf heightSpares
@@ -54,13 +39,13 @@ pub height-of-spec : {M : Type 1} → statement M
 height-of-spec =
     tie.close
     (tie.spec
-    told-by-requires
-    cast-t13
+    (λ c κs. search needs)
+    (λ c. search needs)
     returns
-    cast-quality
+    (λ c. search needs)
     returns-2
-    cast-quality-2
+    (λ c. search needs)
     returns-3
-    altitude-of-requires
+    (λ c κs. search needs)
     returns-4
     returns-5)

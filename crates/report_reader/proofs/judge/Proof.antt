@@ -11,20 +11,11 @@ returns c = search (needs, lt-ltb, le-ltb)
 returns-2 : tie.Need-returns-2
 returns-2 c = search (needs, lt-ltb, le-ltb)
 
-is-unknown-form-requires : tie.Need-is-unknown-form-requires
-is-unknown-form-requires c κs = search needs
-
 returns-3 : tie.Need-returns-3
 returns-3 c = simp (le-ltb _ _ (c .before .before .before .if1 .left), le-ltb _ _ (c .before .before .if2 .left), sym (c .before .is-unknown-form .ensures) ∙ c .if3 .taken)
 
-word-count-requires : tie.Need-word-count-requires
-word-count-requires c κs = search needs
-
 returns-4 : tie.Need-returns-4
 returns-4 c = simp (le-ltb _ _ (c .before .before .before .before .before .if1 .left), le-ltb _ _ (c .before .before .before .before .if2 .left), sym (c .before .before .before .is-unknown-form .ensures) ∙ c .before .before .if3 .left, ne-eqb _ _ (λ e. c .if4 .taken (e ∙ sym (c .before .word-count .ensures))))
-
-judge-words-requires : tie.Need-judge-words-requires
-judge-words-requires c κs = search needs
 
 returns-5 : tie.Need-returns-5
 returns-5 c = simp (le-ltb _ _ (c .before .before .before .before .before .before .if1 .left), le-ltb _ _ (c .before .before .before .before .before .if2 .left), sym (c .before .before .before .before .is-unknown-form .ensures) ∙ c .before .before .before .if3 .left, eq-eqb _ _ (c .before .if4 .left ∙ c .before .before .word-count .ensures)) (c .judge-words .ensures)
@@ -35,9 +26,9 @@ judge-spec =
     (tie.spec
     returns
     returns-2
-    is-unknown-form-requires
+    (λ c κs. search needs)
     returns-3
-    word-count-requires
+    (λ c κs. search needs)
     returns-4
-    judge-words-requires
+    (λ c κs. search needs)
     returns-5)

@@ -26,20 +26,11 @@ minus ws h7 h8 h9 = simp (h7, h8, h9)
 last : (ws : List ℕ) → unassigned ws ≡ false → zeros ws ≡ 0 → minusZero signMagnitude ws ≡ false → (x : Found) → x ≡ found ws → Accepted (x .report) ≡ answered ws
 last ws h7 h8 h9 x p = simp (h7, h8, h9) (ap (λ (y : Found). Accepted (y .report)) p)
 
-is-unassigned-requires : tie.Need-is-unassigned-requires
-is-unassigned-requires c κs = search needs
-
 returns : tie.Need-returns
 returns c = simp (sym (c .before .is-unassigned .ensures) ∙ c .if1 .taken)
 
-found-of-requires : tie.Need-found-of-requires
-found-of-requires c κs = search needs
-
 returns-2 : tie.Need-returns-2
 returns-2 c = simp (sym (c .before .before .before .is-unassigned .ensures) ∙ c .before .before .if1 .left, ne-eqb _ _ (λ e. c .if2 .taken (ap (λ (x : Found). x .spare) (c .before .found-of .ensures) ∙ e)))
-
-is-minus-zero-requires : tie.Need-is-minus-zero-requires
-is-minus-zero-requires c κs = search needs
 
 returns-3 : tie.Need-returns-3
 returns-3 c = minus (c .before .before .before .before .before .before .args .a ∷ c .before .before .before .before .before .before .args .b ∷ c .before .before .before .before .before .before .args .c ∷ c .before .before .before .before .before .before .args .d ∷ c .before .before .before .before .before .before .args .e ∷ c .before .before .before .before .before .before .args .f ∷ c .before .before .before .before .before .before .args .g ∷ []) (sym (c .before .before .before .before .before .is-unassigned .ensures) ∙ c .before .before .before .before .if1 .left) (sym (ap (λ (x : Found). x .spare) (c .before .before .before .found-of .ensures)) ∙ c .before .before .if2 .left) (sym (c .before .is-minus-zero .ensures) ∙ c .if3 .taken)
@@ -51,10 +42,10 @@ pub judge-words-spec : {M : Type 1} → statement M
 judge-words-spec =
     tie.close
     (tie.spec
-    is-unassigned-requires
+    (λ c κs. search needs)
     returns
-    found-of-requires
+    (λ c κs. search needs)
     returns-2
-    is-minus-zero-requires
+    (λ c κs. search needs)
     returns-3
     returns-4)

@@ -1,10 +1,9 @@
 -- `report_reader::seven_of` meets its contract: each return rewrites with the tests that led there. Assumes nothing.
 use Prim.Native.Nat.{ℕ, _+_, _<_}
 use mathlib.Core.Path.{_≡_, refl, ap, sym, _∙_}
-use mathlib.Core.Bool.{Bool, true, false}
+use mathlib.Core.Bool.{Bool, true, false, cond}
 use mathlib.Core.List.{List, [], _∷_}
 use native.Mathlib.Omega.{arith}
-use Rattle.words.specs.Tests.{pick}
 use Rattle.words.specs.Word.{bits}
 use Rattle.reports.specs.declared.Dabs.{Dabs}
 use Rattle.reports.specs.declared.Atcrbs.{Atcrbs}
@@ -27,7 +26,7 @@ same : (a b c d e f g : ℕ) → height (a ∷ 0 ∷ 0 ∷ 0 ∷ 0 ∷ 0 ∷ g �
 unfolding heightOf heightSpares
 same a b c d e f g = refl
 
-pick-small : (b : Bool) {x y : ℕ} → x < 128 → y < 128 → pick b x y < 128
+pick-small : (b : Bool) {x y : ℕ} → x < 128 → y < 128 → cond b x y < 128
 pick-small true p q = p
 pick-small false p q = q
 
@@ -46,15 +45,6 @@ atcrbs : (ws : List ℕ) (h : FoundHeight) (r : Atcrbs) → h ≡ height ws → 
     → found (R.Atcrbs r) (h .spare) ≡ found (R.Atcrbs (atcrbsOf ws (heightOf signMagnitude ws))) (heightSpares ws)
 atcrbs ws h r p q = rw (q, p)
 
-height-of-requires : tie.Need-height-of-requires
-height-of-requires c κs = search needs
-
-told-by-requires : tie.Need-told-by-requires
-told-by-requires c κs = search needs
-
-dabs-of-requires : tie.Need-dabs-of-requires
-dabs-of-requires c κs = search needs
-
 add-t21 : tie.Need-add-t21
 add-t21 c = let s = height-small (c .before .before .before .before .before .args .a ∷ 0 ∷ 0 ∷ 0 ∷ 0 ∷ 0 ∷ c .before .before .before .before .before .args .g ∷ []) in omega (arith, ap (λ (x : FoundHeight). x .spare) (c .before .before .before .before .height-of .ensures))
 
@@ -62,40 +52,13 @@ returns : tie.Need-returns
 unfolding sevenOf sevenSpares
 returns c = simp (eq-eqb _ _ (c .before .before .if1 .taken)) (dabs _ _ _ (c .before .before .before .before .height-of .ensures ∙ same (c .before .before .before .before .before .args .a) (c .before .before .before .before .before .args .b) (c .before .before .before .before .before .args .c) (c .before .before .before .before .before .args .d) (c .before .before .before .before .before .args .e) (c .before .before .before .before .before .args .f) (c .before .before .before .before .before .args .g)) (c .before .dabs-of .ensures))
 
-add-spare : tie.Need-add-spare
-add-spare c = search needs
-
-add-spare-2 : tie.Need-add-spare-2
-add-spare-2 c = search needs
-
-mtd-of-requires : tie.Need-mtd-of-requires
-mtd-of-requires c κs = search needs
-
 returns-2 : tie.Need-returns-2
 unfolding sevenOf sevenSpares
 returns-2 c = simp (ne-eqb _ _ (c .before .before .if1 .left), eq-eqb _ _ (sym (c .before .before .before .told-by .ensures) ∙ c .before .if2 .taken), c .mtd-of .ensures)
 
-add-spare-3 : tie.Need-add-spare-3
-add-spare-3 c = search needs
-
-add-spare-4 : tie.Need-add-spare-4
-add-spare-4 c = search needs
-
-add-spare-5 : tie.Need-add-spare-5
-add-spare-5 c = search needs
-
-add-spare-6 : tie.Need-add-spare-6
-add-spare-6 c = search needs
-
-rdas-of-requires : tie.Need-rdas-of-requires
-rdas-of-requires c κs = search needs
-
 returns-3 : tie.Need-returns-3
 unfolding sevenOf sevenSpares
 returns-3 c = simp (ne-eqb _ _ (c .before .before .before .if1 .left), ne-eqb _ _ (λ e. c .before .before .if2 .left (c .before .before .before .before .told-by .ensures ∙ e)), eq-eqb _ _ (sym (c .before .before .before .before .told-by .ensures) ∙ c .before .if3 .taken), c .rdas-of .ensures)
-
-atcrbs-of-requires : tie.Need-atcrbs-of-requires
-atcrbs-of-requires c κs = search needs
 
 returns-4 : tie.Need-returns-4
 unfolding sevenOf sevenSpares
@@ -105,20 +68,20 @@ pub seven-of-spec : {M : Type 1} → statement M
 seven-of-spec =
     tie.close
     (tie.spec
-    height-of-requires
-    told-by-requires
-    dabs-of-requires
+    (λ c κs. search needs)
+    (λ c κs. search needs)
+    (λ c κs. search needs)
     add-t21
     returns
-    add-spare
-    add-spare-2
-    mtd-of-requires
+    (λ c. search needs)
+    (λ c. search needs)
+    (λ c κs. search needs)
     returns-2
-    add-spare-3
-    add-spare-4
-    add-spare-5
-    add-spare-6
-    rdas-of-requires
+    (λ c. search needs)
+    (λ c. search needs)
+    (λ c. search needs)
+    (λ c. search needs)
+    (λ c κs. search needs)
     returns-3
-    atcrbs-of-requires
+    (λ c κs. search needs)
     returns-4)

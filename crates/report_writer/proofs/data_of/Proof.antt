@@ -12,60 +12,6 @@ use Rattle.report_writer.proofs.data_of.Tie as tie
 abbrev dataOf : Report → Data
 dataOf r = dataBy (layoutOf signMagnitude r)
 
-enum-known-report : tie.Need-enum-known-report
-enum-known-report c = search needs
-
-search-data-requires : tie.Need-search-data-requires
-search-data-requires c κs = search needs
-
-enum-known-report-2 : tie.Need-enum-known-report-2
-enum-known-report-2 c = search needs
-
-strobe-data-requires : tie.Need-strobe-data-requires
-strobe-data-requires c κs = search needs
-
-enum-known-report-3 : tie.Need-enum-known-report-3
-enum-known-report-3 c = search needs
-
-map-data-requires : tie.Need-map-data-requires
-map-data-requires c κs = search needs
-
-enum-known-report-4 : tie.Need-enum-known-report-4
-enum-known-report-4 c = search needs
-
-status-data-requires : tie.Need-status-data-requires
-status-data-requires c κs = search needs
-
-enum-known-report-5 : tie.Need-enum-known-report-5
-enum-known-report-5 c = search needs
-
-rtqc-data-requires : tie.Need-rtqc-data-requires
-rtqc-data-requires c κs = search needs
-
-enum-known-report-6 : tie.Need-enum-known-report-6
-enum-known-report-6 c = search needs
-
-dabs-data-requires : tie.Need-dabs-data-requires
-dabs-data-requires c κs = search needs
-
-enum-known-report-7 : tie.Need-enum-known-report-7
-enum-known-report-7 c = search needs
-
-atcrbs-data-requires : tie.Need-atcrbs-data-requires
-atcrbs-data-requires c κs = search needs
-
-enum-known-report-8 : tie.Need-enum-known-report-8
-enum-known-report-8 c = search needs
-
-mtd-data-requires : tie.Need-mtd-data-requires
-mtd-data-requires c κs = search needs
-
-enum-known-report-9 : tie.Need-enum-known-report-9
-enum-known-report-9 c = search needs
-
-rdas-data-requires : tie.Need-rdas-data-requires
-rdas-data-requires c κs = search needs
-
 returns : tie.Need-returns
 returns c = c .search-data .ensures ∙ sym (ap dataOf (c .before .before .report .given .1))
 
@@ -97,24 +43,24 @@ pub data-of-spec : {M : Type 1} → statement M
 data-of-spec =
     tie.close
     (tie.spec
-    enum-known-report
-    search-data-requires
-    enum-known-report-2
-    strobe-data-requires
-    enum-known-report-3
-    map-data-requires
-    enum-known-report-4
-    status-data-requires
-    enum-known-report-5
-    rtqc-data-requires
-    enum-known-report-6
-    dabs-data-requires
-    enum-known-report-7
-    atcrbs-data-requires
-    enum-known-report-8
-    mtd-data-requires
-    enum-known-report-9
-    rdas-data-requires
+    (λ c. search needs)
+    (λ c κs. search needs)
+    (λ c. search needs)
+    (λ c κs. search needs)
+    (λ c. search needs)
+    (λ c κs. search needs)
+    (λ c. search needs)
+    (λ c κs. search needs)
+    (λ c. search needs)
+    (λ c κs. search needs)
+    (λ c. search needs)
+    (λ c κs. search needs)
+    (λ c. search needs)
+    (λ c κs. search needs)
+    (λ c. search needs)
+    (λ c κs. search needs)
+    (λ c. search needs)
+    (λ c κs. search needs)
     returns
     returns-2
     returns-3

@@ -17,42 +17,6 @@ use Rattle.report_writer.proofs.height_last.Tie as tie
 abbrev last : Height → ℕ
 last h = dataOrMore (lastWord signMagnitude h)
 
-enum-known-h : tie.Need-enum-known-h
-enum-known-h c = search needs
-
-altitude-bits-requires : tie.Need-altitude-bits-requires
-altitude-bits-requires c κs = search needs
-
-whole-requires : tie.Need-whole-requires
-whole-requires c κs = search needs
-
-enum-known-h-2 : tie.Need-enum-known-h-2
-enum-known-h-2 c = search needs
-
-cast-whole : tie.Need-cast-whole
-cast-whole c = search needs
-
-whole-requires-2 : tie.Need-whole-requires-2
-whole-requires-2 c κs = search needs
-
-enum-known-h-3 : tie.Need-enum-known-h-3
-enum-known-h-3 c = search needs
-
-cd-last-requires : tie.Need-cd-last-requires
-cd-last-requires c κs = search needs
-
-enum-known-h-4 : tie.Need-enum-known-h-4
-enum-known-h-4 c = search needs
-
-mtd-quality-last-requires : tie.Need-mtd-quality-last-requires
-mtd-quality-last-requires c κs = search needs
-
-enum-known-h-5 : tie.Need-enum-known-h-5
-enum-known-h-5 c = search needs
-
-rdas-quality-last-requires : tie.Need-rdas-quality-last-requires
-rdas-quality-last-requires c κs = search needs
-
 returns : tie.Need-returns
 returns c = c .whole .ensures ∙ ap (λ (n : ℕ). dataOrMore (count 12 n ∷ [])) (c .before .altitude-bits .ensures .0) ∙ ap (λ (z : ℤ). last (Altitude z)) (toZ-ofZ {w = w16} {z = c .before .before .before .h .given .0 .0} (search needs)) ∙ sym (ap last (c .before .before .before .h .given .1))
 
@@ -72,18 +36,18 @@ pub height-last-spec : {M : Type 1} → statement M
 height-last-spec =
     tie.close
     (tie.spec
-    enum-known-h
-    altitude-bits-requires
-    whole-requires
-    enum-known-h-2
-    cast-whole
-    whole-requires-2
-    enum-known-h-3
-    cd-last-requires
-    enum-known-h-4
-    mtd-quality-last-requires
-    enum-known-h-5
-    rdas-quality-last-requires
+    (λ c. search needs)
+    (λ c κs. search needs)
+    (λ c κs. search needs)
+    (λ c. search needs)
+    (λ c. search needs)
+    (λ c κs. search needs)
+    (λ c. search needs)
+    (λ c κs. search needs)
+    (λ c. search needs)
+    (λ c κs. search needs)
+    (λ c. search needs)
+    (λ c κs. search needs)
     returns
     returns-2
     returns-3

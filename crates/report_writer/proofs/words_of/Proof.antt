@@ -7,21 +7,6 @@ use borrow.Author.Needs.{needs}
 use Rattle.report_writer.proofs.words_of.Statement.{statement}
 use Rattle.report_writer.proofs.words_of.Tie as tie
 
-data-of-requires : tie.Need-data-of-requires
-data-of-requires c κs = search needs
-
-enum-known-data : tie.Need-enum-known-data
-enum-known-data c = search needs
-
-four-words-requires : tie.Need-four-words-requires
-four-words-requires c κs = search needs
-
-enum-known-data-2 : tie.Need-enum-known-data-2
-enum-known-data-2 c = search needs
-
-seven-words-requires : tie.Need-seven-words-requires
-seven-words-requires c κs = search needs
-
 returns : tie.Need-returns
 returns c = c .four-words .ensures ∙ sym (ap fromData (c .before .before .data .given .1)) ∙ ap fromData (c .before .before .before .before .data-of .ensures) ∙ made signMagnitude (c .before .before .before .before .before .args .report)
 
@@ -32,10 +17,10 @@ pub words-of-spec : {M : Type 1} → statement M
 words-of-spec =
     tie.close
     (tie.spec
-    data-of-requires
-    enum-known-data
-    four-words-requires
-    enum-known-data-2
-    seven-words-requires
+    (λ c κs. search needs)
+    (λ c. search needs)
+    (λ c κs. search needs)
+    (λ c. search needs)
+    (λ c κs. search needs)
     returns
     returns-2)

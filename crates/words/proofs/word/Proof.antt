@@ -8,15 +8,6 @@ use lib.Count.{ones}
 use Rattle.words.proofs.word.Statement.{statement}
 use Rattle.words.proofs.word.Tie as tie
 
-mul-doubled : tie.Need-mul-doubled
-mul-doubled c = search needs
-
-is-odd-requires : tie.Need-is-odd-requires
-is-odd-requires c κs = search needs
-
-add-result : tie.Need-add-result
-add-result c = search needs
-
 returns : tie.Need-returns
 returns c = omega (arith, eqb-true (ones (c .before .before .args .«data») % 2) 1 (sym (c .before .is-odd .ensures) ∙ c .if1 .taken))
 
@@ -24,4 +15,4 @@ returns-2 : tie.Need-returns-2
 returns-2 c = omega (arith, eqb-false (ones (c .before .before .args .«data») % 2) 1 (sym (c .before .is-odd .ensures) ∙ c .if1 .left))
 
 pub word-spec : {M : Type 1} → statement M
-word-spec = tie.close (tie.spec mul-doubled is-odd-requires add-result returns returns-2)
+word-spec = tie.close (tie.spec (λ c. search needs) (λ c κs. search needs) (λ c. search needs) returns returns-2)

@@ -6,20 +6,11 @@ use borrow.Author.Needs.{needs}
 use Rattle.field_host.proofs.reading.entries.Statement.{statement}
 use Rattle.field_host.proofs.reading.entries.Tie as tie
 
-behind-requires : tie.Need-behind-requires
-behind-requires c κs = search needs
-
 returns : tie.Need-returns
 returns c = simp (eq-eqb _ _ (c .before .if1 .taken)) (ap (λ (x : ℕ). x / 8) (c .behind .ensures))
 
-behind-requires-2 : tie.Need-behind-requires-2
-behind-requires-2 c κs = search needs
-
 returns-2 : tie.Need-returns-2
 returns-2 c = simp (ne-eqb _ _ (c .before .before .if1 .left), eq-eqb _ _ (c .before .if2 .taken)) (ap (λ (x : ℕ). x / 24) (c .behind2 .ensures))
-
-behind-requires-3 : tie.Need-behind-requires-3
-behind-requires-3 c κs = search needs
 
 returns-3 : tie.Need-returns-3
 returns-3 c = simp (ne-eqb _ _ (c .before .before .before .if1 .left), ne-eqb _ _ (c .before .before .if2 .left), eq-eqb _ _ (c .before .if3 .taken)) (ap (λ (x : ℕ). x / 24) (c .behind3 .ensures))
@@ -31,10 +22,10 @@ pub entries-spec : {M : Type 1} → statement M
 entries-spec =
     tie.close
     (tie.spec
-    behind-requires
+    (λ c κs. search needs)
     returns
-    behind-requires-2
+    (λ c κs. search needs)
     returns-2
-    behind-requires-3
+    (λ c κs. search needs)
     returns-3
     returns-4)

@@ -18,12 +18,6 @@ wide (negsuc n) f = let h = f .sfits in record { sfits = omega arith }
 held : (c : tie.After-z) → SFits w32 (getD (c .before .before .args .t1) (c .before .before .args .index) (pos 0))
 held c = record { sfits = c .z .given }
 
-mul-z : tie.Need-mul-z
-mul-z c = search needs
-
-array-copy-out-z : tie.Need-array-copy-out-z
-array-copy-out-z c = search needs
-
 cast-result : tie.Need-cast-result
 cast-result c = wide _ (sfits-toZ (fits-ofZ (held c)))
 
@@ -38,4 +32,4 @@ returns-2 c =
     sym (List·getD-eq-default (a .t1) (pos 0) (omega arith))
 
 pub entry-spec : {M : Type 1} → statement M
-entry-spec = tie.close (tie.spec mul-z array-copy-out-z cast-result returns returns-2)
+entry-spec = tie.close (tie.spec (λ c. search needs) (λ c. search needs) cast-result returns returns-2)

@@ -6,15 +6,6 @@ use Rattle.field_host.specs.Reading.{itemIn}
 use Rattle.field_host.proofs.reading.item_in.Statement.{statement}
 use Rattle.field_host.proofs.reading.item_in.Tie as tie
 
-enum-known-a : tie.Need-enum-known-a
-enum-known-a c = search needs
-
-item-of-requires : tie.Need-item-of-requires
-item-of-requires c κs = search needs
-
-enum-told : tie.Need-enum-told
-enum-told c = search needs
-
 returns : tie.Need-returns
 returns c = c .item-of .ensures ∙ sym (ap (λ (a : Answer). itemIn a (c .before .before .before .before .args .item)) (c .before .before .a .given .1))
 
@@ -22,4 +13,4 @@ returns-2 : tie.Need-returns-2
 returns-2 c = sym (ap (λ (a : Answer). itemIn a (c .before .before .args .item)) (c .enum-told .given .1))
 
 pub item-in-spec : {M : Type 1} → statement M
-item-in-spec = tie.close (tie.spec enum-known-a item-of-requires enum-told returns returns-2)
+item-in-spec = tie.close (tie.spec (λ c. search needs) (λ c κs. search needs) (λ c. search needs) returns returns-2)

@@ -10,17 +10,8 @@ use Rattle.fields.specs.Reading.{readField}
 use Rattle.field_host.proofs.reading.siamrung_field_entry.Statement.{statement}
 use Rattle.field_host.proofs.reading.siamrung_field_entry.Tie as tie
 
-way-requires : tie.Need-way-requires
-way-requires c κs = search needs
-
-read-requires : tie.Need-read-requires
-read-requires c κs = search needs
-
-entry-requires : tie.Need-entry-requires
-entry-requires c κs = search needs
-
 returns : tie.Need-returns
 returns c = toZ-ofZ {w = w64} (record { sfits = c .entry .ok }) ∙ c .entry .ensures ∙ ap (λ (f : Found). getD (f .list) (c .before .before .before .before .before .args .index) (pos 0)) (c .before .before .read .ensures ∙ ap (readField _ _) (c .before .before .before .way .ensures))
 
 pub siamrung-field-entry-spec : {M : Type 1} → statement M
-siamrung-field-entry-spec = tie.close (tie.spec way-requires read-requires entry-requires returns)
+siamrung-field-entry-spec = tie.close (tie.spec (λ c κs. search needs) (λ c κs. search needs) (λ c κs. search needs) returns)

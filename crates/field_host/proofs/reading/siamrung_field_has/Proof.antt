@@ -6,18 +6,6 @@ use Rattle.field_host.specs.Reading.{itemIn, isThere}
 use Rattle.field_host.proofs.reading.siamrung_field_has.Statement.{statement}
 use Rattle.field_host.proofs.reading.siamrung_field_has.Tie as tie
 
-answer-requires : tie.Need-answer-requires
-answer-requires c κs = search needs
-
-item-in-requires : tie.Need-item-in-requires
-item-in-requires c κs = search needs
-
-enum-told : tie.Need-enum-told
-enum-told c = search needs
-
-enum-told-2 : tie.Need-enum-told-2
-enum-told-2 c = search needs
-
 returns : tie.Need-returns
 returns c = sym (ap isThere (c .enum-told .given .1)) ∙ ap isThere (c .before .before .item-in .ensures) ∙ ap (λ (a : Answer). isThere (itemIn a (c .before .before .before .before .before .args .item))) (c .before .before .before .answer .ensures)
 
@@ -25,4 +13,4 @@ returns-2 : tie.Need-returns-2
 returns-2 c = sym (ap isThere (c .enum-told2 .given .1)) ∙ ap isThere (c .before .before .item-in .ensures) ∙ ap (λ (a : Answer). isThere (itemIn a (c .before .before .before .before .before .args .item))) (c .before .before .before .answer .ensures)
 
 pub siamrung-field-has-spec : {M : Type 1} → statement M
-siamrung-field-has-spec = tie.close (tie.spec answer-requires item-in-requires enum-told enum-told-2 returns returns-2)
+siamrung-field-has-spec = tie.close (tie.spec (λ c κs. search needs) (λ c κs. search needs) (λ c. search needs) (λ c. search needs) returns returns-2)

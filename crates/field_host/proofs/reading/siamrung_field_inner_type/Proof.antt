@@ -5,14 +5,8 @@ use Rattle.field_host.specs.Reading.{innerType}
 use Rattle.field_host.proofs.reading.siamrung_field_inner_type.Statement.{statement}
 use Rattle.field_host.proofs.reading.siamrung_field_inner_type.Tie as tie
 
-answer-requires : tie.Need-answer-requires
-answer-requires c κs = search needs
-
-inner-type-requires : tie.Need-inner-type-requires
-inner-type-requires c κs = search needs
-
 returns : tie.Need-returns
 returns c = c .inner-type .ensures ∙ ap innerType (c .before .answer .ensures)
 
 pub siamrung-field-inner-type-spec : {M : Type 1} → statement M
-siamrung-field-inner-type-spec = tie.close (tie.spec answer-requires inner-type-requires returns)
+siamrung-field-inner-type-spec = tie.close (tie.spec (λ c κs. search needs) (λ c κs. search needs) returns)

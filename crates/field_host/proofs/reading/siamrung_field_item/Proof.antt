@@ -7,17 +7,8 @@ use Rattle.pairs.specs.Pairs.{valueOf}
 use Rattle.field_host.proofs.reading.siamrung_field_item.Statement.{statement}
 use Rattle.field_host.proofs.reading.siamrung_field_item.Tie as tie
 
-answer-requires : tie.Need-answer-requires
-answer-requires c κs = search needs
-
-item-in-requires : tie.Need-item-in-requires
-item-in-requires c κs = search needs
-
-value-requires : tie.Need-value-requires
-value-requires c κs = search needs
-
 returns : tie.Need-returns
 returns c = c .value .ensures ∙ ap valueOf (c .before .item-in .ensures) ∙ ap (λ (a : Answer). valueOf (itemIn a (c .before .before .before .before .args .item))) (c .before .before .answer .ensures)
 
 pub siamrung-field-item-spec : {M : Type 1} → statement M
-siamrung-field-item-spec = tie.close (tie.spec answer-requires item-in-requires value-requires returns)
+siamrung-field-item-spec = tie.close (tie.spec (λ c κs. search needs) (λ c κs. search needs) (λ c κs. search needs) returns)

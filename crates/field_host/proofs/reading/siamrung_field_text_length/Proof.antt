@@ -6,14 +6,8 @@ use borrow.Author.Needs.{needs}
 use Rattle.field_host.proofs.reading.siamrung_field_text_length.Statement.{statement}
 use Rattle.field_host.proofs.reading.siamrung_field_text_length.Tie as tie
 
-way-requires : tie.Need-way-requires
-way-requires c κs = search needs
-
-text-requires : tie.Need-text-requires
-text-requires c κs = search needs
-
 returns : tie.Need-returns
 returns c = ap length (c .text .ensures ∙ ap (textOf _ _) (c .before .way .ensures))
 
 pub siamrung-field-text-length-spec : {M : Type 1} → statement M
-siamrung-field-text-length-spec = tie.close (tie.spec way-requires text-requires returns)
+siamrung-field-text-length-spec = tie.close (tie.spec (λ c κs. search needs) (λ c κs. search needs) returns)

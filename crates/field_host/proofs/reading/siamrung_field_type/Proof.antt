@@ -5,14 +5,8 @@ use Rattle.field_host.specs.Reading.{typeOf}
 use Rattle.field_host.proofs.reading.siamrung_field_type.Statement.{statement}
 use Rattle.field_host.proofs.reading.siamrung_field_type.Tie as tie
 
-answer-requires : tie.Need-answer-requires
-answer-requires c κs = search needs
-
-outer-type-requires : tie.Need-outer-type-requires
-outer-type-requires c κs = search needs
-
 returns : tie.Need-returns
 returns c = c .outer-type .ensures ∙ ap typeOf (c .before .answer .ensures)
 
 pub siamrung-field-type-spec : {M : Type 1} → statement M
-siamrung-field-type-spec = tie.close (tie.spec answer-requires outer-type-requires returns)
+siamrung-field-type-spec = tie.close (tie.spec (λ c κs. search needs) (λ c κs. search needs) returns)

@@ -5,21 +5,6 @@ use Rattle.field_host.specs.Writing.{bitsOf}
 use Rattle.field_host.proofs.writing.siamrung_field_write.Statement.{statement}
 use Rattle.field_host.proofs.writing.siamrung_field_write.Tie as tie
 
-record-of-requires : tie.Need-record-of-requires
-record-of-requires c κs = search needs
-
-list-given-requires : tie.Need-list-given-requires
-list-given-requires c κs = search needs
-
-write-requires : tie.Need-write-requires
-write-requires c κs = search needs
-
-bits-of-requires : tie.Need-bits-of-requires
-bits-of-requires c κs = search needs
-
-same-length : tie.Need-same-length
-same-length c = search needs
-
 returns : tie.Need-returns
 returns c =
     let w = c .before .before .before in
@@ -29,4 +14,4 @@ returns c =
     (rw (← r, ← l) (c .bits-of .ensures ∙ ap bitsOf (w .write .ensures .0)), rw (← r, ← l) (w .write .ensures .1))
 
 pub siamrung-field-write-spec : {M : Type 1} → statement M
-siamrung-field-write-spec = tie.close (tie.spec record-of-requires list-given-requires write-requires bits-of-requires same-length returns)
+siamrung-field-write-spec = tie.close (tie.spec (λ c κs. search needs) (λ c κs. search needs) (λ c κs. search needs) (λ c κs. search needs) (λ c. search needs) returns)

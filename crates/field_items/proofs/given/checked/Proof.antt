@@ -4,18 +4,9 @@ use Rattle.field_items.specs.Given.{checkedAt}
 use Rattle.field_items.proofs.given.checked.Statement.{statement}
 use Rattle.field_items.proofs.given.checked.Tie as tie
 
-count-requires : tie.Need-count-requires
-count-requires c κs = search needs
-
-gather-requires : tie.Need-gather-requires
-gather-requires c κs = search needs
-
-checked-by-requires : tie.Need-checked-by-requires
-checked-by-requires c κs = search needs
-
 returns : tie.Need-returns
 unfolding checkedAt
 returns c = rw (← c .before .before .count .ensures, ← c .before .gather .ensures) (c .checked-by .ensures)
 
 pub checked-spec : {M : Type 1} → statement M
-checked-spec = tie.close (tie.spec count-requires gather-requires checked-by-requires returns)
+checked-spec = tie.close (tie.spec (λ c κs. search needs) (λ c κs. search needs) (λ c κs. search needs) returns)

@@ -4,21 +4,12 @@ use mathlib.Core.Path.{refl, sym, _∙_}
 use Rattle.field_items.proofs.given.checked_by.Statement.{statement}
 use Rattle.field_items.proofs.given.checked_by.Tie as tie
 
-record-given-requires : tie.Need-record-given-requires
-record-given-requires c κs = search needs
-
-fits-requires : tie.Need-fits-requires
-fits-requires c κs = search needs
-
 returns : tie.Need-returns
 returns c = rw (← c .before .before .record-given .ensures, sym (c .before .fits2 .ensures) ∙ c .if1 .taken) refl
-
-unfit-requires : tie.Need-unfit-requires
-unfit-requires c κs = search needs
 
 returns-2 : tie.Need-returns-2
 returns-2 c = rw (← c .before .before .before .record-given .ensures, sym (c .before .before .fits2 .ensures) ∙ c .before .if1 .left) (c .unfit .ensures)
 
 pub checked-by-spec : {M : Type 1} → statement M
 checked-by-spec =
-    tie.close (tie.spec record-given-requires fits-requires returns unfit-requires returns-2)
+    tie.close (tie.spec (λ c κs. search needs) (λ c κs. search needs) returns (λ c κs. search needs) returns-2)

@@ -6,24 +6,15 @@ use Rattle.field_items.specs.Given.{fits}
 use Rattle.field_items.proofs.given.fits.Statement.{statement}
 use Rattle.field_items.proofs.given.fits.Tie as tie
 
-inner-requires : tie.Need-inner-requires
-inner-requires c κs = search needs
-
 returns : tie.Need-returns
 unfolding fits
 returns c = rw (← c .before .inner .ensures, ne-eqb _ _ (c .if1 .taken)) refl
-
-count-of-requires : tie.Need-count-of-requires
-count-of-requires c κs = search needs
 
 returns-2 : tie.Need-returns-2
 unfolding fits
 returns-2 c =
     let k = c .before .before in
     rw (← k .before .inner .ensures, eq-eqb _ _ (k .if1 .left), ← c .before .count-of .ensures, ne-eqb _ _ (c .if2 .taken)) refl
-
-tells-all-requires : tie.Need-tells-all-requires
-tells-all-requires c κs = search needs
 
 returns-3 : tie.Need-returns-3
 unfolding fits
@@ -32,4 +23,4 @@ returns-3 c =
     rw (← k .before .inner .ensures, eq-eqb _ _ (k .if1 .left), ← c .before .before .count-of .ensures, eq-eqb _ _ (c .before .if2 .left)) (c .tells-all .ensures)
 
 pub fits-spec : {M : Type 1} → statement M
-fits-spec = tie.close (tie.spec inner-requires returns count-of-requires returns-2 tells-all-requires returns-3)
+fits-spec = tie.close (tie.spec (λ c κs. search needs) returns (λ c κs. search needs) returns-2 (λ c κs. search needs) returns-3)

@@ -21,15 +21,6 @@ returns-2 c =
     let n : length (a .told .there) ≡ 37 = search needs in
     rw (le-leb 201 (a .item) (omega arith), List·getD-eq-default (a .told .there) false {n = a .item - 201} (omega arith)) refl
 
-array-read-if3 : tie.Need-array-read-if3
-array-read-if3 c = search needs
-
-mul-t13 : tie.Need-mul-t13
-mul-t13 c = search needs
-
-array-read-t16 : tie.Need-array-read-t16
-array-read-t16 c = search needs
-
 returns-3 : tie.Need-returns-3
 unfolding foundIn
 returns-3 c =
@@ -45,4 +36,4 @@ returns-4 c =
 pub found-spec : {M : Type 1} → statement M
 found-spec =
     tie.close
-    (tie.spec returns returns-2 array-read-if3 mul-t13 array-read-t16 returns-3 returns-4)
+    (tie.spec returns returns-2 (λ c. search needs) (λ c. search needs) (λ c. search needs) returns-3 returns-4)

@@ -7,34 +7,13 @@ use Rattle.field_items.specs.Given.{given}
 use Rattle.field_items.proofs.given.record_of.Statement.{statement}
 use Rattle.field_items.proofs.given.record_of.Tie as tie
 
-unfit-requires : tie.Need-unfit-requires
-unfit-requires c κs = search needs
-
 returns : tie.Need-returns
 unfolding given
 returns c = rw (ne-eqb _ _ (c .before .if1 .taken)) (c .unfit .ensures)
 
-whole-requires : tie.Need-whole-requires
-whole-requires c κs = search needs
-
-unfit-requires-2 : tie.Need-unfit-requires-2
-unfit-requires-2 c κs = search needs
-
 returns-2 : tie.Need-returns-2
 unfolding given
 returns-2 c = let w = c .before .before in rw (eq-eqb _ _ (w .before .if1 .left), sym (w .whole .ensures) ∙ not-true _ (c .before .if2 .taken)) (c .unfit2 .ensures)
-
-find-requires : tie.Need-find-requires
-find-requires c κs = search needs
-
-enum-known-i : tie.Need-enum-known-i
-enum-known-i c = search needs
-
-enum-told : tie.Need-enum-told
-enum-told c = search needs
-
-unfit-requires-3 : tie.Need-unfit-requires-3
-unfit-requires-3 c κs = search needs
 
 returns-3 : tie.Need-returns-3
 unfolding given
@@ -54,4 +33,4 @@ returns-4 c =
     rw (eq-eqb _ _ (w .before .if1 .left), sym (w .whole .ensures) ∙ not-false _ (p .before .if2 .left), sym (p .find .ensures) ∙ c .before .before .i .given .1) (c .checked .ensures)
 
 pub record-of-spec : {M : Type 1} → statement M
-record-of-spec = tie.close (tie.spec unfit-requires returns whole-requires unfit-requires-2 returns-2 find-requires enum-known-i enum-told unfit-requires-3 returns-3 checked-requires returns-4)
+record-of-spec = tie.close (tie.spec (λ c κs. search needs) returns (λ c κs. search needs) (λ c κs. search needs) returns-2 (λ c κs. search needs) (λ c. search needs) (λ c. search needs) (λ c κs. search needs) returns-3 checked-requires returns-4)

@@ -39,17 +39,8 @@ minus m h = ap (λ (z : ℤ). negsuc 0 -ℤ z) (plus m h) ∙ less m
 minus-fits : (m : ℕ) → m < 2147483648 → SFits w32 (negsuc m)
 minus-fits m h = record { sfits = omega arith }
 
-cast-result : tie.Need-cast-result
-cast-result c = search needs
-
 returns : tie.Need-returns
 returns c = plus (c .before .args .x) (c .if1 .taken) ∙ sym (plain (c .before .args .x) (c .if1 .taken))
-
-sub-m : tie.Need-sub-m
-sub-m c = search needs
-
-cast-result-2 : tie.Need-cast-result-2
-cast-result-2 c = search needs
 
 sub-result : tie.Need-sub-result
 sub-result c = let h = c .if2 .taken in subst (λ (z : ℤ). SFits w32 z) (sym (minus _ h)) (minus-fits _ h)
@@ -63,4 +54,4 @@ returns-3 : tie.Need-returns-3
 returns-3 c = sym (beyond (c .before .before .args .x) (c .before .if1 .left) (c .if2 .left))
 
 pub signed-spec : {M : Type 1} → statement M
-signed-spec = tie.close (tie.spec cast-result returns sub-m cast-result-2 sub-result returns-2 returns-3)
+signed-spec = tie.close (tie.spec (λ c. search needs) returns (λ c. search needs) (λ c. search needs) sub-result returns-2 returns-3)

@@ -5,21 +5,6 @@ use Rattle.field_items.specs.Given.{covers}
 use Rattle.field_items.proofs.given.tells_all.Statement.{statement}
 use Rattle.field_items.proofs.given.tells_all.Tie as tie
 
-enum-known-r : tie.Need-enum-known-r
-enum-known-r c = search needs
-
-tells-field-requires : tie.Need-tells-field-requires
-tells-field-requires c κs = search needs
-
-enum-known-r-2 : tie.Need-enum-known-r-2
-enum-known-r-2 c = search needs
-
-tells-requires : tie.Need-tells-requires
-tells-requires c κs = search needs
-
-tells-field-requires-2 : tie.Need-tells-field-requires-2
-tells-field-requires-2 c κs = search needs
-
 returns : tie.Need-returns
 returns c = rw (c .before .before .r .given .1) (c .tells-field .ensures)
 
@@ -39,11 +24,11 @@ pub tells-all-spec : {M : Type 1} → statement M
 tells-all-spec =
     tie.close
     (tie.spec
-    enum-known-r
-    tells-field-requires
-    enum-known-r-2
-    tells-requires
-    tells-field-requires-2
+    (λ c. search needs)
+    (λ c κs. search needs)
+    (λ c. search needs)
+    (λ c κs. search needs)
+    (λ c κs. search needs)
     returns
     returns-2
     returns-3)

@@ -5,9 +5,6 @@ use mathlib.Core.Path.{refl}
 use Rattle.field_items.proofs.given.tells_part.Statement.{statement}
 use Rattle.field_items.proofs.given.tells_part.Tie as tie
 
-tells-requires : tie.Need-tells-requires
-tells-requires c κs = search needs
-
 returns : tie.Need-returns
 returns c = rw (c .if1 .taken) refl
 
@@ -15,4 +12,4 @@ returns-2 : tie.Need-returns-2
 returns-2 c = rw (ne-eqb _ 0 (c .before .if1 .left)) (c .tells .ensures)
 
 pub tells-part-spec : {M : Type 1} → statement M
-tells-part-spec = tie.close (tie.spec tells-requires returns returns-2)
+tells-part-spec = tie.close (tie.spec (λ c κs. search needs) returns returns-2)

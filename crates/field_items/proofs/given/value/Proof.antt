@@ -5,14 +5,8 @@ use borrow.Author.Needs.{needs}
 use Rattle.field_items.proofs.given.value.Statement.{statement}
 use Rattle.field_items.proofs.given.value.Tie as tie
 
-found-requires : tie.Need-found-requires
-found-requires c κs = search needs
-
-value-requires : tie.Need-value-requires
-value-requires c κs = search needs
-
 returns : tie.Need-returns
 returns c = c .value .ensures ∙ ap valueOf (c .before .found .ensures)
 
 pub value-spec : {M : Type 1} → statement M
-value-spec = tie.close (tie.spec found-requires value-requires returns)
+value-spec = tie.close (tie.spec (λ c κs. search needs) (λ c κs. search needs) returns)

@@ -8,18 +8,6 @@ use Rattle.field_items.specs.Items.{itemsOf}
 use Rattle.field_items.proofs.items.count_of.Statement.{statement}
 use Rattle.field_items.proofs.items.count_of.Tie as tie
 
-enum-known-given : tie.Need-enum-known-given
-enum-known-given c = search needs
-
-field-count-requires : tie.Need-field-count-requires
-field-count-requires c κs = search needs
-
-enum-known-given-2 : tie.Need-enum-known-given-2
-enum-known-given-2 c = search needs
-
-field-count-requires-2 : tie.Need-field-count-requires-2
-field-count-requires-2 c κs = search needs
-
 add-result : tie.Need-add-result
 add-result c = omega (arith, c .field-count2 .ensures .1)
 
@@ -30,4 +18,4 @@ returns-2 : tie.Need-returns-2
 returns-2 c = rw (c .before .before .given2 .given .1) (omega (arith, c .field-count2 .ensures .0))
 
 pub count-of-spec : {M : Type 1} → statement M
-count-of-spec = tie.close (tie.spec enum-known-given field-count-requires enum-known-given-2 field-count-requires-2 add-result returns returns-2)
+count-of-spec = tie.close (tie.spec (λ c. search needs) (λ c κs. search needs) (λ c. search needs) (λ c κs. search needs) add-result returns returns-2)

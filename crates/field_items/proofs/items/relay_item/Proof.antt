@@ -10,12 +10,9 @@ returns : tie.Need-returns
 unfolding findIn
 returns c = rw (c .if1 .taken) refl
 
-field-item-requires : tie.Need-field-item-requires
-field-item-requires c κs = search needs
-
 returns-2 : tie.Need-returns-2
 unfolding findIn
 returns-2 c = rw (ne-eqb 237 (c .before .before .args .item) (λ q. c .before .if1 .left (sym q))) (c .field-item .ensures)
 
 pub relay-item-spec : {M : Type 1} → statement M
-relay-item-spec = tie.close (tie.spec returns field-item-requires returns-2)
+relay-item-spec = tie.close (tie.spec returns (λ c κs. search needs) returns-2)

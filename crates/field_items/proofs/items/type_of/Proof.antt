@@ -9,12 +9,6 @@ use Rattle.field_items.proofs.Laws.{type-small}
 use Rattle.field_items.proofs.items.type_of.Statement.{statement}
 use Rattle.field_items.proofs.items.type_of.Tie as tie
 
-numbers-requires : tie.Need-numbers-requires
-numbers-requires c κs = search needs
-
-array-read-result : tie.Need-array-read-result
-array-read-result c = search needs
-
 cast-result : tie.Need-cast-result
 cast-result c =
     let h : getD (c .numbers .result) 0 0 < 256 = rw (c .numbers .ensures) (type-small (c .before .args .f)) in
@@ -24,4 +18,4 @@ returns : tie.Need-returns
 returns c = ap (λ (l : List ℕ). getD l 0 0) (c .numbers .ensures)
 
 pub type-of-spec : {M : Type 1} → statement M
-type-of-spec = tie.close (tie.spec numbers-requires array-read-result cast-result returns)
+type-of-spec = tie.close (tie.spec (λ c κs. search needs) (λ c. search needs) cast-result returns)

@@ -23,9 +23,6 @@ add-piece c =
     let a = c .before .before .args in
     omega (arith, product (a .step) (a .k) 24 30 (omega arith) (omega arith))
 
-piece-requires : tie.Need-piece-requires
-piece-requires c κs = search needs
-
 entry-of-requires : tie.Need-entry-of-requires
 entry-of-requires c κs =
     let a = c .before .before .before .args in
@@ -42,4 +39,4 @@ unfolding entryAt
 returns-2 c = simp (le-ltb _ _ (c .if1 .left))
 
 pub entry-at-spec : {M : Type 1} → statement M
-entry-at-spec = tie.close (tie.spec mul-piece add-piece piece-requires entry-of-requires returns returns-2)
+entry-at-spec = tie.close (tie.spec mul-piece add-piece (λ c κs. search needs) entry-of-requires returns returns-2)

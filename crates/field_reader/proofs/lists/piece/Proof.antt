@@ -9,9 +9,6 @@ use Rattle.bits.proofs.Laws.{byte-is, whole}
 use Rattle.field_reader.proofs.lists.piece.Statement.{statement}
 use Rattle.field_reader.proofs.lists.piece.Tie as tie
 
-shared-slice-read-result : tie.Need-shared-slice-read-result
-shared-slice-read-result c = search needs
-
 cast-result : tie.Need-cast-result
 cast-result c = omega (arith, c .shared-slice-known2 .given (c .before .before .before .before .before .args .at / 8))
 
@@ -25,12 +22,9 @@ returns c =
     let m : 8 ≡ a .n = omega arith in
     byte-is s (a .at / 8) x refl h ∙ ap (λ (f : ℕ). bitsOf s f 8) e ∙ ap (bitsOf s (a .at)) m
 
-read-requires : tie.Need-read-requires
-read-requires c κs = search needs
-
 returns-2 : tie.Need-returns-2
 returns-2 c = c .read .ensures ∙ whole _ _ _ (omega arith)
 
 pub piece-spec : {M : Type 1} → statement M
 piece-spec =
-    tie.close (tie.spec shared-slice-read-result cast-result returns read-requires returns-2)
+    tie.close (tie.spec (λ c. search needs) cast-result returns (λ c κs. search needs) returns-2)

@@ -21,9 +21,6 @@ minus-fits : (n : ℕ) → n < 2 ^ 24 → SFits w32 (negℤ (pos n))
 minus-fits zero h = record { sfits = lit< tt }
 minus-fits (suc n) h = record { sfits = omega arith }
 
-cast-z : tie.Need-cast-z
-cast-z c = search needs
-
 sub-result : tie.Need-sub-result
 sub-result c =
     let n = c .before .args .n in
@@ -39,4 +36,4 @@ returns-2 : tie.Need-returns-2
 returns-2 c = simp (c .if1 .left) (plus (c .before .args .n) (c .before .pre))
 
 pub signed-of-spec : {M : Type 1} → statement M
-signed-of-spec = tie.close (tie.spec cast-z sub-result returns returns-2)
+signed-of-spec = tie.close (tie.spec (λ c. search needs) sub-result returns returns-2)

@@ -7,9 +7,6 @@ use Rattle.fields.proofs.Rows.{count-whole}
 use Rattle.field_reader.proofs.reading.block_count.Statement.{statement}
 use Rattle.field_reader.proofs.reading.block_count.Tie as tie
 
-count-in-requires : tie.Need-count-in-requires
-count-in-requires c κs = search needs
-
 returns : tie.Need-returns
 unfolding blockCount
 returns c = rw (eq-eqb _ _ (c .before .if1 .taken)) ((c .count-in .ensures ∙ count-whole _ _ (c .before .before .before .pre)))
@@ -21,4 +18,4 @@ returns-2 c = rw (ne-eqb _ _ (c .if1 .left))
 pub block-count-spec : {M : Type 1} → statement M
 block-count-spec =
     tie.close
-    (tie.spec count-in-requires returns returns-2)
+    (tie.spec (λ c κs. search needs) returns returns-2)

@@ -15,9 +15,6 @@ returns : tie.Need-returns
 unfolding sizedBy
 returns c = rw (eq-eqb _ _ (c .if1 .taken))
 
-count-in-requires : tie.Need-count-in-requires
-count-in-requires c κs = search needs
-
 -- the product is small
 most : (c : tie.After-count-in) → c .before .before .before .args .row .step * c .count-in .result ≤ 80 * 46
 most c =
@@ -41,4 +38,4 @@ returns-2 c = rw (ne-eqb _ _ (c .before .before .before .if1 .left), (c .before 
 pub is-sized-spec : {M : Type 1} → statement M
 is-sized-spec =
     tie.close
-    (tie.spec returns count-in-requires mul-result add-result add-result-2 returns-2)
+    (tie.spec returns (λ c κs. search needs) mul-result add-result add-result-2 returns-2)

@@ -5,18 +5,6 @@ use Rattle.field_reader.proofs.Order.{sound-opened, outer-refused}
 use Rattle.field_reader.proofs.reading.judge.Statement.{statement}
 use Rattle.field_reader.proofs.reading.judge.Tie as tie
 
-outer-requires : tie.Need-outer-requires
-outer-requires c κs = search needs
-
-enum-told : tie.Need-enum-told
-enum-told c = search needs
-
-opened-requires : tie.Need-opened-requires
-opened-requires c κs = search needs
-
-enum-known-o : tie.Need-enum-known-o
-enum-known-o c = search needs
-
 returns : tie.Need-returns
 returns c = c .opened .ensures ∙ sym (sound-opened _ _ _ (sym (c .before .before .before .outer .ensures) ∙ c .before .enum-told .given .1))
 
@@ -26,4 +14,4 @@ returns-2 c = sym (outer-refused _ _ _ _ (sym (c .before .before .before .outer 
 pub judge-spec : {M : Type 1} → statement M
 judge-spec =
     tie.close
-    (tie.spec outer-requires enum-told opened-requires enum-known-o returns returns-2)
+    (tie.spec (λ c κs. search needs) (λ c. search needs) (λ c κs. search needs) (λ c. search needs) returns returns-2)

@@ -17,12 +17,6 @@ use Rattle.fields.proofs.Values.{within-quiet}
 use Rattle.field_reader.proofs.reading.judged.Statement.{statement}
 use Rattle.field_reader.proofs.reading.judged.Tie as tie
 
-rules-at-requires : tie.Need-rules-at-requires
-rules-at-requires c κs = search needs
-
-faults-requires : tie.Need-faults-requires
-faults-requires c κs = search needs
-
 -- the faults are those of the table's rules
 found : (c : tie.After-faults) →
     let a = c .before .before .before .before .before .args in
@@ -52,12 +46,6 @@ returns-2 : tie.Need-returns-2
 unfolding judgedBy
 returns-2 c = let f = c .before .before in rw (spare f ∙ c .before .if1 .left, unused f ∙ c .if2 .taken)
 
-add-any-unused : tie.Need-add-any-unused
-add-any-unused c = search needs
-
-block-count-requires : tie.Need-block-count-requires
-block-count-requires c κs = search needs
-
 any-unused-requires : tie.Need-any-unused-requires
 any-unused-requires c κs =
     let s = c .before .before .before .before .before .before .before .before .before in
@@ -77,39 +65,6 @@ returns-3 c =
     let f = e .before .before in
     rw (spare f ∙ e .before .if1 .left, unused f ∙ e .if2 .left, block (c .before) ∙ c .if3 .taken)
 
-array-read-field-at : tie.Need-array-read-field-at
-array-read-field-at c = search needs
-
-array-read-field-at-2 : tie.Need-array-read-field-at-2
-array-read-field-at-2 c = search needs
-
-array-read-field-at-3 : tie.Need-array-read-field-at-3
-array-read-field-at-3 c = search needs
-
-array-read-field-at-4 : tie.Need-array-read-field-at-4
-array-read-field-at-4 c = search needs
-
-array-read-field-at-5 : tie.Need-array-read-field-at-5
-array-read-field-at-5 c = search needs
-
-array-read-field-at-6 : tie.Need-array-read-field-at-6
-array-read-field-at-6 c = search needs
-
-array-read-field-at-7 : tie.Need-array-read-field-at-7
-array-read-field-at-7 c = search needs
-
-array-read-field-at-8 : tie.Need-array-read-field-at-8
-array-read-field-at-8 c = search needs
-
-array-read-field-at-9 : tie.Need-array-read-field-at-9
-array-read-field-at-9 c = search needs
-
-array-read-field-at-10 : tie.Need-array-read-field-at-10
-array-read-field-at-10 c = search needs
-
-field-at-requires : tie.Need-field-at-requires
-field-at-requires c κs = search needs
-
 returns-4 : tie.Need-returns-4
 unfolding judgedBy
 returns-4 c =
@@ -121,4 +76,4 @@ returns-4 c =
 pub judged-spec : {M : Type 1} → statement M
 judged-spec =
     tie.close
-    (tie.spec rules-at-requires faults-requires returns returns-2 add-any-unused block-count-requires any-unused-requires returns-3 array-read-field-at array-read-field-at-2 array-read-field-at-3 array-read-field-at-4 array-read-field-at-5 array-read-field-at-6 array-read-field-at-7 array-read-field-at-8 array-read-field-at-9 array-read-field-at-10 field-at-requires returns-4)
+    (tie.spec (λ c κs. search needs) (λ c κs. search needs) returns returns-2 (λ c. search needs) (λ c κs. search needs) any-unused-requires returns-3 (λ c. search needs) (λ c. search needs) (λ c. search needs) (λ c. search needs) (λ c. search needs) (λ c. search needs) (λ c. search needs) (λ c. search needs) (λ c. search needs) (λ c. search needs) (λ c κs. search needs) returns-4)

@@ -12,24 +12,9 @@ use Rattle.fields.proofs.Rows.{found-within, first-width, row-base, row-step, r
 use Rattle.field_reader.proofs.reading.list_in.Statement.{statement}
 use Rattle.field_reader.proofs.reading.list_in.Tie as tie
 
-type-at-requires : tie.Need-type-at-requires
-type-at-requires c κs = search needs
-
-find-requires : tie.Need-find-requires
-find-requires c κs = search needs
-
 -- the place that is found is that of the field's type
 place-is : (c : tie.After-find) → placeOf (typeOf (c .before .before .before .args .b .now) 0) ≡ c .find .result
 place-is c = rw (← c .before .type-at .ensures) (sym (c .find .ensures))
-
-enum-known-i : tie.Need-enum-known-i
-enum-known-i c = search needs
-
-enum-told : tie.Need-enum-told
-enum-told c = search needs
-
-entries-requires : tie.Need-entries-requires
-entries-requires c κs = search needs
 
 returns : tie.Need-returns
 unfolding listIn valuesOf
@@ -37,9 +22,6 @@ returns c = rw (place-is (c .before .before .before), c .before .enum-told .give
 
 within : (c : tie.After-known-told) → c .before .i .given .0 .0 < 22
 within c = found-within _ _ (place-is (c .before .before .before) ∙ c .before .i .given .1)
-
-row-at-requires : tie.Need-row-at-requires
-row-at-requires c κs = search needs
 
 base : (c : tie.After-row-at) → c .row-at .result .base ≤ 96
 base c = rw (c .row-at .ensures) (row-base _ (within (c .before)))
@@ -53,9 +35,6 @@ returns-2 c =
     let r = c .before .before in
     let k = r .before in
     rw (place-is (k .before .before .before), k .before .i .given .1, ← r .row-at .ensures, eq-eqb _ _ (c .before .if1 .taken), c .entries2 .ensures)
-
-widths-at-requires : tie.Need-widths-at-requires
-widths-at-requires c κs = search needs
 
 values-requires : tie.Need-values-requires
 values-requires c κs =
@@ -77,9 +56,6 @@ small c =
     let s = k .before .before .before .before .before .before .args .b .now in
     rw (values-are c, r .row-at .ensures) (row-small i (valuesOf s 0 (widthsAt i)) (within k) (values-fit s 0 (widthsAt i)))
 
-count-in-requires : tie.Need-count-in-requires
-count-in-requires c κs = search needs
-
 entries-requires-3 : tie.Need-entries-requires-3
 entries-requires-3 c κs =
     let e = c .before .before .before in
@@ -97,4 +73,4 @@ returns-3 c =
 pub list-in-spec : {M : Type 1} → statement M
 list-in-spec =
     tie.close
-    (tie.spec type-at-requires find-requires enum-known-i enum-told entries-requires returns row-at-requires entries-requires-2 returns-2 widths-at-requires values-requires count-in-requires entries-requires-3 returns-3)
+    (tie.spec (λ c κs. search needs) (λ c κs. search needs) (λ c. search needs) (λ c. search needs) (λ c κs. search needs) returns (λ c κs. search needs) entries-requires-2 returns-2 (λ c κs. search needs) values-requires (λ c κs. search needs) entries-requires-3 returns-3)

@@ -7,27 +7,6 @@ use Rattle.fields.specs.Reading.{listOf}
 use Rattle.field_reader.proofs.reading.list_of.Statement.{statement}
 use Rattle.field_reader.proofs.reading.list_of.Tie as tie
 
-enum-known-a : tie.Need-enum-known-a
-enum-known-a c = search needs
-
-enum-told : tie.Need-enum-told
-enum-told c = search needs
-
-list-in-requires : tie.Need-list-in-requires
-list-in-requires c κs = search needs
-
-enum-told-2 : tie.Need-enum-told-2
-enum-told-2 c = search needs
-
-entries-requires : tie.Need-entries-requires
-entries-requires c κs = search needs
-
-enum-told-3 : tie.Need-enum-told-3
-enum-told-3 c = search needs
-
-entries-requires-2 : tie.Need-entries-requires-2
-entries-requires-2 c κs = search needs
-
 returns : tie.Need-returns
 returns c =
     let k = c .before .before .before .before in
@@ -46,4 +25,4 @@ returns-3 c = c .entries2 .ensures ∙ sym (ap (listOf _) (c .before .enum-told3
 pub list-of-spec : {M : Type 1} → statement M
 list-of-spec =
     tie.close
-    (tie.spec enum-known-a enum-told list-in-requires enum-told-2 entries-requires enum-told-3 entries-requires-2 returns returns-2 returns-3)
+    (tie.spec (λ c. search needs) (λ c. search needs) (λ c κs. search needs) (λ c. search needs) (λ c κs. search needs) (λ c. search needs) (λ c κs. search needs) returns returns-2 returns-3)

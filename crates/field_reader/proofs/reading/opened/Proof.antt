@@ -7,21 +7,12 @@ use Rattle.field_reader.specs.Steps.{openedOf}
 use Rattle.field_reader.proofs.reading.opened.Statement.{statement}
 use Rattle.field_reader.proofs.reading.opened.Tie as tie
 
-type-at-requires : tie.Need-type-at-requires
-type-at-requires c κs = search needs
-
-opens-requires : tie.Need-opens-requires
-opens-requires c κs = search needs
-
 -- what is asked of the type is asked of the bytes
 opens-is : (c : tie.After-opens) →
     let a = c .before .before .before .args in
     opens (a .b .now) (a .count) (a .way) ≡ c .opens .result
 unfolding opens
 opens-is c = rw (← c .before .type-at .ensures) (sym (c .opens .ensures))
-
-relay-requires : tie.Need-relay-requires
-relay-requires c κs = search needs
 
 returns : tie.Need-returns
 unfolding openedOf
@@ -30,9 +21,6 @@ returns c = rw (opens-is (c .before .before) ∙ c .before .if1 .taken) (c .rela
 plain-requires : tie.Need-plain-requires
 plain-requires c κs = (omega arith, c .before .before .type-at .ensures)
 
-answer-requires : tie.Need-answer-requires
-answer-requires c κs = search needs
-
 returns-2 : tie.Need-returns-2
 unfolding openedOf
 returns-2 c =
@@ -40,4 +28,4 @@ returns-2 c =
     rw (opens-is (e .before) ∙ e .if1 .left, c .answer .ensures, c .before .plain .ensures)
 
 pub opened-spec : {M : Type 1} → statement M
-opened-spec = tie.close (tie.spec type-at-requires opens-requires relay-requires returns plain-requires answer-requires returns-2)
+opened-spec = tie.close (tie.spec (λ c κs. search needs) (λ c κs. search needs) (λ c κs. search needs) returns plain-requires (λ c κs. search needs) returns-2)

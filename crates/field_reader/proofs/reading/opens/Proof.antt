@@ -7,9 +7,6 @@ use Rattle.field_reader.proofs.reading.opens.Tie as tie
 returns : tie.Need-returns
 returns c = rw (ne-eqb _ _ (c .if1 .taken))
 
-from-sensor-requires : tie.Need-from-sensor-requires
-from-sensor-requires c κs = search needs
-
 returns-2 : tie.Need-returns-2
 returns-2 c = rw (eq-eqb _ _ (c .before .before .if1 .left), ← c .before .from-sensor .ensures, c .if2 .taken)
 
@@ -17,4 +14,4 @@ returns-3 : tie.Need-returns-3
 returns-3 c = rw (eq-eqb _ _ (c .before .before .if1 .left), ← c .before .from-sensor .ensures, c .if2 .left)
 
 pub opens-spec : {M : Type 1} → statement M
-opens-spec = tie.close (tie.spec returns from-sensor-requires returns-2 returns-3)
+opens-spec = tie.close (tie.spec returns (λ c κs. search needs) returns-2 returns-3)

@@ -17,18 +17,9 @@ returns-2 : tie.Need-returns-2
 unfolding outerOf countOutOfRange
 returns-2 c = rw (le-ltb _ _ (c .before .if1 .left), lt-ltb _ _ (c .if2 .taken))
 
-add-if3 : tie.Need-add-if3
-add-if3 c = search needs
-
 returns-3 : tie.Need-returns-3
 unfolding outerOf countOutOfRange wrongByteCount
 returns-3 c = rw (le-ltb _ _ (c .before .before .if1 .left), le-ltb _ _ (c .before .if2 .left), ne-eqb _ _ (c .if3 .taken))
-
-sub-read : tie.Need-sub-read
-sub-read c = search needs
-
-read-requires : tie.Need-read-requires
-read-requires c κs = search needs
 
 returns-4 : tie.Need-returns-4
 unfolding outerOf countOutOfRange wrongByteCount bitAfterCount
@@ -45,4 +36,4 @@ returns-5 c =
 pub outer-spec : {M : Type 1} → statement M
 outer-spec =
     tie.close
-    (tie.spec returns returns-2 add-if3 returns-3 sub-read read-requires returns-4 returns-5)
+    (tie.spec returns returns-2 (λ c. search needs) returns-3 (λ c. search needs) (λ c κs. search needs) returns-4 returns-5)

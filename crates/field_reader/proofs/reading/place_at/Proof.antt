@@ -5,14 +5,8 @@ use Rattle.fields.specs.Table.{placeOf}
 use Rattle.field_reader.proofs.reading.place_at.Statement.{statement}
 use Rattle.field_reader.proofs.reading.place_at.Tie as tie
 
-type-at-requires : tie.Need-type-at-requires
-type-at-requires c κs = search needs
-
-find-requires : tie.Need-find-requires
-find-requires c κs = search needs
-
 returns : tie.Need-returns
 returns c = c .find .ensures ∙ ap placeOf (c .before .type-at .ensures)
 
 pub place-at-spec : {M : Type 1} → statement M
-place-at-spec = tie.close (tie.spec type-at-requires find-requires returns)
+place-at-spec = tie.close (tie.spec (λ c κs. search needs) (λ c κs. search needs) returns)

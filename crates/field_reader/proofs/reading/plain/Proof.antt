@@ -9,21 +9,9 @@ use Rattle.fields.proofs.Rows.{found-within}
 use Rattle.field_reader.proofs.reading.plain.Statement.{statement}
 use Rattle.field_reader.proofs.reading.plain.Tie as tie
 
-find-requires : tie.Need-find-requires
-find-requires c κs = search needs
-
 -- the place of the code is that of the field's type
 place-is : (c : tie.After-find) → let a = c .before .before .args in placeOf (typeOf (a .b .now) (a .before)) ≡ c .find .result
 place-is c = rw (← c .before .before .pre .1) (sym (c .find .ensures))
-
-enum-known-i : tie.Need-enum-known-i
-enum-known-i c = search needs
-
-enum-told : tie.Need-enum-told
-enum-told c = search needs
-
-unknown-requires : tie.Need-unknown-requires
-unknown-requires c κs = search needs
 
 returns : tie.Need-returns
 unfolding plainOf
@@ -44,4 +32,4 @@ returns-2 c =
     rw (c .row-read .ensures, place-is (k .before .before .before) ∙ k .before .i .given .1)
 
 pub plain-spec : {M : Type 1} → statement M
-plain-spec = tie.close (tie.spec find-requires enum-known-i enum-told unknown-requires returns row-read-requires returns-2)
+plain-spec = tie.close (tie.spec (λ c κs. search needs) (λ c. search needs) (λ c. search needs) (λ c κs. search needs) returns row-read-requires returns-2)

@@ -7,29 +7,14 @@ use Rattle.bits.proofs.Laws.{whole}
 use Rattle.field_reader.proofs.reading.relay.Statement.{statement}
 use Rattle.field_reader.proofs.reading.relay.Tie as tie
 
-type-at-requires : tie.Need-type-at-requires
-type-at-requires c κs = search needs
-
 plain-requires : tie.Need-plain-requires
 plain-requires c κs = (omega arith, c .type-at .ensures)
-
-enum-known-inner : tie.Need-enum-known-inner
-enum-known-inner c = search needs
-
-enum-told : tie.Need-enum-told
-enum-told c = search needs
-
-answer-requires : tie.Need-answer-requires
-answer-requires c κs = search needs
 
 returns : tie.Need-returns
 returns c =
     let e = c .before in
     let p = e .before .before in
     rw (c .answer .ensures, ← p .plain .ensures, e .enum-told .given .1)
-
-read-requires : tie.Need-read-requires
-read-requires c κs = search needs
 
 returns-2 : tie.Need-returns-2
 returns-2 c =
@@ -40,4 +25,4 @@ returns-2 c =
 pub relay-spec : {M : Type 1} → statement M
 relay-spec =
     tie.close
-    (tie.spec type-at-requires plain-requires enum-known-inner enum-told answer-requires returns read-requires returns-2)
+    (tie.spec (λ c κs. search needs) plain-requires (λ c. search needs) (λ c. search needs) (λ c κs. search needs) returns (λ c κs. search needs) returns-2)

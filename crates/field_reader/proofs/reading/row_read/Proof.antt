@@ -14,12 +14,6 @@ use Rattle.fields.proofs.Rows.{first-width, widths-narrow, widths-taper, row-sm
 use Rattle.field_reader.proofs.reading.row_read.Statement.{statement}
 use Rattle.field_reader.proofs.reading.row_read.Tie as tie
 
-row-at-requires : tie.Need-row-at-requires
-row-at-requires c κs = search needs
-
-same-way-requires : tie.Need-same-way-requires
-same-way-requires c κs = search needs
-
 way-is : (c : tie.After-same-way) →
     let a = c .before .before .before .args in
     sameWay (rowAt (a .i) .way) (a .way) ≡ c .same-way .result
@@ -28,9 +22,6 @@ way-is c = rw (← c .before .row-at .ensures) (sym (c .same-way .ensures))
 returns : tie.Need-returns
 unfolding rowRead
 returns c = rw (way-is (c .before) ∙ not-true _ (c .if1 .taken))
-
-widths-at-requires : tie.Need-widths-at-requires
-widths-at-requires c κs = search needs
 
 values-requires : tie.Need-values-requires
 values-requires c κs =
@@ -51,9 +42,6 @@ small c =
     let a = s .args in
     let vs = valuesOf (a .b .now) (a .before) (widthsAt (a .i)) in
     rw (values-are c, q .row-at .ensures) (row-small (a .i) vs (s .pre .1) (values-fit (a .b .now) (a .before) (widthsAt (a .i))))
-
-not-relayed-requires : tie.Need-not-relayed-requires
-not-relayed-requires c κs = search needs
 
 relayed-is : (c : tie.After-not-relayed) →
     let a = c .before .before .before .before .before .before .before .args in
@@ -104,4 +92,4 @@ returns-4 c =
 pub row-read-spec : {M : Type 1} → statement M
 row-read-spec =
     tie.close
-    (tie.spec row-at-requires same-way-requires returns widths-at-requires values-requires not-relayed-requires is-sized-requires returns-2 returns-3 judged-requires returns-4)
+    (tie.spec (λ c κs. search needs) (λ c κs. search needs) returns (λ c κs. search needs) values-requires (λ c κs. search needs) is-sized-requires returns-2 returns-3 judged-requires returns-4)

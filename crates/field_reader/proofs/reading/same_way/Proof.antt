@@ -5,15 +5,6 @@ use Rattle.fields.specs.Reading.{sameWay}
 use Rattle.field_reader.proofs.reading.same_way.Statement.{statement}
 use Rattle.field_reader.proofs.reading.same_way.Tie as tie
 
-from-sensor-requires : tie.Need-from-sensor-requires
-from-sensor-requires c κs = search needs
-
-enum-told : tie.Need-enum-told
-enum-told c = search needs
-
-enum-told-2 : tie.Need-enum-told-2
-enum-told-2 c = search needs
-
 returns : tie.Need-returns
 unfolding sameWay
 returns c = rw (c .before .before .from-sensor .ensures, c .enum-told .given .1)
@@ -25,4 +16,4 @@ returns-2 c = rw (c .before .before .from-sensor .ensures, c .enum-told2 .given 
 pub same-way-spec : {M : Type 1} → statement M
 same-way-spec =
     tie.close
-    (tie.spec from-sensor-requires enum-told enum-told-2 returns returns-2)
+    (tie.spec (λ c κs. search needs) (λ c. search needs) (λ c. search needs) returns returns-2)

@@ -11,30 +11,6 @@ use Rattle.field_reader.proofs.Values.{rest-whole}
 use Rattle.field_reader.proofs.reading.text.Statement.{statement}
 use Rattle.field_reader.proofs.reading.text.Tie as tie
 
-judge-requires : tie.Need-judge-requires
-judge-requires c κs = search needs
-
-text-place-requires : tie.Need-text-place-requires
-text-place-requires c κs = search needs
-
-sub-result : tie.Need-sub-result
-sub-result c = search needs
-
-part-result-start : tie.Need-part-result-start
-part-result-start c = search needs
-
-part-result-end : tie.Need-part-result-end
-part-result-end c = search needs
-
-sub-result-2 : tie.Need-sub-result-2
-sub-result-2 c = search needs
-
-part-result-start-2 : tie.Need-part-result-start-2
-part-result-start-2 c = search needs
-
-part-result-end-2 : tie.Need-part-result-end-2
-part-result-end-2 c = search needs
-
 -- the place is the definition's
 place : (c : tie.After-text-place) →
     let a = c .before .before .before .args in
@@ -56,4 +32,4 @@ returns-2 c =
 pub text-spec : {M : Type 1} → statement M
 text-spec =
     tie.close
-    (tie.spec judge-requires text-place-requires sub-result part-result-start part-result-end sub-result-2 part-result-start-2 part-result-end-2 returns returns-2)
+    (tie.spec (λ c κs. search needs) (λ c κs. search needs) (λ c. search needs) (λ c. search needs) (λ c. search needs) (λ c. search needs) (λ c. search needs) (λ c. search needs) returns returns-2)

@@ -10,21 +10,9 @@ use Rattle.fields.proofs.Rows.{found-within, row-base}
 use Rattle.field_reader.proofs.reading.text_in.Statement.{statement}
 use Rattle.field_reader.proofs.reading.text_in.Tie as tie
 
-place-at-requires : tie.Need-place-at-requires
-place-at-requires c κs = search needs
-
-enum-known-i : tie.Need-enum-known-i
-enum-known-i c = search needs
-
-enum-told : tie.Need-enum-told
-enum-told c = search needs
-
 returns : tie.Need-returns
 unfolding textIn
 returns c = rw (← c .before .before .place-at .ensures, c .enum-told .given .1)
-
-row-at-requires : tie.Need-row-at-requires
-row-at-requires c κs = search needs
 
 add-result : tie.Need-add-result
 add-result c =
@@ -50,4 +38,4 @@ returns-3 c =
 pub text-in-spec : {M : Type 1} → statement M
 text-in-spec =
     tie.close
-    (tie.spec place-at-requires enum-known-i enum-told returns row-at-requires add-result returns-2 returns-3)
+    (tie.spec (λ c κs. search needs) (λ c. search needs) (λ c. search needs) returns (λ c κs. search needs) add-result returns-2 returns-3)

@@ -6,24 +6,6 @@ use Rattle.fields.specs.Reading.{textPlace}
 use Rattle.field_reader.proofs.reading.text_place.Statement.{statement}
 use Rattle.field_reader.proofs.reading.text_place.Tie as tie
 
-enum-known-a : tie.Need-enum-known-a
-enum-known-a c = search needs
-
-enum-told : tie.Need-enum-told
-enum-told c = search needs
-
-text-in-requires : tie.Need-text-in-requires
-text-in-requires c κs = search needs
-
-enum-told-2 : tie.Need-enum-told-2
-enum-told-2 c = search needs
-
-text-in-requires-2 : tie.Need-text-in-requires-2
-text-in-requires-2 c κs = search needs
-
-enum-told-3 : tie.Need-enum-told-3
-enum-told-3 c = search needs
-
 returns : tie.Need-returns
 returns c =
     let k = c .before .before .before .before in
@@ -40,4 +22,4 @@ returns-3 c = sym (ap (textPlace _) (c .enum-told3 .given .1))
 pub text-place-spec : {M : Type 1} → statement M
 text-place-spec =
     tie.close
-    (tie.spec enum-known-a enum-told text-in-requires enum-told-2 text-in-requires-2 enum-told-3 returns returns-2 returns-3)
+    (tie.spec (λ c. search needs) (λ c. search needs) (λ c κs. search needs) (λ c. search needs) (λ c κs. search needs) (λ c. search needs) returns returns-2 returns-3)

@@ -6,11 +6,8 @@ use Rattle.bits.proofs.Laws.{whole}
 use Rattle.field_reader.proofs.reading.type_at.Statement.{statement}
 use Rattle.field_reader.proofs.reading.type_at.Tie as tie
 
-read-requires : tie.Need-read-requires
-read-requires c κs = search needs
-
 returns : tie.Need-returns
 returns c = c .read .ensures ∙ whole _ _ 8 (omega arith)
 
 pub type-at-spec : {M : Type 1} → statement M
-type-at-spec = tie.close (tie.spec read-requires returns)
+type-at-spec = tie.close (tie.spec (λ c κs. search needs) returns)

@@ -4,9 +4,6 @@ use mathlib.Core.Path.{sym, _∙_}
 use Rattle.field_reader.proofs.reading.unknown.Statement.{statement}
 use Rattle.field_reader.proofs.reading.unknown.Tie as tie
 
-type-not-carried-requires : tie.Need-type-not-carried-requires
-type-not-carried-requires c κs = search needs
-
 returns : tie.Need-returns
 returns c = rw (sym (c .before .type-not-carried .ensures) ∙ c .if1 .taken)
 
@@ -16,4 +13,4 @@ returns-2 c = rw (sym (c .before .type-not-carried .ensures) ∙ c .if1 .left)
 pub unknown-spec : {M : Type 1} → statement M
 unknown-spec =
     tie.close
-    (tie.spec type-not-carried-requires returns returns-2)
+    (tie.spec (λ c κs. search needs) returns returns-2)

@@ -9,23 +9,8 @@ use Rattle.fields.specs.Lists.{entryBits, negative}
 use Rattle.field_writer.proofs.lists.entry_bits.Statement.{statement}
 use Rattle.field_writer.proofs.lists.entry_bits.Tie as tie
 
-magnitude-requires : tie.Need-magnitude-requires
-magnitude-requires c κs = search needs
-
 abs : (c : tie.After-magnitude) → c .magnitude .result ≡ natAbs (c .before .args .z)
 abs c = c .magnitude .ensures .0 ∙ ap natAbs (toZ-ofZ (c .before .fits .z))
-
-is-negative-requires : tie.Need-is-negative-requires
-is-negative-requires c κs = search needs
-
-mul-result : tie.Need-mul-result
-mul-result c = search needs
-
-add-result : tie.Need-add-result
-add-result c = search needs
-
-add-result-2 : tie.Need-add-result-2
-add-result-2 c = search needs
 
 sign : (c : tie.After-is-negative) → negative (c .before .before .before .args .z) ≡ c .is-negative .result
 sign c = ap negative (sym (toZ-ofZ (c .before .before .before .fits .z))) ∙ sym (c .is-negative .ensures)
@@ -33,12 +18,6 @@ sign c = ap negative (sym (toZ-ofZ (c .before .before .before .fits .z))) ∙ sy
 returns : tie.Need-returns
 unfolding entryBits
 returns c = rw (eq-eqb _ _ (c .before .before .if1 .taken), sign (c .before) ∙ c .if2 .taken, abs (c .before .before .before))
-
-mul-result-2 : tie.Need-mul-result-2
-mul-result-2 c = search needs
-
-add-result-3 : tie.Need-add-result-3
-add-result-3 c = search needs
 
 returns-2 : tie.Need-returns-2
 unfolding entryBits
@@ -51,4 +30,4 @@ returns-3 c = rw (ne-eqb _ _ (c .if1 .left)) (abs (c .before))
 pub entry-bits-spec : {M : Type 1} → statement M
 entry-bits-spec =
     tie.close
-    (tie.spec magnitude-requires is-negative-requires mul-result add-result add-result-2 returns mul-result-2 add-result-3 returns-2 returns-3)
+    (tie.spec (λ c κs. search needs) (λ c κs. search needs) (λ c. search needs) (λ c. search needs) (λ c. search needs) returns (λ c. search needs) (λ c. search needs) returns-2 returns-3)

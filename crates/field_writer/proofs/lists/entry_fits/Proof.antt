@@ -8,18 +8,12 @@ use Rattle.fields.specs.Lists.{entryFits, negative}
 use Rattle.field_writer.proofs.lists.entry_fits.Statement.{statement}
 use Rattle.field_writer.proofs.lists.entry_fits.Tie as tie
 
-magnitude-requires : tie.Need-magnitude-requires
-magnitude-requires c κs = search needs
-
 abs : (c : tie.After-magnitude) → c .magnitude .result ≡ natAbs (c .before .args .z)
 abs c = c .magnitude .ensures .0 ∙ ap natAbs (toZ-ofZ (c .before .fits .z))
 
 returns : tie.Need-returns
 unfolding entryFits
 returns c = rw (eq-eqb _ _ (c .if1 .taken), abs (c .before))
-
-is-negative-requires : tie.Need-is-negative-requires
-is-negative-requires c κs = search needs
 
 sign : (c : tie.After-is-negative) → negative (c .before .before .before .args .z) ≡ c .is-negative .result
 sign c = ap negative (sym (toZ-ofZ (c .before .before .before .fits .z))) ∙ sym (c .is-negative .ensures)
@@ -35,4 +29,4 @@ returns-3 c = rw (ne-eqb _ _ (c .before .before .if1 .left), sign (c .before) �
 pub entry-fits-spec : {M : Type 1} → statement M
 entry-fits-spec =
     tie.close
-    (tie.spec magnitude-requires returns is-negative-requires returns-2 returns-3)
+    (tie.spec (λ c κs. search needs) returns (λ c κs. search needs) returns-2 returns-3)

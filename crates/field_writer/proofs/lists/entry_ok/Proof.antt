@@ -9,15 +9,9 @@ use Rattle.field_writer.specs.Lists.{entryOk}
 use Rattle.field_writer.proofs.lists.entry_ok.Statement.{statement}
 use Rattle.field_writer.proofs.lists.entry_ok.Tie as tie
 
-entry-fits-requires : tie.Need-entry-fits-requires
-entry-fits-requires c κs = search needs
-
 returns : tie.Need-returns
 unfolding entryOk
 returns c = rw (lt-ltb _ _ (c .before .if1 .taken)) (c .entry-fits .ensures ∙ ap (entryFits _) (toZ-ofZ (c .before .before .fits .z)))
-
-magnitude-requires : tie.Need-magnitude-requires
-magnitude-requires c κs = search needs
 
 returns-2 : tie.Need-returns-2
 unfolding entryOk
@@ -26,4 +20,4 @@ returns-2 c = rw (le-ltb _ _ (c .before .if1 .left), c .magnitude .ensures .0 �
 pub entry-ok-spec : {M : Type 1} → statement M
 entry-ok-spec =
     tie.close
-    (tie.spec entry-fits-requires returns magnitude-requires returns-2)
+    (tie.spec (λ c κs. search needs) returns (λ c κs. search needs) returns-2)

@@ -6,15 +6,6 @@ use Rattle.fields.proofs.Rows.{found-within}
 use Rattle.field_writer.proofs.writing.answer.Statement.{statement}
 use Rattle.field_writer.proofs.writing.answer.Tie as tie
 
-place-in-requires : tie.Need-place-in-requires
-place-in-requires c κs = search needs
-
-enum-known-i : tie.Need-enum-known-i
-enum-known-i c = search needs
-
-enum-told : tie.Need-enum-told
-enum-told c = search needs
-
 returns : tie.Need-returns
 unfolding writtenOf
 returns c = rw (sym (c .before .before .place-in .ensures) ∙ c .enum-told .given .1) refl
@@ -31,4 +22,4 @@ returns-2 c =
     rw (sym (k .before .before .place-in .ensures) ∙ k .i .given .1) (c .answer-at .ensures)
 
 pub answer-spec : {M : Type 1} → statement M
-answer-spec = tie.close (tie.spec place-in-requires enum-known-i enum-told returns answer-at-requires returns-2)
+answer-spec = tie.close (tie.spec (λ c κs. search needs) (λ c. search needs) (λ c. search needs) returns answer-at-requires returns-2)

@@ -8,9 +8,6 @@ use Rattle.fields.proofs.Taking.{taken, taken-small}
 use Rattle.field_writer.proofs.writing.answer_at.Statement.{statement}
 use Rattle.field_writer.proofs.writing.answer_at.Tie as tie
 
-takes-requires : tie.Need-takes-requires
-takes-requires c κs = search needs
-
 returns : tie.Need-returns
 unfolding writtenAt
 returns c = rw (sym (c .before .takes .ensures) ∙ not-true _ (c .if1 .taken)) refl
@@ -22,9 +19,6 @@ bits-at-requires : tie.Need-bits-at-requires
 bits-at-requires c κs =
     let s = c .before .before in
     (s .pre, taken-small (s .args .i) (s .args .given) (s .pre) (taken _ _ _ _ (yes c) .fits))
-
-add-if2 : tie.Need-add-if2
-add-if2 c = search needs
 
 returns-2 : tie.Need-returns-2
 unfolding writtenAt
@@ -39,4 +33,4 @@ returns-3 c =
     rw (yes (c .before .before), ← n, le-ltb _ _ (c .if2 .left)) refl
 
 pub answer-at-spec : {M : Type 1} → statement M
-answer-at-spec = tie.close (tie.spec takes-requires returns bits-at-requires add-if2 returns-2 returns-3)
+answer-at-spec = tie.close (tie.spec (λ c κs. search needs) returns bits-at-requires (λ c. search needs) returns-2 returns-3)

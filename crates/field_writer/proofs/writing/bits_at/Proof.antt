@@ -14,26 +14,11 @@ use Rattle.fields.proofs.Puts.{head-small}
 use Rattle.field_writer.proofs.writing.bits_at.Statement.{statement}
 use Rattle.field_writer.proofs.writing.bits_at.Tie as tie
 
-row-at-requires : tie.Need-row-at-requires
-row-at-requires c κs = search needs
-
-field-in-requires : tie.Need-field-in-requires
-field-in-requires c κs = search needs
-
-numbers-requires : tie.Need-numbers-requires
-numbers-requires c κs = search needs
-
-head-bits-requires : tie.Need-head-bits-requires
-head-bits-requires c κs = search needs
-
 numbers-are : (c : tie.After-numbers) → c .numbers .result ≡ numbersIn (c .before .before .before .args .given)
 numbers-are c = c .numbers .ensures ∙ ap numbersOf (c .before .field-in .ensures)
 
 small : (c : tie.After-numbers) → RowSmall (c .before .before .row-at .result) (c .numbers .result)
 small c = rw (numbers-are c, c .before .before .row-at .ensures) (c .before .before .before .pre .1)
-
-count-in-requires : tie.Need-count-in-requires
-count-in-requires c κs = search needs
 
 most : (c : tie.After-count-in) → c .before .before .before .before .row-at .result .step * c .count-in .result ≤ 80 * 46
 most c =
@@ -65,4 +50,4 @@ returns c =
 pub bits-at-spec : {M : Type 1} → statement M
 bits-at-spec =
     tie.close
-    (tie.spec row-at-requires field-in-requires numbers-requires head-bits-requires count-in-requires mul-result add-result add-result-2 returns)
+    (tie.spec (λ c κs. search needs) (λ c κs. search needs) (λ c κs. search needs) (λ c κs. search needs) (λ c κs. search needs) mul-result add-result add-result-2 returns)

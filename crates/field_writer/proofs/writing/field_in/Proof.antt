@@ -5,12 +5,6 @@ use Rattle.fields.specs.Writing.{fieldIn}
 use Rattle.field_writer.proofs.writing.field_in.Statement.{statement}
 use Rattle.field_writer.proofs.writing.field_in.Tie as tie
 
-enum-known-given : tie.Need-enum-known-given
-enum-known-given c = search needs
-
-enum-known-given-2 : tie.Need-enum-known-given-2
-enum-known-given-2 c = search needs
-
 returns : tie.Need-returns
 returns c = sym (ap fieldIn (c .before .given .given .1))
 
@@ -20,4 +14,4 @@ returns-2 c = sym (ap fieldIn (c .before .given2 .given .1))
 pub field-in-spec : {M : Type 1} → statement M
 field-in-spec =
     tie.close
-    (tie.spec enum-known-given enum-known-given-2 returns returns-2)
+    (tie.spec (λ c. search needs) (λ c. search needs) returns returns-2)

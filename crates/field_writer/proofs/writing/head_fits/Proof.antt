@@ -5,15 +5,6 @@ use Rattle.fields.specs.Writing.{headFits}
 use Rattle.field_writer.proofs.writing.head_fits.Statement.{statement}
 use Rattle.field_writer.proofs.writing.head_fits.Tie as tie
 
-enum-told : tie.Need-enum-told
-enum-told c = search needs
-
-enum-known-given : tie.Need-enum-known-given
-enum-known-given c = search needs
-
-relays-requires : tie.Need-relays-requires
-relays-requires c κs = search needs
-
 returns : tie.Need-returns
 unfolding headFits
 returns c = sym (ap (headFits _) (c .enum-told .given .1))
@@ -25,4 +16,4 @@ returns-2 c = c .relays .ensures ∙ sym (ap (headFits _) (c .before .before .gi
 pub head-fits-spec : {M : Type 1} → statement M
 head-fits-spec =
     tie.close
-    (tie.spec enum-told enum-known-given relays-requires returns returns-2)
+    (tie.spec (λ c. search needs) (λ c. search needs) (λ c κs. search needs) returns returns-2)

@@ -11,9 +11,6 @@ returns : tie.Need-returns
 unfolding listedBy
 returns c = rw (eq-eqb _ _ (c .if1 .taken))
 
-count-in-requires : tie.Need-count-in-requires
-count-in-requires c κs = search needs
-
 returns-2 : tie.Need-returns-2
 unfolding listedBy
 returns-2 c = rw (ne-eqb _ _ (c .before .if1 .left)) ((c .count-in .ensures ∙ count-whole _ _ (c .before .before .before .pre)))
@@ -21,4 +18,4 @@ returns-2 c = rw (ne-eqb _ _ (c .before .if1 .left)) ((c .count-in .ensures ∙ 
 pub listed-in-spec : {M : Type 1} → statement M
 listed-in-spec =
     tie.close
-    (tie.spec returns count-in-requires returns-2)
+    (tie.spec returns (λ c κs. search needs) returns-2)

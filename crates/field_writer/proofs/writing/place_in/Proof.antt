@@ -5,22 +5,10 @@ use Rattle.fields.specs.Records.{numbersOf}
 use Rattle.field_writer.proofs.writing.place_in.Statement.{statement}
 use Rattle.field_writer.proofs.writing.place_in.Tie as tie
 
-field-in-requires : tie.Need-field-in-requires
-field-in-requires c κs = search needs
-
-numbers-requires : tie.Need-numbers-requires
-numbers-requires c κs = search needs
-
-array-read-find : tie.Need-array-read-find
-array-read-find c = search needs
-
-find-requires : tie.Need-find-requires
-find-requires c κs = search needs
-
 returns : tie.Need-returns
 returns c =
     let n = c .before in
     rw (← (n .numbers .ensures ∙ ap numbersOf (n .before .field-in .ensures))) (c .find .ensures)
 
 pub place-in-spec : {M : Type 1} → statement M
-place-in-spec = tie.close (tie.spec field-in-requires numbers-requires array-read-find find-requires returns)
+place-in-spec = tie.close (tie.spec (λ c κs. search needs) (λ c κs. search needs) (λ c. search needs) (λ c κs. search needs) returns)

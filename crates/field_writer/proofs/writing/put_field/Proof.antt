@@ -15,18 +15,6 @@ use Rattle.fields.proofs.Taking.{Taken, taken, taken-small, text-small, listed-
 use Rattle.field_writer.proofs.writing.put_field.Statement.{statement}
 use Rattle.field_writer.proofs.writing.put_field.Tie as tie
 
-row-at-requires : tie.Need-row-at-requires
-row-at-requires c κs = search needs
-
-field-in-requires : tie.Need-field-in-requires
-field-in-requires c κs = search needs
-
-numbers-requires : tie.Need-numbers-requires
-numbers-requires c κs = search needs
-
-head-bits-requires : tie.Need-head-bits-requires
-head-bits-requires c κs = search needs
-
 numbers-are : (c : tie.After-numbers) → c .numbers .result ≡ numbersIn (c .before .before .before .before .before .args .given)
 numbers-are c = c .numbers .ensures ∙ ap numbersOf (c .before .field-in .ensures)
 
@@ -43,12 +31,6 @@ listed-in-requires c κs =
 
 bits-at-requires : tie.Need-bits-at-requires
 bits-at-requires c κs = let s = c .before .before .before .before .before .before .before in (s .pre .0, small s)
-
-put-head-requires : tie.Need-put-head-requires
-put-head-requires c κs = search needs
-
-widths-at-requires : tie.Need-widths-at-requires
-widths-at-requires c κs = search needs
 
 listed-is : (c : tie.After-listed-in) → let a = c .before .before .before .before .before .before .before .args in c .listed-in .result ≡ listed (a .i) (numbersIn (a .given))
 listed-is c =
@@ -103,15 +85,6 @@ put-text-requires c κs =
     let t = text-small (rowAt (s .args .i)) (numbersIn (s .args .given)) (small s) in
     (omega (arith, bounds (c .before .before .before .before .before .before .before .before .before .before .before .before .before .before)), omega (arith, told s .text))
 
-sub-write : tie.Need-sub-write
-sub-write c = search needs
-
-write-requires : tie.Need-write-requires
-write-requires c κs = search needs
-
-same-length : tie.Need-same-length
-same-length c = search needs
-
 returns : tie.Need-returns
 unfolding putField
 returns c =
@@ -127,4 +100,4 @@ returns c =
 pub put-field-spec : {M : Type 1} → statement M
 put-field-spec =
     tie.close
-    (tie.spec row-at-requires field-in-requires numbers-requires head-bits-requires listed-in-requires bits-at-requires put-head-requires widths-at-requires put-parts-requires add-put-entries put-entries-requires add-put-text mul-put-text add-put-text-2 put-text-requires sub-write write-requires same-length returns)
+    (tie.spec (λ c κs. search needs) (λ c κs. search needs) (λ c κs. search needs) (λ c κs. search needs) listed-in-requires bits-at-requires (λ c κs. search needs) (λ c κs. search needs) put-parts-requires add-put-entries put-entries-requires add-put-text mul-put-text add-put-text-2 put-text-requires (λ c. search needs) (λ c κs. search needs) (λ c. search needs) returns)

@@ -8,24 +8,9 @@ use Rattle.fields.specs.Writing.{putAll, headWidths, headValues}
 use Rattle.field_writer.proofs.writing.put_head.Statement.{statement}
 use Rattle.field_writer.proofs.writing.put_head.Tie as tie
 
-enum-told : tie.Need-enum-told
-enum-told c = search needs
-
-enum-known-given : tie.Need-enum-known-given
-enum-known-given c = search needs
-
-write-requires : tie.Need-write-requires
-write-requires c κs = search needs
-
-write-requires-2 : tie.Need-write-requires-2
-write-requires-2 c κs = search needs
-
 returns : tie.Need-returns
 unfolding putAll
 returns c = rw (c .enum-told .given .1)
-
-same-length : tie.Need-same-length
-same-length c = search needs
 
 returns-2 : tie.Need-returns-2
 unfolding putAll
@@ -36,4 +21,4 @@ returns-2 c =
 pub put-head-spec : {M : Type 1} → statement M
 put-head-spec =
     tie.close
-    (tie.spec enum-told enum-known-given write-requires write-requires-2 returns same-length returns-2)
+    (tie.spec (λ c. search needs) (λ c. search needs) (λ c κs. search needs) (λ c κs. search needs) returns (λ c. search needs) returns-2)

@@ -8,15 +8,9 @@ use Rattle.fields.specs.Writing.{relaysAt}
 use Rattle.field_writer.proofs.writing.relays.Statement.{statement}
 use Rattle.field_writer.proofs.writing.relays.Tie as tie
 
-row-at-requires : tie.Need-row-at-requires
-row-at-requires c κs = search needs
-
 returns : tie.Need-returns
 unfolding relaysAt
 returns c = rw (le-ltb _ _ (c .if1 .taken))
-
-from-sensor-requires : tie.Need-from-sensor-requires
-from-sensor-requires c κs = search needs
 
 way-is : (c : tie.After-from-sensor) → fromSensor (rowAt (c .before .before .before .args .i) .way) ≡ c .from-sensor .result
 way-is c = rw (← c .before .before .row-at .ensures) (sym (c .from-sensor .ensures))
@@ -36,4 +30,4 @@ returns-3 c =
 pub relays-spec : {M : Type 1} → statement M
 relays-spec =
     tie.close
-    (tie.spec row-at-requires returns from-sensor-requires returns-2 returns-3)
+    (tie.spec (λ c κs. search needs) returns (λ c κs. search needs) returns-2 returns-3)

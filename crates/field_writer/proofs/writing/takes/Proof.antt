@@ -15,27 +15,12 @@ use Rattle.fields.proofs.Taking.{fit-numbers, taken-small}
 use Rattle.field_writer.proofs.writing.takes.Statement.{statement}
 use Rattle.field_writer.proofs.writing.takes.Tie as tie
 
-row-at-requires : tie.Need-row-at-requires
-row-at-requires c κs = search needs
-
-field-in-requires : tie.Need-field-in-requires
-field-in-requires c κs = search needs
-
-numbers-requires : tie.Need-numbers-requires
-numbers-requires c κs = search needs
-
-head-fits-requires : tie.Need-head-fits-requires
-head-fits-requires c κs = search needs
-
 numbers-are : (c : tie.After-numbers) → c .numbers .result ≡ numbersIn (c .before .before .before .args .given)
 numbers-are c = c .numbers .ensures ∙ ap numbersOf (c .before .field-in .ensures)
 
 returns : tie.Need-returns
 unfolding takesAt
 returns c = rw (sym (c .before .head-fits .ensures) ∙ not-true _ (c .if1 .taken))
-
-widths-at-requires : tie.Need-widths-at-requires
-widths-at-requires c κs = search needs
 
 fit-all-requires : tie.Need-fit-all-requires
 fit-all-requires c κs = let s = c .before .before .before .before .before .before in rw (c .widths-at .ensures) (widths-narrow (s .args .i) (s .pre))
@@ -50,12 +35,6 @@ unfolding takesAt
 returns-2 c =
     let e = c .before .before .before in
     rw (sym (e .before .head-fits .ensures) ∙ not-false _ (e .if1 .left), fit (c .before) ∙ not-true _ (c .if2 .taken))
-
-rules-at-requires : tie.Need-rules-at-requires
-rules-at-requires c κs = search needs
-
-faults-requires : tie.Need-faults-requires
-faults-requires c κs = search needs
 
 unused : (c : tie.After-faults) →
     let a = c .before .before .before .before .before .before .before .before .before .before .before .before .before .args in
@@ -87,9 +66,6 @@ small c =
 
 listed-in-requires : tie.Need-listed-in-requires
 listed-in-requires c κs = small (c .before .before .before .before .before .before)
-
-list-fits-requires : tie.Need-list-fits-requires
-list-fits-requires c κs = search needs
 
 list-ok : (c : tie.After-list-fits) →
     let a = c .before .before .before .before .before .before .before .before .before .before .before .before .before .before .before .before .args in
@@ -123,4 +99,4 @@ returns-5 c =
 pub takes-spec : {M : Type 1} → statement M
 takes-spec =
     tie.close
-    (tie.spec row-at-requires field-in-requires numbers-requires head-fits-requires returns widths-at-requires fit-all-requires returns-2 rules-at-requires faults-requires returns-3 listed-in-requires list-fits-requires returns-4 text-length-requires returns-5)
+    (tie.spec (λ c κs. search needs) (λ c κs. search needs) (λ c κs. search needs) (λ c κs. search needs) returns (λ c κs. search needs) fit-all-requires returns-2 (λ c κs. search needs) (λ c κs. search needs) returns-3 listed-in-requires (λ c κs. search needs) returns-4 text-length-requires returns-5)

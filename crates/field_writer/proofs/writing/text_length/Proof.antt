@@ -9,9 +9,6 @@ use Rattle.fields.proofs.Rows.{count-small, count-whole}
 use Rattle.field_writer.proofs.writing.text_length.Statement.{statement}
 use Rattle.field_writer.proofs.writing.text_length.Tie as tie
 
-count-in-requires : tie.Need-count-in-requires
-count-in-requires c κs = search needs
-
 mul-result : tie.Need-mul-result
 mul-result c =
     let h : c .count-in .result ≤ 46 = rw ((c .count-in .ensures ∙ count-whole _ _ (c .before .before .before .pre))) (count-small _ _ (c .before .before .before .pre)) in
@@ -28,4 +25,4 @@ returns-2 c = rw (ne-eqb _ _ (c .if1 .left))
 pub text-length-spec : {M : Type 1} → statement M
 text-length-spec =
     tie.close
-    (tie.spec count-in-requires mul-result returns returns-2)
+    (tie.spec (λ c κs. search needs) mul-result returns returns-2)

@@ -6,15 +6,6 @@ use Rattle.fields.proofs.Rows.{found-within}
 use Rattle.field_writer.proofs.writing.write.Statement.{statement}
 use Rattle.field_writer.proofs.writing.write.Tie as tie
 
-place-in-requires : tie.Need-place-in-requires
-place-in-requires c κs = search needs
-
-enum-known-i : tie.Need-enum-known-i
-enum-known-i c = search needs
-
-enum-told : tie.Need-enum-told
-enum-told c = search needs
-
 returns : tie.Need-returns
 unfolding writtenOf leftOf
 returns c = let e = sym (c .before .before .place-in .ensures) ∙ c .enum-told .given .1 in (rw e refl, rw e refl)
@@ -23,9 +14,6 @@ write-at-requires : tie.Need-write-at-requires
 write-at-requires c κs =
     let k = c .before .before in
     found-within _ _ (sym (k .before .before .place-in .ensures) ∙ k .i .given .1)
-
-same-length : tie.Need-same-length
-same-length c = search needs
 
 returns-2 : tie.Need-returns-2
 unfolding writtenOf leftOf
@@ -36,4 +24,4 @@ returns-2 c =
 
 pub write-spec : {M : Type 1} → statement M
 write-spec =
-    tie.close (tie.spec place-in-requires enum-known-i enum-told returns write-at-requires same-length returns-2)
+    tie.close (tie.spec (λ c κs. search needs) (λ c. search needs) (λ c. search needs) returns write-at-requires (λ c. search needs) returns-2)

@@ -5,15 +5,6 @@ use Rattle.field_writer.proofs.Left.{bits-left, refused-left}
 use Rattle.field_writer.proofs.writing.write_at.Statement.{statement}
 use Rattle.field_writer.proofs.writing.write_at.Tie as tie
 
-answer-at-requires : tie.Need-answer-at-requires
-answer-at-requires c κs = search needs
-
-enum-told : tie.Need-enum-told
-enum-told c = search needs
-
-enum-told-2 : tie.Need-enum-told-2
-enum-told-2 c = search needs
-
 returns : tie.Need-returns
 returns c =
     let e = c .before .before .answer-at .ensures in
@@ -26,9 +17,6 @@ put-field-requires c κs =
     let s = a .before .before .before in
     (s .pre, bits-left _ _ _ (s .args .text .now) (s .args .s .now) _ (sym (a .answer-at .ensures) ∙ t .enum-told .given .1) .0)
 
-same-length : tie.Need-same-length
-same-length c = search needs
-
 returns-2 : tie.Need-returns-2
 returns-2 c =
     let p = c .before .before in
@@ -38,4 +26,4 @@ returns-2 c =
 
 pub write-at-spec : {M : Type 1} → statement M
 write-at-spec =
-    tie.close (tie.spec answer-at-requires enum-told enum-told-2 returns put-field-requires same-length returns-2)
+    tie.close (tie.spec (λ c κs. search needs) (λ c. search needs) (λ c. search needs) returns put-field-requires (λ c. search needs) returns-2)

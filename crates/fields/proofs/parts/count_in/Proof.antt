@@ -10,24 +10,6 @@ use Rattle.fields.proofs.parts.count_in.Tie as tie
 sums : (m a b c : ℕ) → (((m + a) % 2 ^ 64 + b) % 2 ^ 64 + c) % 2 ^ 64 ≡ (m + a + b + c) % 2 ^ 64
 sums m a b c = omega arith
 
-part-requires : tie.Need-part-requires
-part-requires c κs = search needs
-
-wrapping-add-u64-requires : tie.Need-wrapping-add-u64-requires
-wrapping-add-u64-requires c κs = search needs
-
-part-requires-2 : tie.Need-part-requires-2
-part-requires-2 c κs = search needs
-
-wrapping-add-u64-requires-2 : tie.Need-wrapping-add-u64-requires-2
-wrapping-add-u64-requires-2 c κs = search needs
-
-part-requires-3 : tie.Need-part-requires-3
-part-requires-3 c κs = search needs
-
-wrapping-add-u64-requires-3 : tie.Need-wrapping-add-u64-requires-3
-wrapping-add-u64-requires-3 c κs = search needs
-
 returns : tie.Need-returns
 unfolding countIn
 returns c =
@@ -38,10 +20,10 @@ pub count-in-spec : {M : Type 1} → statement M
 count-in-spec =
     tie.close
     (tie.spec
-    part-requires
-    wrapping-add-u64-requires
-    part-requires-2
-    wrapping-add-u64-requires-2
-    part-requires-3
-    wrapping-add-u64-requires-3
+    (λ c κs. search needs)
+    (λ c κs. search needs)
+    (λ c κs. search needs)
+    (λ c κs. search needs)
+    (λ c κs. search needs)
+    (λ c κs. search needs)
     returns)

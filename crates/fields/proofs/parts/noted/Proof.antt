@@ -9,14 +9,8 @@ returns c =
     let f = c .before .args .found in
     rw (c .if1 .taken, or-false (f .spare), or-false (f .unused))
 
-either-requires : tie.Need-either-requires
-either-requires c κs = search needs
-
-either-requires-2 : tie.Need-either-requires-2
-either-requires-2 c κs = search needs
-
 returns-2 : tie.Need-returns-2
 returns-2 c = rw (c .before .either .ensures, c .either2 .ensures)
 
 pub noted-spec : {M : Type 1} → statement M
-noted-spec = tie.close (tie.spec returns either-requires either-requires-2 returns-2)
+noted-spec = tie.close (tie.spec returns (λ c κs. search needs) (λ c κs. search needs) returns-2)

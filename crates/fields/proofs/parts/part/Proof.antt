@@ -6,18 +6,9 @@ use borrow.Author.Needs.{needs}
 use Rattle.fields.proofs.parts.part.Statement.{statement}
 use Rattle.fields.proofs.parts.part.Tie as tie
 
-mul-result : tie.Need-mul-result
-mul-result c = search needs
-
-element-copy-out-result : tie.Need-element-copy-out-result
-element-copy-out-result c = search needs
-
-returns : tie.Need-returns
-returns c = search needs
-
 returns-2 : tie.Need-returns-2
 returns-2 c =
     sym (List·getD-eq-default (c .before .args .v .now) 0 (omega arith))
 
 pub part-spec : {M : Type 1} → statement M
-part-spec = tie.close (tie.spec mul-result element-copy-out-result returns returns-2)
+part-spec = tie.close (tie.spec (λ c. search needs) (λ c. search needs) (λ c. search needs) returns-2)

@@ -5,69 +5,6 @@ use borrow.Author.Needs.{needs}
 use Rattle.fields.proofs.records.numbers.Statement.{statement}
 use Rattle.fields.proofs.records.numbers.Tie as tie
 
-enum-known-f : tie.Need-enum-known-f
-enum-known-f c = search needs
-
-enum-known-f-2 : tie.Need-enum-known-f-2
-enum-known-f-2 c = search needs
-
-enum-known-f-3 : tie.Need-enum-known-f-3
-enum-known-f-3 c = search needs
-
-enum-known-f-4 : tie.Need-enum-known-f-4
-enum-known-f-4 c = search needs
-
-enum-known-f-5 : tie.Need-enum-known-f-5
-enum-known-f-5 c = search needs
-
-enum-known-f-6 : tie.Need-enum-known-f-6
-enum-known-f-6 c = search needs
-
-enum-known-f-7 : tie.Need-enum-known-f-7
-enum-known-f-7 c = search needs
-
-enum-known-f-8 : tie.Need-enum-known-f-8
-enum-known-f-8 c = search needs
-
-enum-known-f-9 : tie.Need-enum-known-f-9
-enum-known-f-9 c = search needs
-
-enum-known-f-10 : tie.Need-enum-known-f-10
-enum-known-f-10 c = search needs
-
-enum-known-f-11 : tie.Need-enum-known-f-11
-enum-known-f-11 c = search needs
-
-enum-known-f-12 : tie.Need-enum-known-f-12
-enum-known-f-12 c = search needs
-
-enum-known-f-13 : tie.Need-enum-known-f-13
-enum-known-f-13 c = search needs
-
-enum-known-f-14 : tie.Need-enum-known-f-14
-enum-known-f-14 c = search needs
-
-enum-known-f-15 : tie.Need-enum-known-f-15
-enum-known-f-15 c = search needs
-
-enum-known-f-16 : tie.Need-enum-known-f-16
-enum-known-f-16 c = search needs
-
-enum-known-f-17 : tie.Need-enum-known-f-17
-enum-known-f-17 c = search needs
-
-enum-known-f-18 : tie.Need-enum-known-f-18
-enum-known-f-18 c = search needs
-
-enum-known-f-19 : tie.Need-enum-known-f-19
-enum-known-f-19 c = search needs
-
-enum-known-f-20 : tie.Need-enum-known-f-20
-enum-known-f-20 c = search needs
-
-enum-known-f-21 : tie.Need-enum-known-f-21
-enum-known-f-21 c = search needs
-
 returns : tie.Need-returns
 returns c = sym (ap numbersOf (c .before .f .given .1))
 
@@ -135,27 +72,27 @@ pub numbers-spec : {M : Type 1} → statement M
 numbers-spec =
     tie.close
     (tie.spec
-    enum-known-f
-    enum-known-f-2
-    enum-known-f-3
-    enum-known-f-4
-    enum-known-f-5
-    enum-known-f-6
-    enum-known-f-7
-    enum-known-f-8
-    enum-known-f-9
-    enum-known-f-10
-    enum-known-f-11
-    enum-known-f-12
-    enum-known-f-13
-    enum-known-f-14
-    enum-known-f-15
-    enum-known-f-16
-    enum-known-f-17
-    enum-known-f-18
-    enum-known-f-19
-    enum-known-f-20
-    enum-known-f-21
+    (λ c. search needs)
+    (λ c. search needs)
+    (λ c. search needs)
+    (λ c. search needs)
+    (λ c. search needs)
+    (λ c. search needs)
+    (λ c. search needs)
+    (λ c. search needs)
+    (λ c. search needs)
+    (λ c. search needs)
+    (λ c. search needs)
+    (λ c. search needs)
+    (λ c. search needs)
+    (λ c. search needs)
+    (λ c. search needs)
+    (λ c. search needs)
+    (λ c. search needs)
+    (λ c. search needs)
+    (λ c. search needs)
+    (λ c. search needs)
+    (λ c. search needs)
     returns
     returns-2
     returns-3

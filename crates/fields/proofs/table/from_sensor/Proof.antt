@@ -4,12 +4,6 @@ use Rattle.fields.specs.Reading.{fromSensor}
 use Rattle.fields.proofs.table.from_sensor.Statement.{statement}
 use Rattle.fields.proofs.table.from_sensor.Tie as tie
 
-enum-told : tie.Need-enum-told
-enum-told c = search needs
-
-enum-told-2 : tie.Need-enum-told-2
-enum-told-2 c = search needs
-
 returns : tie.Need-returns
 unfolding fromSensor
 returns c = search needs
@@ -21,4 +15,4 @@ returns-2 c = search needs
 pub from-sensor-spec : {M : Type 1} → statement M
 from-sensor-spec =
     tie.close
-    (tie.spec enum-told enum-told-2 returns returns-2)
+    (tie.spec (λ c. search needs) (λ c. search needs) returns returns-2)

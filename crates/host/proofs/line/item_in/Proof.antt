@@ -6,18 +6,6 @@ use borrow.Author.Needs.{needs}
 use Rattle.host.proofs.line.item_in.Statement.{statement}
 use Rattle.host.proofs.line.item_in.Tie as tie
 
-enum-known-what : tie.Need-enum-known-what
-enum-known-what c = search needs
-
-item-of-requires : tie.Need-item-of-requires
-item-of-requires c κs = search needs
-
-enum-told : tie.Need-enum-told
-enum-told c = search needs
-
-enum-told-2 : tie.Need-enum-told-2
-enum-told-2 c = search needs
-
 returns : tie.Need-returns
 returns c = c .item-of .ensures ∙ sym (ap (λ (w : What). itemAt w (c .before .before .before .before .args .item)) (c .before .before .what .given .1))
 
@@ -30,4 +18,4 @@ returns-3 c = search (needs)
 pub item-in-spec : {M : Type 1} → statement M
 item-in-spec =
     tie.close
-    (tie.spec enum-known-what item-of-requires enum-told enum-told-2 returns returns-2 returns-3)
+    (tie.spec (λ c. search needs) (λ c κs. search needs) (λ c. search needs) (λ c. search needs) returns returns-2 returns-3)

@@ -5,11 +5,8 @@ use borrow.Author.Needs.{needs}
 use Rattle.host.proofs.line.siamrung_after.Statement.{statement}
 use Rattle.host.proofs.line.siamrung_after.Tie as tie
 
-read-requires : tie.Need-read-requires
-read-requires c κs = search needs
-
 returns : tie.Need-returns
 returns c = ap (λ (o : Outcome). o .after) (c .read .ensures)
 
 pub siamrung-after-spec : {M : Type 1} → statement M
-siamrung-after-spec = tie.close (tie.spec read-requires returns)
+siamrung-after-spec = tie.close (tie.spec (λ c κs. search needs) returns)

@@ -5,11 +5,8 @@ use borrow.Author.Needs.{needs}
 use Rattle.host.proofs.line.siamrung_first.Statement.{statement}
 use Rattle.host.proofs.line.siamrung_first.Tie as tie
 
-read-requires : tie.Need-read-requires
-read-requires c κs = search needs
-
 returns : tie.Need-returns
 returns c = ap (λ (o : Outcome). o .first) (c .read .ensures)
 
 pub siamrung-first-spec : {M : Type 1} → statement M
-siamrung-first-spec = tie.close (tie.spec read-requires returns)
+siamrung-first-spec = tie.close (tie.spec (λ c κs. search needs) returns)

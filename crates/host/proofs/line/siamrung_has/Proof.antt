@@ -7,18 +7,6 @@ use borrow.Author.Needs.{needs}
 use Rattle.host.proofs.line.siamrung_has.Statement.{statement}
 use Rattle.host.proofs.line.siamrung_has.Tie as tie
 
-read-requires : tie.Need-read-requires
-read-requires c κs = search needs
-
-item-in-requires : tie.Need-item-in-requires
-item-in-requires c κs = search needs
-
-enum-told : tie.Need-enum-told
-enum-told c = search needs
-
-enum-told-2 : tie.Need-enum-told-2
-enum-told-2 c = search needs
-
 returns : tie.Need-returns
 returns c = sym (ap isOf (c .enum-told .given .1)) ∙ ap isOf (c .before .before .item-in .ensures) ∙ ap (λ (o : Outcome). isOf (itemAt (o .what) (c .before .before .before .before .before .args .item))) (c .before .before .before .read .ensures)
 
@@ -27,4 +15,4 @@ returns-2 c = sym (ap isOf (c .enum-told2 .given .1)) ∙ ap isOf (c .before .be
 
 pub siamrung-has-spec : {M : Type 1} → statement M
 siamrung-has-spec =
-    tie.close (tie.spec read-requires item-in-requires enum-told enum-told-2 returns returns-2)
+    tie.close (tie.spec (λ c κs. search needs) (λ c κs. search needs) (λ c. search needs) (λ c. search needs) returns returns-2)

@@ -6,18 +6,6 @@ use borrow.Author.Needs.{needs}
 use Rattle.host.proofs.line.siamrung_has_values.Statement.{statement}
 use Rattle.host.proofs.line.siamrung_has_values.Tie as tie
 
-read-requires : tie.Need-read-requires
-read-requires c κs = search needs
-
-values-in-requires : tie.Need-values-in-requires
-values-in-requires c κs = search needs
-
-enum-told : tie.Need-enum-told
-enum-told c = search needs
-
-enum-told-2 : tie.Need-enum-told-2
-enum-told-2 c = search needs
-
 returns : tie.Need-returns
 returns c = sym (measured-at (c .before .before .before .read .ensures) (c .enum-told .given .1) (c .before .before .values-in .ensures) .0)
 
@@ -26,4 +14,4 @@ returns-2 c = sym (ap has (nothing-at (c .before .before .before .read .ensures)
 
 pub siamrung-has-values-spec : {M : Type 1} → statement M
 siamrung-has-values-spec =
-    tie.close (tie.spec read-requires values-in-requires enum-told enum-told-2 returns returns-2)
+    tie.close (tie.spec (λ c κs. search needs) (λ c κs. search needs) (λ c. search needs) (λ c. search needs) returns returns-2)

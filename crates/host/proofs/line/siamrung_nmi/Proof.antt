@@ -6,21 +6,6 @@ use borrow.Author.Needs.{needs}
 use Rattle.host.proofs.line.siamrung_nmi.Statement.{statement}
 use Rattle.host.proofs.line.siamrung_nmi.Tie as tie
 
-read-requires : tie.Need-read-requires
-read-requires c κs = search needs
-
-values-in-requires : tie.Need-values-in-requires
-values-in-requires c κs = search needs
-
-enum-known-found : tie.Need-enum-known-found
-enum-known-found c = search needs
-
-enum-told : tie.Need-enum-told
-enum-told c = search needs
-
-nothing-requires : tie.Need-nothing-requires
-nothing-requires c κs = search needs
-
 returns : tie.Need-returns
 returns c = measured-at (c .before .before .before .before .read .ensures) (c .before .found .given .1) (c .before .before .before .values-in .ensures) .1 .range
 
@@ -31,10 +16,10 @@ pub siamrung-nmi-spec : {M : Type 1} → statement M
 siamrung-nmi-spec =
     tie.close
     (tie.spec
-    read-requires
-    values-in-requires
-    enum-known-found
-    enum-told
-    nothing-requires
+    (λ c κs. search needs)
+    (λ c κs. search needs)
+    (λ c. search needs)
+    (λ c. search needs)
+    (λ c κs. search needs)
     returns
     returns-2)

@@ -6,14 +6,8 @@ use borrow.Author.Needs.{needs}
 use Rattle.host.proofs.line.siamrung_refusal.Statement.{statement}
 use Rattle.host.proofs.line.siamrung_refusal.Tie as tie
 
-read-requires : tie.Need-read-requires
-read-requires c κs = search needs
-
-refusal-number-requires : tie.Need-refusal-number-requires
-refusal-number-requires c κs = search needs
-
 returns : tie.Need-returns
 returns c = c .refusal-number .ensures ∙ ap (λ (o : Outcome). refusalOf (o .what)) (c .before .read .ensures)
 
 pub siamrung-refusal-spec : {M : Type 1} → statement M
-siamrung-refusal-spec = tie.close (tie.spec read-requires refusal-number-requires returns)
+siamrung-refusal-spec = tie.close (tie.spec (λ c κs. search needs) (λ c κs. search needs) returns)

@@ -4,18 +4,6 @@ use borrow.Author.Needs.{needs}
 use Rattle.host.proofs.line.values_in.Statement.{statement}
 use Rattle.host.proofs.line.values_in.Tie as tie
 
-enum-known-what : tie.Need-enum-known-what
-enum-known-what c = search needs
-
-values-of-requires : tie.Need-values-of-requires
-values-of-requires c κs = search needs
-
-enum-told : tie.Need-enum-told
-enum-told c = search needs
-
-enum-told-2 : tie.Need-enum-told-2
-enum-told-2 c = search needs
-
 returns : tie.Need-returns
 returns c = yields-of _ _ _ (c .before .before .what .given .1) (c .values-of .ensures)
 
@@ -28,4 +16,4 @@ returns-3 c = yields-of _ _ _ (c .enum-told2 .given .1) tt
 pub values-in-spec : {M : Type 1} → statement M
 values-in-spec =
     tie.close
-    (tie.spec enum-known-what values-of-requires enum-told enum-told-2 returns returns-2 returns-3)
+    (tie.spec (λ c. search needs) (λ c κs. search needs) (λ c. search needs) (λ c. search needs) returns returns-2 returns-3)

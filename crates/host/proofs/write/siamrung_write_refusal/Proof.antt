@@ -8,24 +8,6 @@ use borrow.Author.Needs.{needs}
 use Rattle.host.proofs.write.siamrung_write_refusal.Statement.{statement}
 use Rattle.host.proofs.write.siamrung_write_refusal.Tie as tie
 
-given-requires : tie.Need-given-requires
-given-requires c κs = search needs
-
-answer-requires : tie.Need-answer-requires
-answer-requires c κs = search needs
-
-enum-told : tie.Need-enum-told
-enum-told c = search needs
-
-enum-known-answer : tie.Need-enum-known-answer
-enum-known-answer c = search needs
-
-number-requires : tie.Need-number-requires
-number-requires c κs = search needs
-
-cast-result : tie.Need-cast-result
-cast-result c = search needs
-
 returns : tie.Need-returns
 returns c =
     let w = c .before .before in
@@ -44,11 +26,11 @@ pub siamrung-write-refusal-spec : {M : Type 1} → statement M
 siamrung-write-refusal-spec =
     tie.close
     (tie.spec
-    given-requires
-    answer-requires
-    enum-told
-    enum-known-answer
-    number-requires
-    cast-result
+    (λ c κs. search needs)
+    (λ c κs. search needs)
+    (λ c. search needs)
+    (λ c. search needs)
+    (λ c κs. search needs)
+    (λ c. search needs)
     returns
     returns-2)

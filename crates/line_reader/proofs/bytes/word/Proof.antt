@@ -11,9 +11,6 @@ use Rattle.line_reader.proofs.bytes.word.Tie as tie
 add-word-at : tie.Need-add-word-at
 add-word-at c = omega (arith, words-length (c .before .before .args .bytes .now))
 
-word-at-requires : tie.Need-word-at-requires
-word-at-requires c κs = search needs
-
 returns : tie.Need-returns
 returns c =
     let a = c .before .before .before .args in
@@ -23,4 +20,4 @@ returns-2 : tie.Need-returns-2
 returns-2 c = let a = c .before .before .args in word-past (wordsIn (a .bytes .now)) (a .first) (a .count) (a .k) (c .if1 .left)
 
 pub word-spec : {M : Type 1} → statement M
-word-spec = tie.close (tie.spec add-word-at word-at-requires returns returns-2)
+word-spec = tie.close (tie.spec add-word-at (λ c κs. search needs) returns returns-2)

@@ -11,12 +11,6 @@ mul-widened c = omega (arith, words-length (c .before .args .bytes .now))
 shared-slice-read-widened : tie.Need-shared-slice-read-widened
 shared-slice-read-widened c = omega (arith, words-length (c .before .before .args .bytes .now))
 
-widened-requires : tie.Need-widened-requires
-widened-requires c κs = search needs
-
-mul-result : tie.Need-mul-result
-mul-result c = search needs
-
 mul-widened-2 : tie.Need-mul-widened-2
 mul-widened-2 c = omega (arith, words-length (c .before .before .before .args .bytes .now))
 
@@ -25,12 +19,6 @@ add-widened c = omega (arith, words-length (c .before .before .before .args .byt
 
 shared-slice-read-widened-2 : tie.Need-shared-slice-read-widened-2
 shared-slice-read-widened-2 c = omega (arith, words-length (c .before .before .before .before .args .bytes .now))
-
-widened-requires-2 : tie.Need-widened-requires-2
-widened-requires-2 c κs = search needs
-
-add-result : tie.Need-add-result
-add-result c = search needs
 
 returns : tie.Need-returns
 returns c =
@@ -45,11 +33,11 @@ word-at-spec =
     (tie.spec
     mul-widened
     shared-slice-read-widened
-    widened-requires
-    mul-result
+    (λ c κs. search needs)
+    (λ c. search needs)
     mul-widened-2
     add-widened
     shared-slice-read-widened-2
-    widened-requires-2
-    add-result
+    (λ c κs. search needs)
+    (λ c. search needs)
     returns)

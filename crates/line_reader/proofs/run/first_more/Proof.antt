@@ -12,11 +12,8 @@ returns c = sym (picked _ _ (lt-ltb _ _ (c .if1 .taken)))
 returns-2 : tie.Need-returns-2
 returns-2 c = sym (passed _ _ (le-ltb _ _ (c .before .if1 .left)) ∙ picked _ _ (c .if2 .taken))
 
-add-result : tie.Need-add-result
-add-result c = search needs
-
 returns-3 : tie.Need-returns-3
 returns-3 c = sym (passed _ _ (le-ltb _ _ (c .before .if1 .left)) ∙ passed _ _ (c .if2 .left))
 
 pub first-more-spec : {M : Type 1} → statement M
-first-more-spec = tie.close (tie.spec returns returns-2 add-result returns-3)
+first-more-spec = tie.close (tie.spec returns returns-2 (λ c. search needs) returns-3)

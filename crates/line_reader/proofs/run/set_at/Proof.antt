@@ -10,29 +10,11 @@ use native.Mathlib.Omega.{arith}
 use Rattle.line_reader.proofs.run.set_at.Statement.{statement}
 use Rattle.line_reader.proofs.run.set_at.Tie as tie
 
-enum-known-answer : tie.Need-enum-known-answer
-enum-known-answer c = search needs
-
-add-new : tie.Need-add-new
-add-new c = search needs
-
-new-requires : tie.Need-new-requires
-new-requires c κs = search needs
-
-enum-known-answer-2 : tie.Need-enum-known-answer-2
-enum-known-answer-2 c = search needs
-
-add-new-2 : tie.Need-add-new-2
-add-new-2 c = search needs
-
 add-new-3 : tie.Need-add-new-3
 add-new-3 c =
     let s = c .before .before .before in
     let h = subst (λ (x : RunAnswer). answerOffset x ≤ s .args .n) (c .before .answer2 .given .1) (s .pre .1) in
     omega arith
-
-new-requires-2 : tie.Need-new-requires-2
-new-requires-2 c κs = search needs
 
 returns : tie.Need-returns
 returns c =
@@ -50,12 +32,12 @@ pub set-at-spec : {M : Type 1} → statement M
 set-at-spec =
     tie.close
     (tie.spec
-    enum-known-answer
-    add-new
-    new-requires
-    enum-known-answer-2
-    add-new-2
+    (λ c. search needs)
+    (λ c. search needs)
+    (λ c κs. search needs)
+    (λ c. search needs)
+    (λ c. search needs)
     add-new-3
-    new-requires-2
+    (λ c κs. search needs)
     returns
     returns-2)

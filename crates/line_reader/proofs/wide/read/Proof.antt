@@ -10,48 +10,12 @@ use borrow.Author.Needs.{needs}
 use Rattle.line_reader.proofs.wide.read.Statement.{statement}
 use Rattle.line_reader.proofs.wide.read.Tie as tie
 
-not-taken-requires : tie.Need-not-taken-requires
-not-taken-requires c κs = search needs
-
 returns : tie.Need-returns
 unfolding readBy
 returns c = c .not-taken .ensures ∙ sym (picked _ _ (lt-ltb _ _ (c .before .if1 .taken)))
 
-not-taken-requires-2 : tie.Need-not-taken-requires-2
-not-taken-requires-2 c κs = search needs
-
 returns-2 : tie.Need-returns-2
 returns-2 c = c .not-taken2 .ensures ∙ beyond-law signMagnitude _ _ _ refl (c .before .before .if1 .left) (c .before .if2 .taken)
-
-scan-requires : tie.Need-scan-requires
-scan-requires c κs = search needs
-
-add-first : tie.Need-add-first
-add-first c = search needs
-
-word-requires : tie.Need-word-requires
-word-requires c κs = search needs
-
-word-requires-2 : tie.Need-word-requires-2
-word-requires-2 c κs = search needs
-
-word-requires-3 : tie.Need-word-requires-3
-word-requires-3 c κs = search needs
-
-word-requires-4 : tie.Need-word-requires-4
-word-requires-4 c κs = search needs
-
-word-requires-5 : tie.Need-word-requires-5
-word-requires-5 c κs = search needs
-
-word-requires-6 : tie.Need-word-requires-6
-word-requires-6 c κs = search needs
-
-word-requires-7 : tie.Need-word-requires-7
-word-requires-7 c κs = search needs
-
-finish-requires : tie.Need-finish-requires
-finish-requires c κs = search needs
 
 returns-3 : tie.Need-returns-3
 returns-3 c =
@@ -80,18 +44,18 @@ pub read-spec : {M : Type 1} → statement M
 read-spec =
     tie.close
     (tie.spec
-    not-taken-requires
+    (λ c κs. search needs)
     returns
-    not-taken-requires-2
+    (λ c κs. search needs)
     returns-2
-    scan-requires
-    add-first
-    word-requires
-    word-requires-2
-    word-requires-3
-    word-requires-4
-    word-requires-5
-    word-requires-6
-    word-requires-7
-    finish-requires
+    (λ c κs. search needs)
+    (λ c. search needs)
+    (λ c κs. search needs)
+    (λ c κs. search needs)
+    (λ c κs. search needs)
+    (λ c κs. search needs)
+    (λ c κs. search needs)
+    (λ c κs. search needs)
+    (λ c κs. search needs)
+    (λ c κs. search needs)
     returns-3)

@@ -4,15 +4,6 @@ use borrow.Author.Needs.{needs}
 use Rattle.line_reader.proofs.wide.word.Statement.{statement}
 use Rattle.line_reader.proofs.wide.word.Tie as tie
 
-add-result : tie.Need-add-result
-add-result c = search needs
-
-mul-result : tie.Need-mul-result
-mul-result c = search needs
-
-shared-slice-read-result : tie.Need-shared-slice-read-result
-shared-slice-read-result c = search needs
-
 returns : tie.Need-returns
 returns c = let a = c .before .before .args in word-in (a .line .now) (a .first) (a .count) (a .k) (c .before .if1 .taken)
 
@@ -20,4 +11,4 @@ returns-2 : tie.Need-returns-2
 returns-2 c = let a = c .before .args in word-past (a .line .now) (a .first) (a .count) (a .k) (c .if1 .left)
 
 pub word-spec : {M : Type 1} → statement M
-word-spec = tie.close (tie.spec add-result mul-result shared-slice-read-result returns returns-2)
+word-spec = tie.close (tie.spec (λ c. search needs) (λ c. search needs) (λ c. search needs) returns returns-2)

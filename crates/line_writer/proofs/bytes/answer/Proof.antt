@@ -6,14 +6,8 @@ use borrow.Author.Needs.{needs}
 use Rattle.line_writer.proofs.bytes.answer.Statement.{statement}
 use Rattle.line_writer.proofs.bytes.answer.Tie as tie
 
-words-of-requires : tie.Need-words-of-requires
-words-of-requires c κs = search needs
-
-answer-to-requires : tie.Need-answer-to-requires
-answer-to-requires c κs = search needs
-
 returns : tie.Need-returns
 returns c = c .answer-to .ensures ∙ ap (answerOf _ _) (c .before .words-of .ensures) ∙ answer-tells _ _ _ _
 
 pub answer-spec : {M : Type 1} → statement M
-answer-spec = tie.close (tie.spec words-of-requires answer-to-requires returns)
+answer-spec = tie.close (tie.spec (λ c κs. search needs) (λ c κs. search needs) returns)

@@ -26,21 +26,6 @@ unfolding answerOf
 past c =
     passed _ _ (le-ltb _ _ (c .before .before .if1 .left)) ∙ passed _ _ (ne-eqb _ _ (c .before .if2 .left)) ∙ passed _ _ (le-ltb _ _ (c .if3 .left))
 
-enum-told : tie.Need-enum-told
-enum-told c = search needs
-
-room-requires : tie.Need-room-requires
-room-requires c κs = search needs
-
-enum-told-2 : tie.Need-enum-told-2
-enum-told-2 c = search needs
-
-room-requires-2 : tie.Need-room-requires-2
-room-requires-2 c κs = search needs
-
-enum-known-made : tie.Need-enum-known-made
-enum-known-made c = search needs
-
 returns-4 : tie.Need-returns-4
 returns-4 c =
     let e = c .before .before .before in
@@ -63,11 +48,11 @@ answer-to-spec =
     returns
     returns-2
     returns-3
-    enum-told
-    room-requires
-    enum-told-2
-    room-requires-2
-    enum-known-made
+    (λ c. search needs)
+    (λ c κs. search needs)
+    (λ c. search needs)
+    (λ c κs. search needs)
+    (λ c. search needs)
     returns-4
     returns-5
     returns-6)

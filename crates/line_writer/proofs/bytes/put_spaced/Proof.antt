@@ -13,33 +13,6 @@ use native.Mathlib.Omega.{arith}
 use Rattle.line_writer.proofs.bytes.put_spaced.Statement.{statement}
 use Rattle.line_writer.proofs.bytes.put_spaced.Tie as tie
 
-mul-at : tie.Need-mul-at
-mul-at c = search needs
-
-add-next : tie.Need-add-next
-add-next c = search needs
-
-add-next-2 : tie.Need-add-next-2
-add-next-2 c = search needs
-
-sub-put-pairs : tie.Need-sub-put-pairs
-sub-put-pairs c = search needs
-
-part-put-pairs-start : tie.Need-part-put-pairs-start
-part-put-pairs-start c = search needs
-
-part-put-pairs-end : tie.Need-part-put-pairs-end
-part-put-pairs-end c = search needs
-
-add-put-pairs : tie.Need-add-put-pairs
-add-put-pairs c = search needs
-
-put-pairs-requires : tie.Need-put-pairs-requires
-put-pairs-requires c κs = search needs
-
-same-length : tie.Need-same-length
-same-length c = search needs
-
 returns : tie.Need-returns
 returns c =
     let s = c .before .before .before .before .before in
@@ -55,13 +28,13 @@ pub put-spaced-spec : {M : Type 1} → statement M
 put-spaced-spec =
     tie.close
     (tie.spec
-    mul-at
-    add-next
-    add-next-2
-    sub-put-pairs
-    part-put-pairs-start
-    part-put-pairs-end
-    add-put-pairs
-    put-pairs-requires
-    same-length
+    (λ c. search needs)
+    (λ c. search needs)
+    (λ c. search needs)
+    (λ c. search needs)
+    (λ c. search needs)
+    (λ c. search needs)
+    (λ c. search needs)
+    (λ c κs. search needs)
+    (λ c. search needs)
     returns)

@@ -8,19 +8,10 @@ use borrow.Author.Needs.{needs}
 use Rattle.line_writer.proofs.bytes.room.Statement.{statement}
 use Rattle.line_writer.proofs.bytes.room.Tie as tie
 
-sub-if1 : tie.Need-sub-if1
-sub-if1 c = search needs
-
 returns : tie.Need-returns
 returns c =
     let a = c .before .args in
     sym (picked _ _ (lt-ltb (a .size - a .place) (a .n + 1) (omega arith)))
-
-add-t4 : tie.Need-add-t4
-add-t4 c = search needs
-
-add-t7 : tie.Need-add-t7
-add-t7 c = search needs
 
 returns-2 : tie.Need-returns-2
 returns-2 c =
@@ -28,4 +19,4 @@ returns-2 c =
     sym (passed _ _ (le-ltb (a .size - a .place) (a .n + 1) (omega arith)))
 
 pub room-spec : {M : Type 1} → statement M
-room-spec = tie.close (tie.spec sub-if1 returns add-t4 add-t7 returns-2)
+room-spec = tie.close (tie.spec (λ c. search needs) returns (λ c. search needs) (λ c. search needs) returns-2)

@@ -12,15 +12,6 @@ use borrow.Author.Needs.{needs}
 use Rattle.line_writer.proofs.bytes.write.Statement.{statement}
 use Rattle.line_writer.proofs.bytes.write.Tie as tie
 
-words-of-requires : tie.Need-words-of-requires
-words-of-requires c κs = search needs
-
-answer-to-requires : tie.Need-answer-to-requires
-answer-to-requires c κs = search needs
-
-enum-known-told : tie.Need-enum-known-told
-enum-known-told c = search needs
-
 returns : tie.Need-returns
 returns c =
     let t = c .before .before .before in
@@ -37,20 +28,11 @@ none c =
     let t = c .before .before in
     taken _ _ _ _ (sym (t .answer-to .ensures) ∙ c .enum-told .given .1)
 
-enum-told : tie.Need-enum-told
-enum-told c = search needs
-
-enum-known-made : tie.Need-enum-known-made
-enum-known-made c = search needs
-
 put-spaced-requires : tie.Need-put-spaced-requires
 put-spaced-requires c κs =
     let e = c .before .before .before .before in
     let h = none e in
     (room-next _ _ 4 _ (h .2) (sym (ap (roomOfMade _ _) (c .before .before .made .given .1)) ∙ h .3), search needs, search needs)
-
-enum-known-made-2 : tie.Need-enum-known-made-2
-enum-known-made-2 c = search needs
 
 put-spaced-requires-2 : tie.Need-put-spaced-requires-2
 put-spaced-requires-2 c κs =
@@ -58,20 +40,11 @@ put-spaced-requires-2 c κs =
     let h = none e in
     (room-next _ _ 7 _ (h .2) (sym (ap (roomOfMade _ _) (c .before .before .made2 .given .1)) ∙ h .3), search needs, search needs)
 
-enum-known-made-3 : tie.Need-enum-known-made-3
-enum-known-made-3 c = search needs
-
-same-length : tie.Need-same-length
-same-length c = search needs
-
 returns-2 : tie.Need-returns-2
 returns-2 c =
     let e = c .before .before .before .before .before .before .before in
     let h = none e in
     words-writes _ _ _ _ _ _ _ (h .0) (h .1) (h .2) (sym (e .before .before .before .words-of .ensures) ∙ c .before .before .before .before .before .made .given .1) refl (omega arith) (c .before .before .put-spaced .ensures)
-
-same-length-2 : tie.Need-same-length-2
-same-length-2 c = search needs
 
 returns-3 : tie.Need-returns-3
 returns-3 c =
@@ -90,18 +63,18 @@ pub write-spec : {M : Type 1} → statement M
 write-spec =
     tie.close
     (tie.spec
-    words-of-requires
-    answer-to-requires
-    enum-known-told
+    (λ c κs. search needs)
+    (λ c κs. search needs)
+    (λ c. search needs)
     returns
-    enum-told
-    enum-known-made
+    (λ c. search needs)
+    (λ c. search needs)
     put-spaced-requires
-    enum-known-made-2
+    (λ c. search needs)
     put-spaced-requires-2
-    enum-known-made-3
-    same-length
+    (λ c. search needs)
+    (λ c. search needs)
     returns-2
-    same-length-2
+    (λ c. search needs)
     returns-3
     returns-4)

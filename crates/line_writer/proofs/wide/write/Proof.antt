@@ -17,34 +17,10 @@ returns-2 : tie.Need-returns-2
 unfolding writeAt
 returns-2 c = refused-writes _ _ _ _ _ (passed _ _ (le-ltb _ _ (c .before .if1 .left)) ∙ picked _ _ (lt-ltb _ _ (c .if2 .taken)))
 
-words-of-requires : tie.Need-words-of-requires
-words-of-requires c κs = search needs
-
-enum-known-made : tie.Need-enum-known-made
-enum-known-made c = search needs
-
-put-spaced-requires : tie.Need-put-spaced-requires
-put-spaced-requires c κs = search needs
-
-enum-known-made-2 : tie.Need-enum-known-made-2
-enum-known-made-2 c = search needs
-
-put-spaced-requires-2 : tie.Need-put-spaced-requires-2
-put-spaced-requires-2 c κs = search needs
-
-enum-known-made-3 : tie.Need-enum-known-made-3
-enum-known-made-3 c = search needs
-
-same-length : tie.Need-same-length
-same-length c = search needs
-
 returns-3 : tie.Need-returns-3
 returns-3 c =
     let t = c .before .before .before .before .before .before .before in
     words-writes _ _ _ _ _ _ _ (t .before .before .if1 .left) (t .before .if2 .left) (sym (t .words-of .ensures) ∙ c .before .before .before .before .before .made .given .1) refl (omega arith) (c .before .before .put-spaced .ensures)
-
-same-length-2 : tie.Need-same-length-2
-same-length-2 c = search needs
 
 returns-4 : tie.Need-returns-4
 returns-4 c =
@@ -63,14 +39,14 @@ write-spec =
     (tie.spec
     returns
     returns-2
-    words-of-requires
-    enum-known-made
-    put-spaced-requires
-    enum-known-made-2
-    put-spaced-requires-2
-    enum-known-made-3
-    same-length
+    (λ c κs. search needs)
+    (λ c. search needs)
+    (λ c κs. search needs)
+    (λ c. search needs)
+    (λ c κs. search needs)
+    (λ c. search needs)
+    (λ c. search needs)
     returns-3
-    same-length-2
+    (λ c. search needs)
     returns-4
     returns-5)

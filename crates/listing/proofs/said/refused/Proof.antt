@@ -16,9 +16,6 @@ put-decimal-requires c κs =
     let l3 = twenty (s .args .named) (s .fits .named .fits) in
     (omega arith, omega arith)
 
-slice-aggregate-put-item : tie.Need-slice-aggregate-put-item
-slice-aggregate-put-item c = search needs
-
 put-item-requires : tie.Need-put-item-requires
 put-item-requires c κs =
     let s = c .before .before .before .before .before .before .before in
@@ -30,9 +27,6 @@ put-item-requires c κs =
     let a0 = c .before .before .before .before .put-decimal .ensures .answers in
     let k0 = c .before .before .before .before .put-decimal .kept .0 in
     (omega arith, omega arith)
-
-slice-aggregate-put-item-2 : tie.Need-slice-aggregate-put-item-2
-slice-aggregate-put-item-2 c = search needs
 
 put-item-requires-2 : tie.Need-put-item-requires-2
 put-item-requires-2 c κs =
@@ -47,9 +41,6 @@ put-item-requires-2 c κs =
     let a1 = c .before .before .before .before .put-item .ensures .answers in
     let k1 = c .before .before .before .before .put-item .kept .0 in
     (omega arith, omega arith)
-
-slice-aggregate-put-item-3 : tie.Need-slice-aggregate-put-item-3
-slice-aggregate-put-item-3 c = search needs
 
 put-item-requires-3 : tie.Need-put-item-requires-3
 put-item-requires-3 c κs =
@@ -66,9 +57,6 @@ put-item-requires-3 c κs =
     let a2 = c .before .before .before .before .put-item2 .ensures .answers in
     let k2 = c .before .before .before .before .put-item2 .kept .0 in
     (omega arith, omega arith)
-
-slice-aggregate-put-text : tie.Need-slice-aggregate-put-text
-slice-aggregate-put-text c = search needs
 
 put-text-requires : tie.Need-put-text-requires
 put-text-requires c κs =
@@ -88,9 +76,6 @@ put-text-requires c κs =
     let k3 = c .before .before .before .before .put-item3 .kept .0 in
     (omega arith, omega arith)
 
-same-length : tie.Need-same-length
-same-length c = search needs
-
 returns : tie.Need-returns
 returns c = then (omega arith) (then (omega arith) (then (omega arith) (then (omega arith) (c .before .before .before .before .before .before .before .before .before .before .before .before .before .before .before .before .before .before .before .before .before .before .put-decimal .ensures) (c .before .before .before .before .before .before .before .before .before .before .before .before .before .before .before .before .before .put-item .ensures)) (c .before .before .before .before .before .before .before .before .before .before .before .before .put-item2 .ensures)) (c .before .before .before .before .before .before .before .put-item3 .ensures)) (c .before .before .put-text .ensures)
 
@@ -99,13 +84,13 @@ refused-spec =
     tie.close
     (tie.spec
     put-decimal-requires
-    slice-aggregate-put-item
+    (λ c. search needs)
     put-item-requires
-    slice-aggregate-put-item-2
+    (λ c. search needs)
     put-item-requires-2
-    slice-aggregate-put-item-3
+    (λ c. search needs)
     put-item-requires-3
-    slice-aggregate-put-text
+    (λ c. search needs)
     put-text-requires
-    same-length
+    (λ c. search needs)
     returns)

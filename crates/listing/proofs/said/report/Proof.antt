@@ -15,9 +15,6 @@ put-decimal-requires c κs =
     let l2 = name-short (s .args .kind) in
     (omega arith, omega arith)
 
-slice-aggregate-put-text : tie.Need-slice-aggregate-put-text
-slice-aggregate-put-text c = search needs
-
 put-text-requires : tie.Need-put-text-requires
 put-text-requires c κs =
     let s = c .before .before .before .before .before .before .before in
@@ -42,9 +39,6 @@ put-name-requires c κs =
     let k1 = c .before .before .before .put-text .kept .0 in
     (omega arith, omega arith)
 
-slice-aggregate-put-item : tie.Need-slice-aggregate-put-item
-slice-aggregate-put-item c = search needs
-
 put-item-requires : tie.Need-put-item-requires
 put-item-requires c κs =
     let s = c .before .before .before .before .before .before .before .before .before .before .before .before .before .before .before .before in
@@ -59,9 +53,6 @@ put-item-requires c κs =
     let a2 = c .before .before .before .before .put-name .ensures .answers in
     let k2 = c .before .before .before .before .put-name .kept .0 in
     (omega arith, omega arith)
-
-slice-aggregate-put-text-2 : tie.Need-slice-aggregate-put-text-2
-slice-aggregate-put-text-2 c = search needs
 
 put-text-requires-2 : tie.Need-put-text-requires-2
 put-text-requires-2 c κs =
@@ -80,9 +71,6 @@ put-text-requires-2 c κs =
     let k3 = c .before .before .before .before .put-item .kept .0 in
     (omega arith, omega arith)
 
-same-length : tie.Need-same-length
-same-length c = search needs
-
 returns : tie.Need-returns
 returns c = then (omega arith) (then (omega arith) (then (omega arith) (then (omega arith) (c .before .before .before .before .before .before .before .before .before .before .before .before .before .before .before .before .before .before .before .before .before .put-decimal .ensures) (c .before .before .before .before .before .before .before .before .before .before .before .before .before .before .before .before .put-text .ensures)) (c .before .before .before .before .before .before .before .before .before .before .before .before .put-name .ensures)) (c .before .before .before .before .before .before .before .put-item .ensures)) (c .before .before .put-text2 .ensures)
 
@@ -91,12 +79,12 @@ report-spec =
     tie.close
     (tie.spec
     put-decimal-requires
-    slice-aggregate-put-text
+    (λ c. search needs)
     put-text-requires
     put-name-requires
-    slice-aggregate-put-item
+    (λ c. search needs)
     put-item-requires
-    slice-aggregate-put-text-2
+    (λ c. search needs)
     put-text-requires-2
-    same-length
+    (λ c. search needs)
     returns)

@@ -6,9 +6,6 @@ use borrow.Author.Needs.{needs}
 use Rattle.listing.proofs.said.totals.Statement.{statement}
 use Rattle.listing.proofs.said.totals.Tie as tie
 
-slice-aggregate-put-item : tie.Need-slice-aggregate-put-item
-slice-aggregate-put-item c = search needs
-
 put-item-requires : tie.Need-put-item-requires
 put-item-requires c κs =
     let s = c .before .before .before in
@@ -18,9 +15,6 @@ put-item-requires c κs =
     let l2 = five (s .args .refused) (p .3) in
     let l3 = five (s .args .total) (p .4) in
     (omega arith, omega arith)
-
-slice-aggregate-put-item-2 : tie.Need-slice-aggregate-put-item-2
-slice-aggregate-put-item-2 c = search needs
 
 put-item-requires-2 : tie.Need-put-item-requires-2
 put-item-requires-2 c κs =
@@ -33,9 +27,6 @@ put-item-requires-2 c κs =
     let a0 = c .before .before .before .before .put-item .ensures .answers in
     let k0 = c .before .before .before .before .put-item .kept .0 in
     (omega arith, omega arith)
-
-slice-aggregate-put-item-3 : tie.Need-slice-aggregate-put-item-3
-slice-aggregate-put-item-3 c = search needs
 
 put-item-requires-3 : tie.Need-put-item-requires-3
 put-item-requires-3 c κs =
@@ -50,9 +41,6 @@ put-item-requires-3 c κs =
     let a1 = c .before .before .before .before .put-item2 .ensures .answers in
     let k1 = c .before .before .before .before .put-item2 .kept .0 in
     (omega arith, omega arith)
-
-slice-aggregate-put-item-4 : tie.Need-slice-aggregate-put-item-4
-slice-aggregate-put-item-4 c = search needs
 
 put-item-requires-4 : tie.Need-put-item-requires-4
 put-item-requires-4 c κs =
@@ -69,9 +57,6 @@ put-item-requires-4 c κs =
     let a2 = c .before .before .before .before .put-item3 .ensures .answers in
     let k2 = c .before .before .before .before .put-item3 .kept .0 in
     (omega arith, omega arith)
-
-slice-aggregate-put-text : tie.Need-slice-aggregate-put-text
-slice-aggregate-put-text c = search needs
 
 put-text-requires : tie.Need-put-text-requires
 put-text-requires c κs =
@@ -91,9 +76,6 @@ put-text-requires c κs =
     let k3 = c .before .before .before .before .put-item4 .kept .0 in
     (omega arith, omega arith)
 
-same-length : tie.Need-same-length
-same-length c = search needs
-
 returns : tie.Need-returns
 returns c = then (omega arith) (then (omega arith) (then (omega arith) (then (omega arith) (c .before .before .before .before .before .before .before .before .before .before .before .before .before .before .before .before .before .before .before .before .before .before .put-item .ensures) (c .before .before .before .before .before .before .before .before .before .before .before .before .before .before .before .before .before .put-item2 .ensures)) (c .before .before .before .before .before .before .before .before .before .before .before .before .put-item3 .ensures)) (c .before .before .before .before .before .before .before .put-item4 .ensures)) (c .before .before .put-text .ensures)
 
@@ -101,15 +83,15 @@ pub totals-spec : {M : Type 1} → statement M
 totals-spec =
     tie.close
     (tie.spec
-    slice-aggregate-put-item
+    (λ c. search needs)
     put-item-requires
-    slice-aggregate-put-item-2
+    (λ c. search needs)
     put-item-requires-2
-    slice-aggregate-put-item-3
+    (λ c. search needs)
     put-item-requires-3
-    slice-aggregate-put-item-4
+    (λ c. search needs)
     put-item-requires-4
-    slice-aggregate-put-text
+    (λ c. search needs)
     put-text-requires
-    same-length
+    (λ c. search needs)
     returns)

@@ -8,20 +8,8 @@ use borrow.Author.Needs.{needs}
 use Rattle.report_items.proofs.given.altitude_of.Statement.{statement}
 use Rattle.report_items.proofs.given.altitude_of.Tie as tie
 
-cast-result : tie.Need-cast-result
-cast-result c = search needs
-
 returns : tie.Need-returns
 returns c = toZ-pos w16 (c .if1 .taken) ∙ sym (low _ _ (c .if1 .taken))
-
-sub-below : tie.Need-sub-below
-sub-below c = search needs
-
-sub-result : tie.Need-sub-result
-sub-result c = search needs
-
-cast-result-2 : tie.Need-cast-result-2
-cast-result-2 c = search needs
 
 sub-result-2 : tie.Need-sub-result-2
 sub-result-2 c = minus-fits w16 _ (c .if2 .taken)
@@ -36,11 +24,11 @@ pub altitude-of-spec : {M : Type 1} → statement M
 altitude-of-spec =
     tie.close
     (tie.spec
-    cast-result
+    (λ c. search needs)
     returns
-    sub-below
-    sub-result
-    cast-result-2
+    (λ c. search needs)
+    (λ c. search needs)
+    (λ c. search needs)
     sub-result-2
     returns-2
     returns-3)

@@ -7,78 +7,6 @@ use borrow.Author.Needs.{needs}
 use Rattle.report_items.proofs.given.built_of.Statement.{statement}
 use Rattle.report_items.proofs.given.built_of.Tie as tie
 
-search-given-requires : tie.Need-search-given-requires
-search-given-requires c κs = search needs
-
-strobe-given-requires : tie.Need-strobe-given-requires
-strobe-given-requires c κs = search needs
-
-map-given-requires : tie.Need-map-given-requires
-map-given-requires c κs = search needs
-
-status-given-requires : tie.Need-status-given-requires
-status-given-requires c κs = search needs
-
-rtqc-given-requires : tie.Need-rtqc-given-requires
-rtqc-given-requires c κs = search needs
-
-plain-given-requires : tie.Need-plain-given-requires
-plain-given-requires c κs = search needs
-
-dabs-given-requires : tie.Need-dabs-given-requires
-dabs-given-requires c κs = search needs
-
-cd-given-requires : tie.Need-cd-given-requires
-cd-given-requires c κs = search needs
-
-dabs-given-requires-2 : tie.Need-dabs-given-requires-2
-dabs-given-requires-2 c κs = search needs
-
-mtd-height-given-requires : tie.Need-mtd-height-given-requires
-mtd-height-given-requires c κs = search needs
-
-dabs-given-requires-3 : tie.Need-dabs-given-requires-3
-dabs-given-requires-3 c κs = search needs
-
-rdas-height-given-requires : tie.Need-rdas-height-given-requires
-rdas-height-given-requires c κs = search needs
-
-dabs-given-requires-4 : tie.Need-dabs-given-requires-4
-dabs-given-requires-4 c κs = search needs
-
-plain-given-requires-2 : tie.Need-plain-given-requires-2
-plain-given-requires-2 c κs = search needs
-
-atcrbs-given-requires : tie.Need-atcrbs-given-requires
-atcrbs-given-requires c κs = search needs
-
-cd-given-requires-2 : tie.Need-cd-given-requires-2
-cd-given-requires-2 c κs = search needs
-
-atcrbs-given-requires-2 : tie.Need-atcrbs-given-requires-2
-atcrbs-given-requires-2 c κs = search needs
-
-mtd-height-given-requires-2 : tie.Need-mtd-height-given-requires-2
-mtd-height-given-requires-2 c κs = search needs
-
-atcrbs-given-requires-3 : tie.Need-atcrbs-given-requires-3
-atcrbs-given-requires-3 c κs = search needs
-
-rdas-height-given-requires-2 : tie.Need-rdas-height-given-requires-2
-rdas-height-given-requires-2 c κs = search needs
-
-atcrbs-given-requires-4 : tie.Need-atcrbs-given-requires-4
-atcrbs-given-requires-4 c κs = search needs
-
-mtd-given-requires : tie.Need-mtd-given-requires
-mtd-given-requires c κs = search needs
-
-rdas-given-requires : tie.Need-rdas-given-requires
-rdas-given-requires c κs = search needs
-
-no-record-requires : tie.Need-no-record-requires
-no-record-requires c κs = search needs
-
 returns : tie.Need-returns
 unfolding built
 returns c = rw (c .before .match .keys1) (ap R.Search (c .search-given .ensures))
@@ -163,30 +91,30 @@ pub built-of-spec : {M : Type 1} → statement M
 built-of-spec =
     tie.close
     (tie.spec
-    search-given-requires
-    strobe-given-requires
-    map-given-requires
-    status-given-requires
-    rtqc-given-requires
-    plain-given-requires
-    dabs-given-requires
-    cd-given-requires
-    dabs-given-requires-2
-    mtd-height-given-requires
-    dabs-given-requires-3
-    rdas-height-given-requires
-    dabs-given-requires-4
-    plain-given-requires-2
-    atcrbs-given-requires
-    cd-given-requires-2
-    atcrbs-given-requires-2
-    mtd-height-given-requires-2
-    atcrbs-given-requires-3
-    rdas-height-given-requires-2
-    atcrbs-given-requires-4
-    mtd-given-requires
-    rdas-given-requires
-    no-record-requires
+    (λ c κs. search needs)
+    (λ c κs. search needs)
+    (λ c κs. search needs)
+    (λ c κs. search needs)
+    (λ c κs. search needs)
+    (λ c κs. search needs)
+    (λ c κs. search needs)
+    (λ c κs. search needs)
+    (λ c κs. search needs)
+    (λ c κs. search needs)
+    (λ c κs. search needs)
+    (λ c κs. search needs)
+    (λ c κs. search needs)
+    (λ c κs. search needs)
+    (λ c κs. search needs)
+    (λ c κs. search needs)
+    (λ c κs. search needs)
+    (λ c κs. search needs)
+    (λ c κs. search needs)
+    (λ c κs. search needs)
+    (λ c κs. search needs)
+    (λ c κs. search needs)
+    (λ c κs. search needs)
+    (λ c κs. search needs)
     returns
     returns-2
     returns-3

@@ -6,15 +6,6 @@ use borrow.Author.Needs.{needs}
 use Rattle.report_items.proofs.given.given.Statement.{statement}
 use Rattle.report_items.proofs.given.given.Tie as tie
 
-whole-requires : tie.Need-whole-requires
-whole-requires c κs = search needs
-
-given-by-requires : tie.Need-given-by-requires
-given-by-requires c κs = search needs
-
-no-record-requires : tie.Need-no-record-requires
-no-record-requires c κs = search needs
-
 returns : tie.Need-returns
 unfolding given
 returns c = c .given-by .ensures ∙ sym (picked _ _ (sym (c .before .before .whole .ensures) ∙ c .before .if1 .taken))
@@ -25,4 +16,4 @@ returns-2 c = c .no-record .ensures ∙ sym (passed _ _ (sym (c .before .before 
 
 pub given-spec : {M : Type 1} → statement M
 given-spec =
-    tie.close (tie.spec whole-requires given-by-requires no-record-requires returns returns-2)
+    tie.close (tie.spec (λ c κs. search needs) (λ c κs. search needs) (λ c κs. search needs) returns returns-2)

@@ -14,30 +14,12 @@ use borrow.Author.Needs.{needs}
 use Rattle.report_items.proofs.given.given_by.Statement.{statement}
 use Rattle.report_items.proofs.given.given_by.Tie as tie
 
-size-of-requires : tie.Need-size-of-requires
-size-of-requires c κs = search needs
-
-count-requires : tie.Need-count-requires
-count-requires c κs = search needs
-
-no-record-requires : tie.Need-no-record-requires
-no-record-requires c κs = search needs
-
 returns : tie.Need-returns
 returns c =
     let n = c .before .before in
     let a = n .before .before .before .args in
     c .no-record .ensures
     ∙ sym (by-count (a .kind) (pairsIn (a .items .now)) (λ e. c .before .if1 .taken (n .count .ensures ∙ e ∙ n .before .size-of .ensures _ _)))
-
-gather-requires : tie.Need-gather-requires
-gather-requires c κs = search needs
-
-array-read-built-of : tie.Need-array-read-built-of
-array-read-built-of c = search needs
-
-built-of-requires : tie.Need-built-of-requires
-built-of-requires c κs = search needs
 
 -- the record is the one that the pairs make
 by-told : (kind : ℕ) (ps : List Pair) (t : Told) → t ≡ toldFrom 0 ps → built kind (getD (t .there) 31 false) (t .values) ≡ builtFrom kind ps
@@ -67,9 +49,6 @@ many c =
 agrees-requires : tie.Need-agrees-requires
 agrees-requires c κs = sized c
 
-no-record-requires-2 : tie.Need-no-record-requires-2
-no-record-requires-2 c κs = search needs
-
 -- the test by what is gathered is the test by the pairs
 tested : (r : Report) (ps : List Pair) (t : Told) (b : Bool) → t ≡ toldFrom 0 ps → b ≡ agreeTo 36 r (itemTold t) → agreeTo 36 r (told ps) ≡ b
 tested r ps t b e h = sym (gathered r ps) ∙ ap (λ (x : Told). agreeTo 36 r (itemTold x)) (sym e) ∙ sym h
@@ -89,14 +68,14 @@ pub given-by-spec : {M : Type 1} → statement M
 given-by-spec =
     tie.close
     (tie.spec
-    size-of-requires
-    count-requires
-    no-record-requires
+    (λ c κs. search needs)
+    (λ c κs. search needs)
+    (λ c κs. search needs)
     returns
-    gather-requires
-    array-read-built-of
-    built-of-requires
+    (λ c κs. search needs)
+    (λ c. search needs)
+    (λ c κs. search needs)
     agrees-requires
-    no-record-requires-2
+    (λ c κs. search needs)
     returns-2
     returns-3)

@@ -7,18 +7,6 @@ use borrow.Author.Needs.{needs}
 use Rattle.report_items.proofs.given.plain_given.Statement.{statement}
 use Rattle.report_items.proofs.given.plain_given.Tie as tie
 
-array-read-altitude-of : tie.Need-array-read-altitude-of
-array-read-altitude-of c = search needs
-
-altitude-of-requires : tie.Need-altitude-of-requires
-altitude-of-requires c κs = search needs
-
-array-read-t12 : tie.Need-array-read-t12
-array-read-t12 c = search needs
-
-cast-t14 : tie.Need-cast-t14
-cast-t14 c = search needs
-
 returns : tie.Need-returns
 returns c =
     rw (c .before .if1 .taken) (ap Altitude (toZ-ofZ {w = w16} {z = c .altitude-of .result} (search needs) ∙ c .altitude-of .ensures))
@@ -30,9 +18,9 @@ pub plain-given-spec : {M : Type 1} → statement M
 plain-given-spec =
     tie.close
     (tie.spec
-    array-read-altitude-of
-    altitude-of-requires
-    array-read-t12
-    cast-t14
+    (λ c. search needs)
+    (λ c κs. search needs)
+    (λ c. search needs)
+    (λ c. search needs)
     returns
     returns-2)

@@ -10,15 +10,6 @@ use borrow.Author.Needs.{needs}
 use Rattle.report_items.proofs.given.same_as.Statement.{statement}
 use Rattle.report_items.proofs.given.same_as.Tie as tie
 
-enum-known-b : tie.Need-enum-known-b
-enum-known-b c = search needs
-
-same-number-requires : tie.Need-same-number-requires
-same-number-requires c κs = search needs
-
-enum-told : tie.Need-enum-told
-enum-told c = search needs
-
 returns : tie.Need-returns
 returns c =
     let x = c .before .before .before .before .args .x in
@@ -28,8 +19,5 @@ returns c =
     ∙ ap (sameNumber x) (toZ-ofZ {w = w64} {z = y} (search needs))
     ∙ sym (ap (sameItem (Of x)) (c .before .before .b .given .1))
 
-returns-2 : tie.Need-returns-2
-returns-2 c = search needs
-
 pub same-as-spec : {M : Type 1} → statement M
-same-as-spec = tie.close (tie.spec enum-known-b same-number-requires enum-told returns returns-2)
+same-as-spec = tie.close (tie.spec (λ c. search needs) (λ c κs. search needs) (λ c. search needs) returns (λ c. search needs))

@@ -9,18 +9,6 @@ use borrow.Author.Needs.{needs}
 use Rattle.report_items.proofs.given.signed_of.Statement.{statement}
 use Rattle.report_items.proofs.given.signed_of.Tie as tie
 
-cast-result : tie.Need-cast-result
-cast-result c = search needs
-
-sub-result : tie.Need-sub-result
-sub-result c = search needs
-
-sub-result-2 : tie.Need-sub-result-2
-sub-result-2 c = search needs
-
-cast-result-2 : tie.Need-cast-result-2
-cast-result-2 c = search needs
-
 sub-result-3 : tie.Need-sub-result-3
 sub-result-3 c =
     let h : 18446744073709551615 - c .before .args .v < 9223372036854775808 = omega arith in
@@ -37,4 +25,4 @@ returns-2 c =
 pub signed-of-spec : {M : Type 1} → statement M
 signed-of-spec =
     tie.close
-    (tie.spec cast-result sub-result sub-result-2 cast-result-2 sub-result-3 returns returns-2)
+    (tie.spec (λ c. search needs) (λ c. search needs) (λ c. search needs) (λ c. search needs) sub-result-3 returns returns-2)

@@ -13,15 +13,6 @@ use borrow.Author.Needs.{needs}
 use Rattle.report_items.proofs.given.stands.Statement.{statement}
 use Rattle.report_items.proofs.given.stands.Tie as tie
 
-item-of-requires : tie.Need-item-of-requires
-item-of-requires c κs = search needs
-
-signed-of-requires : tie.Need-signed-of-requires
-signed-of-requires c κs = search needs
-
-same-requires : tie.Need-same-requires
-same-requires c κs = search needs
-
 returns : tie.Need-returns
 returns c =
     let t = c .before .before .before in
@@ -31,9 +22,6 @@ returns c =
     ∙ ap (λ (z : ℤ). sameItem (itemOf (a .report) (a .n)) (Of z)) (toZ-ofZ {w = w64} {z = c .before .signed-of .result} (search needs) ∙ c .before .signed-of .ensures)
     ∙ sym (picked _ _ (t .if1 .taken))
 
-returns-2 : tie.Need-returns-2
-returns-2 c = search needs
-
 pub stands-spec : {M : Type 1} → statement M
 stands-spec =
-    tie.close (tie.spec item-of-requires signed-of-requires same-requires returns returns-2)
+    tie.close (tie.spec (λ c κs. search needs) (λ c κs. search needs) (λ c κs. search needs) returns (λ c. search needs))

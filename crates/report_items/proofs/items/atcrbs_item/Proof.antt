@@ -4,57 +4,6 @@ use borrow.Author.Tests.{ne-eqb}
 use Rattle.report_items.proofs.items.atcrbs_item.Statement.{statement}
 use Rattle.report_items.proofs.items.atcrbs_item.Tie as tie
 
-flag-requires : tie.Need-flag-requires
-flag-requires c κs = search needs
-
-flag-requires-2 : tie.Need-flag-requires-2
-flag-requires-2 c κs = search needs
-
-flag-requires-3 : tie.Need-flag-requires-3
-flag-requires-3 c κs = search needs
-
-flag-requires-4 : tie.Need-flag-requires-4
-flag-requires-4 c κs = search needs
-
-flag-requires-5 : tie.Need-flag-requires-5
-flag-requires-5 c κs = search needs
-
-flag-requires-6 : tie.Need-flag-requires-6
-flag-requires-6 c κs = search needs
-
-flag-requires-7 : tie.Need-flag-requires-7
-flag-requires-7 c κs = search needs
-
-count-requires : tie.Need-count-requires
-count-requires c κs = search needs
-
-count-requires-2 : tie.Need-count-requires-2
-count-requires-2 c κs = search needs
-
-flag-requires-8 : tie.Need-flag-requires-8
-flag-requires-8 c κs = search needs
-
-flag-requires-9 : tie.Need-flag-requires-9
-flag-requires-9 c κs = search needs
-
-flag-requires-10 : tie.Need-flag-requires-10
-flag-requires-10 c κs = search needs
-
-flag-requires-11 : tie.Need-flag-requires-11
-flag-requires-11 c κs = search needs
-
-small-requires : tie.Need-small-requires
-small-requires c κs = search needs
-
-count-requires-3 : tie.Need-count-requires-3
-count-requires-3 c κs = search needs
-
-count-requires-4 : tie.Need-count-requires-4
-count-requires-4 c κs = search needs
-
-height-item-requires : tie.Need-height-item-requires
-height-item-requires c κs = search needs
-
 returns : tie.Need-returns
 returns c = rw (c .before .match .keys1) (c .flag .ensures)
 
@@ -110,23 +59,23 @@ pub atcrbs-item-spec : {M : Type 1} → statement M
 atcrbs-item-spec =
     tie.close
     (tie.spec
-    flag-requires
-    flag-requires-2
-    flag-requires-3
-    flag-requires-4
-    flag-requires-5
-    flag-requires-6
-    flag-requires-7
-    count-requires
-    count-requires-2
-    flag-requires-8
-    flag-requires-9
-    flag-requires-10
-    flag-requires-11
-    small-requires
-    count-requires-3
-    count-requires-4
-    height-item-requires
+    (λ c κs. search needs)
+    (λ c κs. search needs)
+    (λ c κs. search needs)
+    (λ c κs. search needs)
+    (λ c κs. search needs)
+    (λ c κs. search needs)
+    (λ c κs. search needs)
+    (λ c κs. search needs)
+    (λ c κs. search needs)
+    (λ c κs. search needs)
+    (λ c κs. search needs)
+    (λ c κs. search needs)
+    (λ c κs. search needs)
+    (λ c κs. search needs)
+    (λ c κs. search needs)
+    (λ c κs. search needs)
+    (λ c κs. search needs)
     returns
     returns-2
     returns-3

@@ -4,9 +4,6 @@ use borrow.Author.Tests.{ne-eqb}
 use Rattle.report_items.proofs.items.carried_item.Statement.{statement}
 use Rattle.report_items.proofs.items.carried_item.Tie as tie
 
-count-requires : tie.Need-count-requires
-count-requires c κs = search needs
-
 returns : tie.Need-returns
 returns c = rw (c .before .match .keys1) (c .count .ensures)
 
@@ -17,6 +14,6 @@ pub carried-item-spec : {M : Type 1} → statement M
 carried-item-spec =
     tie.close
     (tie.spec
-    count-requires
+    (λ c κs. search needs)
     returns
     returns-2)

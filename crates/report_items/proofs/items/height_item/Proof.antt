@@ -15,36 +15,6 @@ use Rattle.report_items.proofs.items.height_item.Tie as tie
 abbrev held : Height → ℕ → Item
 held h n = lookup n (heightItems h)
 
-enum-known-h : tie.Need-enum-known-h
-enum-known-h c = search needs
-
-altitude-item-requires : tie.Need-altitude-item-requires
-altitude-item-requires c κs = search needs
-
-enum-known-h-2 : tie.Need-enum-known-h-2
-enum-known-h-2 c = search needs
-
-carried-item-requires : tie.Need-carried-item-requires
-carried-item-requires c κs = search needs
-
-enum-known-h-3 : tie.Need-enum-known-h-3
-enum-known-h-3 c = search needs
-
-cd-item-requires : tie.Need-cd-item-requires
-cd-item-requires c κs = search needs
-
-enum-known-h-4 : tie.Need-enum-known-h-4
-enum-known-h-4 c = search needs
-
-quality-item-requires : tie.Need-quality-item-requires
-quality-item-requires c κs = search needs
-
-enum-known-h-5 : tie.Need-enum-known-h-5
-enum-known-h-5 c = search needs
-
-quality-item-requires-2 : tie.Need-quality-item-requires-2
-quality-item-requires-2 c κs = search needs
-
 returns : tie.Need-returns
 returns c = c .altitude-item .ensures ∙ ap (λ (z : ℤ). held (Altitude z) (c .before .before .before .before .args .item)) (toZ-ofZ {w = w16} {z = c .before .before .h .given .0 .0} (search needs)) ∙ sym (ap (λ (h : Height). held h (c .before .before .before .before .args .item)) (c .before .before .h .given .1))
 
@@ -64,16 +34,16 @@ pub height-item-spec : {M : Type 1} → statement M
 height-item-spec =
     tie.close
     (tie.spec
-    enum-known-h
-    altitude-item-requires
-    enum-known-h-2
-    carried-item-requires
-    enum-known-h-3
-    cd-item-requires
-    enum-known-h-4
-    quality-item-requires
-    enum-known-h-5
-    quality-item-requires-2
+    (λ c. search needs)
+    (λ c κs. search needs)
+    (λ c. search needs)
+    (λ c κs. search needs)
+    (λ c. search needs)
+    (λ c κs. search needs)
+    (λ c. search needs)
+    (λ c κs. search needs)
+    (λ c. search needs)
+    (λ c κs. search needs)
     returns
     returns-2
     returns-3

@@ -6,60 +6,6 @@ use borrow.Author.Needs.{needs}
 use Rattle.report_items.proofs.items.item_of.Statement.{statement}
 use Rattle.report_items.proofs.items.item_of.Tie as tie
 
-enum-known-report : tie.Need-enum-known-report
-enum-known-report c = search needs
-
-search-item-requires : tie.Need-search-item-requires
-search-item-requires c κs = search needs
-
-enum-known-report-2 : tie.Need-enum-known-report-2
-enum-known-report-2 c = search needs
-
-strobe-item-requires : tie.Need-strobe-item-requires
-strobe-item-requires c κs = search needs
-
-enum-known-report-3 : tie.Need-enum-known-report-3
-enum-known-report-3 c = search needs
-
-map-item-requires : tie.Need-map-item-requires
-map-item-requires c κs = search needs
-
-enum-known-report-4 : tie.Need-enum-known-report-4
-enum-known-report-4 c = search needs
-
-status-item-requires : tie.Need-status-item-requires
-status-item-requires c κs = search needs
-
-enum-known-report-5 : tie.Need-enum-known-report-5
-enum-known-report-5 c = search needs
-
-rtqc-item-requires : tie.Need-rtqc-item-requires
-rtqc-item-requires c κs = search needs
-
-enum-known-report-6 : tie.Need-enum-known-report-6
-enum-known-report-6 c = search needs
-
-dabs-item-requires : tie.Need-dabs-item-requires
-dabs-item-requires c κs = search needs
-
-enum-known-report-7 : tie.Need-enum-known-report-7
-enum-known-report-7 c = search needs
-
-atcrbs-item-requires : tie.Need-atcrbs-item-requires
-atcrbs-item-requires c κs = search needs
-
-enum-known-report-8 : tie.Need-enum-known-report-8
-enum-known-report-8 c = search needs
-
-mtd-item-requires : tie.Need-mtd-item-requires
-mtd-item-requires c κs = search needs
-
-enum-known-report-9 : tie.Need-enum-known-report-9
-enum-known-report-9 c = search needs
-
-rdas-item-requires : tie.Need-rdas-item-requires
-rdas-item-requires c κs = search needs
-
 returns : tie.Need-returns
 returns c = c .search-item .ensures ∙ sym (ap (λ (r : Report). itemOf r (c .before .before .before .before .args .item)) (c .before .before .report .given .1))
 
@@ -91,24 +37,24 @@ pub item-of-spec : {M : Type 1} → statement M
 item-of-spec =
     tie.close
     (tie.spec
-    enum-known-report
-    search-item-requires
-    enum-known-report-2
-    strobe-item-requires
-    enum-known-report-3
-    map-item-requires
-    enum-known-report-4
-    status-item-requires
-    enum-known-report-5
-    rtqc-item-requires
-    enum-known-report-6
-    dabs-item-requires
-    enum-known-report-7
-    atcrbs-item-requires
-    enum-known-report-8
-    mtd-item-requires
-    enum-known-report-9
-    rdas-item-requires
+    (λ c. search needs)
+    (λ c κs. search needs)
+    (λ c. search needs)
+    (λ c κs. search needs)
+    (λ c. search needs)
+    (λ c κs. search needs)
+    (λ c. search needs)
+    (λ c κs. search needs)
+    (λ c. search needs)
+    (λ c κs. search needs)
+    (λ c. search needs)
+    (λ c κs. search needs)
+    (λ c. search needs)
+    (λ c κs. search needs)
+    (λ c. search needs)
+    (λ c κs. search needs)
+    (λ c. search needs)
+    (λ c κs. search needs)
     returns
     returns-2
     returns-3

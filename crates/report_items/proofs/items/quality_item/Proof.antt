@@ -4,12 +4,6 @@ use borrow.Author.Tests.{ne-eqb}
 use Rattle.report_items.proofs.items.quality_item.Statement.{statement}
 use Rattle.report_items.proofs.items.quality_item.Tie as tie
 
-flag-requires : tie.Need-flag-requires
-flag-requires c κs = search needs
-
-small-requires : tie.Need-small-requires
-small-requires c κs = search needs
-
 returns : tie.Need-returns
 returns c = rw (c .before .match .keys1) (c .flag .ensures)
 
@@ -23,8 +17,8 @@ pub quality-item-spec : {M : Type 1} → statement M
 quality-item-spec =
     tie.close
     (tie.spec
-    flag-requires
-    small-requires
+    (λ c κs. search needs)
+    (λ c κs. search needs)
     returns
     returns-2
     returns-3)

@@ -4,24 +4,6 @@ use borrow.Author.Tests.{ne-eqb}
 use Rattle.report_items.proofs.items.rtqc_item.Statement.{statement}
 use Rattle.report_items.proofs.items.rtqc_item.Tie as tie
 
-flag-requires : tie.Need-flag-requires
-flag-requires c κs = search needs
-
-flag-requires-2 : tie.Need-flag-requires-2
-flag-requires-2 c κs = search needs
-
-count-requires : tie.Need-count-requires
-count-requires c κs = search needs
-
-count-requires-2 : tie.Need-count-requires-2
-count-requires-2 c κs = search needs
-
-small-requires : tie.Need-small-requires
-small-requires c κs = search needs
-
-small-requires-2 : tie.Need-small-requires-2
-small-requires-2 c κs = search needs
-
 returns : tie.Need-returns
 returns c = rw (c .before .match .keys1) (c .flag .ensures)
 
@@ -47,12 +29,12 @@ pub rtqc-item-spec : {M : Type 1} → statement M
 rtqc-item-spec =
     tie.close
     (tie.spec
-    flag-requires
-    flag-requires-2
-    count-requires
-    count-requires-2
-    small-requires
-    small-requires-2
+    (λ c κs. search needs)
+    (λ c κs. search needs)
+    (λ c κs. search needs)
+    (λ c κs. search needs)
+    (λ c κs. search needs)
+    (λ c κs. search needs)
     returns
     returns-2
     returns-3

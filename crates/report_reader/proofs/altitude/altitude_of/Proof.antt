@@ -22,9 +22,6 @@ minus-fits : (n : ℕ) → n < 2048 → SFits w16 (negℤ (pos n))
 minus-fits zero h = record { sfits = lit< tt }
 minus-fits (suc n) h = record { sfits = omega arith }
 
-cast-magnitude : tie.Need-cast-magnitude
-cast-magnitude c = search needs
-
 sub-result : tie.Need-sub-result
 sub-result c = subst (λ (z : ℤ). SFits w16 z) (sym (minus (c .before .args .n % 2048) (omega arith))) (minus-fits (c .before .args .n % 2048) (omega arith))
 
@@ -35,4 +32,4 @@ returns-2 : tie.Need-returns-2
 returns-2 c = simp (ne-eqb _ _ (c .if1 .left)) (plus (c .before .args .n % 2048) (omega arith))
 
 pub altitude-of-spec : {M : Type 1} → statement M
-altitude-of-spec = tie.close (tie.spec cast-magnitude sub-result returns returns-2)
+altitude-of-spec = tie.close (tie.spec (λ c. search needs) sub-result returns returns-2)

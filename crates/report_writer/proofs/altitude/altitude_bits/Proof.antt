@@ -20,18 +20,6 @@ below-plus z n e h s = simp (sym e, le-leb n 2047 h, s)
 above : (z : ℤ) (n : ℕ) → n ≡ natAbs z → 2047 < n → 4096 ≡ signMagnitude .bitsOf z
 above z n e h = simp (sym e, lt-leb n 2047 h)
 
-magnitude-requires : tie.Need-magnitude-requires
-magnitude-requires c κs = search needs
-
-is-negative-requires : tie.Need-is-negative-requires
-is-negative-requires c κs = search needs
-
-add-result : tie.Need-add-result
-add-result c = search needs
-
-add-result-2 : tie.Need-add-result-2
-add-result-2 c = search needs
-
 returns : tie.Need-returns
 returns c = (below-minus (c .before .before .before .before .args .z) _ (c .before .before .before .magnitude .ensures ∙ ap natAbs (toZ-ofZ (c .before .before .before .before .fits .z))) (c .before .before .if1 .taken) (sym (c .before .is-negative .ensures ∙ ap negative (toZ-ofZ (c .before .before .before .before .fits .z))) ∙ c .if2 .taken), omega arith)
 
@@ -45,10 +33,10 @@ pub altitude-bits-spec : {M : Type 1} → statement M
 altitude-bits-spec =
     tie.close
     (tie.spec
-    magnitude-requires
-    is-negative-requires
-    add-result
-    add-result-2
+    (λ c κs. search needs)
+    (λ c κs. search needs)
+    (λ c. search needs)
+    (λ c. search needs)
     returns
     returns-2
     returns-3)

@@ -60,8 +60,5 @@ returns c =
     let x = toZ w16 (ofZ w16 (c .before .args .z)) in
     ap natAbs (minus-read x (sfits-toZ (fits-ofZ (c .before .fits .z)))) ∙ minus-abs x ∙ ap natAbs (toZ-ofZ (c .before .fits .z))
 
-returns-2 : tie.Need-returns-2
-returns-2 c = search needs
-
 pub magnitude-spec : {M : Type 1} → statement M
-magnitude-spec = tie.close (tie.spec cast-n sub-n cast-result cast-result-2 returns returns-2)
+magnitude-spec = tie.close (tie.spec cast-n sub-n cast-result cast-result-2 returns (λ c. search needs))

@@ -10,57 +10,6 @@ use Rattle.reports.proofs.values.values_of.Tie as tie
 moved : (r s : Report) (v : Values) → r ≡ s → Yields (countedOf s) v → Yields (countedOf r) v
 moved r s v e h = subst (λ (x : Report). Yields (countedOf x) v) (sym e) h
 
-enum-known-report : tie.Need-enum-known-report
-enum-known-report c = search needs
-
-coarse-requires : tie.Need-coarse-requires
-coarse-requires c κs = search needs
-
-enum-known-report-2 : tie.Need-enum-known-report-2
-enum-known-report-2 c = search needs
-
-coarse-requires-2 : tie.Need-coarse-requires-2
-coarse-requires-2 c κs = search needs
-
-enum-known-report-3 : tie.Need-enum-known-report-3
-enum-known-report-3 c = search needs
-
-coarse-requires-3 : tie.Need-coarse-requires-3
-coarse-requires-3 c κs = search needs
-
-enum-told : tie.Need-enum-told
-enum-told c = search needs
-
-enum-known-report-4 : tie.Need-enum-known-report-4
-enum-known-report-4 c = search needs
-
-coarse-requires-4 : tie.Need-coarse-requires-4
-coarse-requires-4 c κs = search needs
-
-enum-known-report-5 : tie.Need-enum-known-report-5
-enum-known-report-5 c = search needs
-
-fine-requires : tie.Need-fine-requires
-fine-requires c κs = search needs
-
-enum-known-report-6 : tie.Need-enum-known-report-6
-enum-known-report-6 c = search needs
-
-fine-requires-2 : tie.Need-fine-requires-2
-fine-requires-2 c κs = search needs
-
-enum-known-report-7 : tie.Need-enum-known-report-7
-enum-known-report-7 c = search needs
-
-fine-requires-3 : tie.Need-fine-requires-3
-fine-requires-3 c κs = search needs
-
-enum-known-report-8 : tie.Need-enum-known-report-8
-enum-known-report-8 c = search needs
-
-fine-requires-4 : tie.Need-fine-requires-4
-fine-requires-4 c κs = search needs
-
 returns : tie.Need-returns
 returns c = moved _ _ _ (c .before .before .report .given .1) (c .coarse .ensures)
 
@@ -92,23 +41,23 @@ pub values-of-spec : {M : Type 1} → statement M
 values-of-spec =
     tie.close
     (tie.spec
-    enum-known-report
-    coarse-requires
-    enum-known-report-2
-    coarse-requires-2
-    enum-known-report-3
-    coarse-requires-3
-    enum-told
-    enum-known-report-4
-    coarse-requires-4
-    enum-known-report-5
-    fine-requires
-    enum-known-report-6
-    fine-requires-2
-    enum-known-report-7
-    fine-requires-3
-    enum-known-report-8
-    fine-requires-4
+    (λ c. search needs)
+    (λ c κs. search needs)
+    (λ c. search needs)
+    (λ c κs. search needs)
+    (λ c. search needs)
+    (λ c κs. search needs)
+    (λ c. search needs)
+    (λ c. search needs)
+    (λ c κs. search needs)
+    (λ c. search needs)
+    (λ c κs. search needs)
+    (λ c. search needs)
+    (λ c κs. search needs)
+    (λ c. search needs)
+    (λ c κs. search needs)
+    (λ c. search needs)
+    (λ c κs. search needs)
     returns
     returns-2
     returns-3

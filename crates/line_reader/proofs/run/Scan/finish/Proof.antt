@@ -15,18 +15,9 @@ use native.Mathlib.Omega.{arith}
 use Rattle.line_reader.proofs.run.Scan.finish.Statement.{statement}
 use Rattle.line_reader.proofs.run.Scan.finish.Tie as tie
 
-new-requires : tie.Need-new-requires
-new-requires c κs = search needs
-
 returns : tie.Need-returns
 unfolding finished
 returns c = c .new .ensures ∙ sym (picked _ _ (eq-eqb _ _ (c .before .if1 .taken)))
-
-judge-requires : tie.Need-judge-requires
-judge-requires c κs = search needs
-
-add-set-at : tie.Need-add-set-at
-add-set-at c = search needs
 
 set-at-requires : tie.Need-set-at-requires
 set-at-requires c κs =
@@ -49,4 +40,4 @@ returns-2 c =
 
 pub finish-spec : {M : Type 1} → statement M
 finish-spec =
-    tie.close (tie.spec new-requires returns judge-requires add-set-at set-at-requires returns-2)
+    tie.close (tie.spec (λ c κs. search needs) returns (λ c κs. search needs) (λ c. search needs) set-at-requires returns-2)

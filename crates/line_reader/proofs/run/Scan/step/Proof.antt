@@ -9,32 +9,11 @@ use borrow.Author.Needs.{needs}
 use Rattle.line_reader.proofs.run.Scan.step.Statement.{statement}
 use Rattle.line_reader.proofs.run.Scan.step.Tie as tie
 
-is-idle-requires : tie.Need-is-idle-requires
-is-idle-requires c κs = search needs
-
-add-t6 : tie.Need-add-t6
-add-t6 c = search needs
-
 returns : tie.Need-returns
 returns c = sym (picked _ _ (sym (c .before .before .before .is-idle .ensures) ∙ c .before .before .if1 .taken) ∙ picked _ _ (eq-eqb _ _ (c .before .if2 .taken)))
 
 returns-2 : tie.Need-returns-2
 returns-2 c = sym (picked _ _ (sym (c .before .before .is-idle .ensures) ∙ c .before .if1 .taken) ∙ passed _ _ (ne-eqb _ _ (c .if2 .left)))
-
-add-t7 : tie.Need-add-t7
-add-t7 c = search needs
-
-is-wide-requires : tie.Need-is-wide-requires
-is-wide-requires c κs = search needs
-
-first-more-requires : tie.Need-first-more-requires
-first-more-requires c κs = search needs
-
-is-odd-requires : tie.Need-is-odd-requires
-is-odd-requires c κs = search needs
-
-first-more-requires-2 : tie.Need-first-more-requires-2
-first-more-requires-2 c κs = search needs
 
 returns-3 : tie.Need-returns-3
 returns-3 c =
@@ -54,13 +33,13 @@ pub step-spec : {M : Type 1} → statement M
 step-spec =
     tie.close
     (tie.spec
-    is-idle-requires
-    add-t6
+    (λ c κs. search needs)
+    (λ c. search needs)
     returns
     returns-2
-    add-t7
-    is-wide-requires
-    first-more-requires
-    is-odd-requires
-    first-more-requires-2
+    (λ c. search needs)
+    (λ c κs. search needs)
+    (λ c κs. search needs)
+    (λ c κs. search needs)
+    (λ c κs. search needs)
     returns-3)
