@@ -4,9 +4,7 @@ use mathlib.Core.Path.{_≡_, refl, ap, sym, _∙_}
 use mathlib.Core.Logic.{⊎-elim}
 use mathlib.Core.List.{List, [], _∷_, _++_}
 use native.Mathlib.Omega.{arith}
-use lib.Dec.{eqb, ltb}
 use lib.ListN.{length, take, drop}
-use Rattle.refusals.specs.declared.LineRefusal.the-variants.{LineTooLong, OddByteCount}
 use Rattle.words.specs.Word.{idle, AllGood}
 use Rattle.reports.specs.declared.Report.{Report}
 use Rattle.reports.specs.Altitude.{AltitudeForm}
@@ -14,13 +12,12 @@ use Rattle.reports.specs.Layouts.{wordsOf}
 use Rattle.reports.proofs.Demand2.{words-good}
 use Rattle.lines.specs.declared.Wrote.{Wrote}
 use Rattle.lines.specs.declared.Wrote.the-variants as W
-use Rattle.lines.specs.Bytes.{mostBytes, wordsIn}
+use Rattle.lines.specs.Bytes.{wordsIn, bytesOf}
 use Rattle.lines.specs.Writing.{leftBy}
-use Rattle.lines.specs.ByteWriting.{bytesOf, writeBytes, bytesLeft}
+use Rattle.lines.specs.ByteWriting.{writeBytes, bytesLeft}
 use Rattle.lines.specs.Claims.{SameWords}
-use Rattle.words.proofs.Tests.{picked, passed, by-test}
 use Rattle.lines.proofs.ByteWords.{words-length}
-use Rattle.lines.proofs.Puts.{write-cases}
+use Rattle.lines.proofs.Puts.{byte-cases}
 
 -- ---- the words of bytes in parts
 
@@ -72,11 +69,7 @@ same form bytes place r w e h =
     ap (λ (x : Wrote). wordsIn (bytesLeft x bytes place (wordsOf form r))) e ∙ h ∙ ap (λ (x : Wrote). leftBy x (wordsIn bytes) place (wordsOf form r)) (sym e)
 
 pub same-words : SameWords
-unfolding writeBytes
 same-words form bytes place r =
-    by-test (ltb mostBytes (length bytes)) (λ a. same form bytes place r (W.Refused LineTooLong place) (picked _ _ a) refl)
-    (λ a. by-test (eqb (length bytes % 2) 1) (λ b. same form bytes place r (W.Refused OddByteCount place) (passed _ _ a ∙ picked _ _ b) refl)
-    (λ b.
-    ⊎-elim (λ h. same form bytes place r (W.Refused (h .0) place) (passed _ _ a ∙ passed _ _ b ∙ h .1) refl)
-    (λ h. same form bytes place r (W.Next (place + length (wordsOf form r) + 1)) (passed _ _ a ∙ passed _ _ b ∙ h .2) (left-words form bytes place r (words-good form r (h .0)) (h .1)))
-    (write-cases form (wordsIn bytes) place r)))
+    ⊎-elim (λ h. same form bytes place r (W.Refused (h .0) place) (h .1) refl)
+    (λ h. same form bytes place r (W.Next (place + length (wordsOf form r) + 1)) (h .3) (left-words form bytes place r (words-good form r (h .0)) (h .2)))
+    (byte-cases form bytes place r)

@@ -2,10 +2,11 @@
 use mathlib.Core.Path.{refl}
 use lib.Count.{ones, onesIn}
 use Rattle.words.specs.Word.{first}
-use Rattle.reports.specs.Conditions.{zeros, fourZeros}
+use Rattle.reports.specs.Records.{reportOf, sevenOf, fourOf, heightOf}
+use Rattle.reports.specs.Conditions.{zeros, sevenSpares, fourZeros, heightSpares}
 use Rattle.lines.specs.Line.{gap, stretch, readBy, calls}
 use Rattle.lines.specs.Claims.{FlippedBit}
 
 pub flipped-bit : FlippedBit
-unfolding readBy gap stretch calls first ones onesIn zeros fourZeros
-flipped-bit = refl
+unfolding readBy gap stretch calls first ones onesIn reportOf sevenOf fourOf heightOf zeros sevenSpares fourZeros heightSpares
+flipped-bit = record { before = refl; of-atcrbs = refl; one-bit = refl; after = refl; of-search = refl }

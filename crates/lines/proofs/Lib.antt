@@ -9,5 +9,4 @@ pub mod Refused
 pub mod Back
 pub mod Written
 pub mod Flipped
-pub mod BytePuts
 pub mod ByteLeft

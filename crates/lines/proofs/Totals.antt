@@ -15,7 +15,8 @@ use Rattle.lines.specs.declared.What.{What}
 use Rattle.lines.specs.declared.What.the-variants as W
 use Rattle.lines.specs.declared.Outcome.{Outcome}
 use Rattle.lines.specs.Line.{most, endOf, whatOf, isReport, isRefusal, placed, outcomes}
-use Rattle.lines.specs.Stretches.{Run, closed, runsFrom, runs, idleWords, isAccepted, wordsWhere}
+use Rattle.reports.specs.Runs.{isAccepted}
+use Rattle.lines.specs.Stretches.{Run, closed, runsFrom, runs, idleWords, wordsWhere}
 use Rattle.lines.specs.Claims.{Answer, alone, spanned, TotalsAdd, TotalsCounted}
 use Rattle.words.proofs.Tests.{picked, passed, by-test}
 use Rattle.lines.proofs.Runs.{All, all-runs}

@@ -34,7 +34,7 @@ accepts : (form : AltitudeForm) (line : List ℕ) (place p : ℕ) (r : Report) �
 accepts form line place p r e =
     ⊎-elim
     (λ h. let f = h .1 in let z : _≡_ {A = ℕ} 0 1 = cc in absurd (omega arith))
-    (λ h. let f = h .2 in record { room = h .1; there = cc })
+    (λ h. let f = h .3 in record { room = h .2; there = cc })
     (write-cases form line place r)
 
 pub composed : Composed
@@ -68,7 +68,7 @@ only-its-words form line place p r e =
 
 pub refused-leaves : RefusedLeaves
 refused-leaves form line place p r q e = (
-  ⊎-elim (λ h. let f = h .1 in cc) (λ h. let f = h .2 in let z : _≡_ {A = ℕ} 0 1 = cc in absurd (omega arith)) (write-cases form line place r),
+  ⊎-elim (λ h. let f = h .1 in cc) (λ h. let f = h .3 in let z : _≡_ {A = ℕ} 0 1 = cc in absurd (omega arith)) (write-cases form line place r),
   ap (λ (w : Wrote). leftBy w line place (wordsOf form r)) e,
 )
 
@@ -156,8 +156,8 @@ put-all form (r ∷ rs) pre g m =
       (refl, ahead-one (k .0) (k .3)),
       ap (λ (l : List Report). r ∷ l)
           (k .4 ∙ sym (ap (λ (l : List ℕ). taken form l (place + length ws + 1) rs) e ∙ ap (λ (p : ℕ). taken form (spread pre′ 1 m′) p rs) there))
-          ∙ sym (ap (λ (w : Wrote). among w r (taken form (leftBy w line place (wordsOf form r)) (next w) rs)) (h .2)),
-      ap (λ (w : Wrote). puts form (leftBy w line place (wordsOf form r)) (next w) rs) (h .2)
+          ∙ sym (ap (λ (w : Wrote). among w r (taken form (leftBy w line place (wordsOf form r)) (next w) rs)) (h .3)),
+      ap (λ (w : Wrote). puts form (leftBy w line place (wordsOf form r)) (next w) rs) (h .3)
           ∙ ap (λ (l : List ℕ). puts form l (place + length ws + 1) rs) e
           ∙ ap (λ (p : ℕ). puts form (spread pre′ 1 m′) p rs) there
           ∙ k .5

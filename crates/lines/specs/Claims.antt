@@ -2,19 +2,21 @@
 -- to a run. Proved in proofs/: the file is named at each.
 use Prim.Native.Nat.{ℕ, _+_, _-_, _/_, _≤_, _<_}
 use mathlib.Core.Logic.{_↔_, _⊎_}
-use mathlib.Core.Bool.{Bool, false, cond}
+use mathlib.Core.Bool.{Bool, true, false, cond}
 use mathlib.Core.Path.{_≡_}
 use mathlib.Core.List.{List, [], _∷_, _++_, map}
 use lib.Dec.{ltb}
 use lib.ListN.{length, take, drop, replicate}
+use Rattle.rows.specs.Claims.{FirstIs}
 use Rattle.refusals.specs.declared.LineRefusal.{LineRefusal}
 use Rattle.refusals.specs.declared.LineRefusal.the-variants.{WrongLength}
-use Rattle.words.specs.Word.{idle}
+use Rattle.words.specs.Word.{idle, flipped}
 use Rattle.reports.specs.declared.Report.{Report}
 use Rattle.reports.specs.declared.RunAnswer.{RunAnswer}
 use Rattle.reports.specs.declared.RunAnswer.the-variants as A
+use Rattle.reports.specs.declared.kinds.Kind.the-variants as K
+use Rattle.reports.specs.Kinds.{kindOf}
 use Rattle.reports.specs.Altitude.{AltitudeForm, Sound, signMagnitude}
-use Rattle.reports.specs.Claims.{Hit}
 use Rattle.reports.specs.Layouts.{wordsOf, Fits}
 use Rattle.reports.specs.Records.{reportOf}
 use Rattle.reports.specs.Runs.{readRun}
@@ -24,11 +26,11 @@ use Rattle.lines.specs.declared.Outcome.{Outcome}
 use Rattle.lines.specs.declared.Wrote.the-variants as P
 use Rattle.lines.specs.Line.{most, outcomeOf, endOf, isReport, isRefusal, isEnd, readBy, readAt, calls, outcomes}
 use Rattle.lines.specs.Bytes.{wordsIn, readBytes}
-use Rattle.lines.specs.ByteWriting.{writeBytes, bytesLeft}
+use Rattle.lines.specs.ByteWriting.{byteWriterRows, writeBytes, bytesLeft}
 use Rattle.lines.specs.Stretches.{Run, runs, idleWords, reportedWords, refusedWords}
 use Rattle.lines.specs.Spaced.{Spaced, lineOf, reportsOf, AllFit, Apart, back}
-use Rattle.lines.specs.Rows.{rowsAt, byteRowsAt, writerRowsAt, byteWriterRowsAt}
-use Rattle.lines.specs.Writing.{writeAt, leftBy, put, puts, taken}
+use Rattle.lines.specs.Rows.{rowsAt, byteRowsAt}
+use Rattle.lines.specs.Writing.{writerRows, writeAt, leftBy, puts, taken}
 
 -- what looks at the words of a run
 abbrev pub Answer : Type 0
@@ -36,26 +38,26 @@ Answer = List ℕ → RunAnswer
 
 -- ---- demand 1: each refusal exactly under its condition (proofs/Refused.antt)
 
--- a refusal is given, and a place named, exactly where its row is the first of the table that holds
+-- a refusal is given, with all its places, exactly where its row is the first of the table that holds
 abbrev pub ReaderRefuses : Type 0
 ReaderRefuses =
-    (form : AltitudeForm) (line : List ℕ) (place : ℕ) (q : LineRefusal) (p : ℕ)
-    → ((readAt form line place .what ≡ W.Refused q) × (readAt form line place .named ≡ p)) ↔ Hit (rowsAt form line place) q p
+    (form : AltitudeForm) (line : List ℕ) (place : ℕ) (o : Outcome) → isRefusal (o .what) ≡ true
+    → (readAt form line place ≡ o) ↔ FirstIs (rowsAt form line place) o
 
 abbrev pub ByteReaderRefuses : Type 0
 ByteReaderRefuses =
-    (form : AltitudeForm) (bytes : List ℕ) (place : ℕ) (q : LineRefusal) (p : ℕ)
-    → ((readBytes form bytes place .what ≡ W.Refused q) × (readBytes form bytes place .named ≡ p)) ↔ Hit (byteRowsAt form bytes place) q p
+    (form : AltitudeForm) (bytes : List ℕ) (place : ℕ) (o : Outcome) → isRefusal (o .what) ≡ true
+    → (readBytes form bytes place ≡ o) ↔ FirstIs (byteRowsAt form bytes place) o
 
 abbrev pub WriterRefuses : Type 0
 WriterRefuses =
     (form : AltitudeForm) (line : List ℕ) (place : ℕ) (r : Report) (q : LineRefusal) (p : ℕ)
-    → (writeAt form line place r ≡ P.Refused q p) ↔ Hit (writerRowsAt form line place r) q p
+    → (writeAt form line place r ≡ P.Refused q p) ↔ FirstIs (writerRows form line place r) (P.Refused q p)
 
 abbrev pub ByteWriterRefuses : Type 0
 ByteWriterRefuses =
     (form : AltitudeForm) (bytes : List ℕ) (place : ℕ) (r : Report) (q : LineRefusal) (p : ℕ)
-    → (writeBytes form bytes place r ≡ P.Refused q p) ↔ Hit (byteWriterRowsAt form bytes place r) q p
+    → (writeBytes form bytes place r ≡ P.Refused q p) ↔ FirstIs (byteWriterRows form bytes place r) (P.Refused q p)
 
 -- ---- demand 1: the calls come to an end (proofs/Outcomes.antt)
 
@@ -148,15 +150,21 @@ Replaced =
     outside (length a + 1) (length a + 1 + length x) (outcomes answer (a ++ (idle ∷ (x ++ (idle ∷ b)))))
     ≡ outside (length a + 1) (length a + 1 + length x) (outcomes answer (a ++ (idle ∷ (y ++ (idle ∷ b)))))
 
--- document 01, "Three easy errors": a flipped bit is not always seen. In the ATCRBS report 3333 1281 1022 868 1281 2048 647, idle for 1022
--- leaves a refused run and the Search report of the last four words (proofs/Flipped.antt)
-abbrev pub FlippedBit : Type 0
-FlippedBit =
-    outcomes (readRun signMagnitude) (3333 ∷ 1281 ∷ 1023 ∷ 868 ∷ 1281 ∷ 2048 ∷ 647 ∷ [])
-    ≡ outcomeOf (W.Refused WrongLength) 0 2 0
-    ∷ outcomeOf (W.Accepted (reportOf signMagnitude (868 ∷ 1281 ∷ 2048 ∷ 647 ∷ []))) 3 7 3
-    ∷ endOf 7
-    ∷ []
+-- document 01, "Three easy errors": a flipped bit is not always seen. In an ATCRBS report bit 13 of 1022 is flipped, which makes it idle; what
+-- was one report is then a refused run and the Search report of the last four words (proofs/Flipped.antt)
+pub record FlippedBit : Type 0 where
+  pub before : outcomes (readRun signMagnitude) (3333 ∷ 1281 ∷ 1022 ∷ 868 ∷ 1281 ∷ 2048 ∷ 647 ∷ [])
+      ≡ outcomeOf (W.Accepted (reportOf signMagnitude (3333 ∷ 1281 ∷ 1022 ∷ 868 ∷ 1281 ∷ 2048 ∷ 647 ∷ []))) 0 7 0
+      ∷ endOf 7
+      ∷ []
+  pub of-atcrbs : kindOf (reportOf signMagnitude (3333 ∷ 1281 ∷ 1022 ∷ 868 ∷ 1281 ∷ 2048 ∷ 647 ∷ [])) ≡ K.Atcrbs
+  pub one-bit : flipped 13 1022 ≡ idle
+  pub after : outcomes (readRun signMagnitude) (3333 ∷ 1281 ∷ 1023 ∷ 868 ∷ 1281 ∷ 2048 ∷ 647 ∷ [])
+      ≡ outcomeOf (W.Refused WrongLength) 0 2 0
+      ∷ outcomeOf (W.Accepted (reportOf signMagnitude (868 ∷ 1281 ∷ 2048 ∷ 647 ∷ []))) 3 7 3
+      ∷ endOf 7
+      ∷ []
+  pub of-search : kindOf (reportOf signMagnitude (868 ∷ 1281 ∷ 2048 ∷ 647 ∷ [])) ≡ K.Search
 
 -- ---- totals (proofs/Totals.antt)
 
@@ -210,6 +218,10 @@ WrittenSo =
     × (puts form (replicate n idle) place rs ≡ lineOf form ss tail)
 
 -- ---- the writer (proofs/Written.antt)
+
+-- a line with these words in it from a place on, and all others as they were
+abbrev pub put : List ℕ → ℕ → List ℕ → List ℕ
+put line place ws = take place line ++ (ws ++ drop (length ws) (drop place line))
 
 -- an accepted call is its two leaves: the words, and then one idle word right behind them
 abbrev pub Composed : Type 0

@@ -5,6 +5,7 @@ use mathlib.Core.Bool.{Bool, true, false, cond}
 use mathlib.Core.List.{List, [], _∷_}
 use lib.Dec.{eqb, ltb}
 use lib.ListN.{length, drop}
+use Rattle.rows.specs.Rows.{Row, row, firstOf}
 use Rattle.refusals.specs.declared.LineRefusal.{LineRefusal}
 use Rattle.refusals.specs.declared.LineRefusal.the-variants.{LineTooLong, PlaceBeyondLine}
 use Rattle.words.specs.Word.{idle}
@@ -78,13 +79,21 @@ abbrev pub outcomeAt : (List ℕ → RunAnswer) → ℕ → ℕ → List ℕ →
 outcomeAt answer n first [] = endOf n
 outcomeAt answer n first (w ∷ ws) = placed first (length (w ∷ ws)) (answer (w ∷ ws))
 
--- the reader: number 2, then number 1, then the run behind the idle words
+-- the outcome of the run at a place, or behind the idle words there
+abbrev pub runAt : (List ℕ → RunAnswer) → List ℕ → ℕ → Outcome
+runAt answer line place = let rest = drop place line in outcomeAt answer (length line) (place + gap rest) (runIn rest)
+
+-- 1: place beyond the length of a line of n words
+abbrev pub beyond : ℕ → ℕ → Row Outcome
+beyond n place = row (ltb n place) (notTaken PlaceBeyondLine place)
+
+-- the reader's own rows: 2, then 1
+abbrev pub lineRows : List ℕ → ℕ → List (Row Outcome)
+lineRows line place = row (ltb most (length line)) (notTaken LineTooLong place) ∷ beyond (length line) place ∷ []
+
+-- the reader: its own rows, and where none holds, what the run gets
 unfoldable pub readBy : (List ℕ → RunAnswer) → List ℕ → ℕ → Outcome
-readBy answer line place =
-    let rest = drop place line in
-    cond (ltb most (length line)) (notTaken LineTooLong place)
-    (cond (ltb (length line) place) (notTaken PlaceBeyondLine place)
-    (outcomeAt answer (length line) (place + gap rest) (runIn rest)))
+readBy answer line place = firstOf (lineRows line place) (runAt answer line place)
 
 -- the reader of document 01's reports
 abbrev pub readAt : AltitudeForm → List ℕ → ℕ → Outcome

@@ -1,13 +1,13 @@
 -- The unbroken stretches of non-idle words of a line, and how many of its words are idle, in reports and in refused runs: said without
 -- the reader. Definitions only.
 use Prim.Native.Nat.{ℕ, suc, _+_}
-use mathlib.Core.Bool.{Bool, true, false, not, cond}
+use mathlib.Core.Bool.{Bool, not, cond}
 use mathlib.Core.List.{List, [], _∷_, _++_}
 use lib.Dec.{eqb}
 use lib.ListN.{length}
 use Rattle.words.specs.Word.{idle}
 use Rattle.reports.specs.declared.RunAnswer.{RunAnswer}
-use Rattle.reports.specs.declared.RunAnswer.the-variants as A
+use Rattle.reports.specs.Runs.{isAccepted}
 
 -- an unbroken stretch of words that are not idle, and the place of its first word
 pub record Run : Type 0 where
@@ -34,10 +34,6 @@ runs line = runsFrom 0 [] line
 unfoldable pub idleWords : List ℕ → ℕ
 idleWords [] = 0
 idleWords (w ∷ ws) = cond (eqb w idle) (suc (idleWords ws)) (idleWords ws)
-
-abbrev pub isAccepted : RunAnswer → Bool
-isAccepted (A.Accepted r) = true
-isAccepted (A.Refused q o) = false
 
 -- the words of the runs whose answer passes a test
 unfoldable pub wordsWhere : (RunAnswer → Bool) → (List ℕ → RunAnswer) → List Run → ℕ

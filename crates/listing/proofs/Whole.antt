@@ -19,7 +19,8 @@ use Rattle.lines.specs.declared.What.the-variants as W
 use Rattle.lines.specs.declared.Outcome.{Outcome}
 use Rattle.lines.specs.Bytes.{mostBytes, wordsIn}
 use Rattle.lines.specs.Line.{most, endOf, isEnd, placed, readBy, calls, outcomes}
-use Rattle.lines.specs.Stretches.{Run, runs, idleWords, isAccepted, wordsWhere}
+use Rattle.reports.specs.Runs.{isAccepted}
+use Rattle.lines.specs.Stretches.{Run, runs, idleWords, wordsWhere}
 use Rattle.lines.specs.Claims.{alone}
 use Rattle.words.proofs.Tests.{picked, passed, by-test}
 use Rattle.lines.proofs.ByteWords.{words-length}
