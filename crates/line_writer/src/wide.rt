@@ -1,18 +1,22 @@
-// The writer on a line that is lent as 16-bit numbers: a report's words and one idle word into the part of it that starts at a place.
-// Relies on report_writer for the words of a report or the refusal that it gets, words for the idle word.
+// The writer on a line that is lent as 16-bit numbers, a word each.
+// Relies on deciding for the answer, report_writer for the words of a report or the refusal that it gets, words for the idle word.
 ghost use mathlib.Core.Path.{_≡_};
-ghost use Prim.Native.Nat.{_≤_};
 ghost use mathlib.Core.List.{_++_};
+ghost use Prim.Native.Nat.{_+_, _≤_, _<_};
 ghost use lib.ListN.{length, take, drop, replicate};
 ghost use Rattle.reports.specs.Altitude.{signMagnitude};
 ghost use Rattle.words.specs.Word.{idle};
-ghost use Rattle.lines.specs.Writing.{Writes, Puts};
+ghost use Rattle.lines.specs.Writing.{Writes};
+ghost use Rattle.line_writer.specs.Deciding.{wideAnswer, Puts};
+use crate::deciding;
 use lines::MOST;
 use lines::Wrote;
 use refusals::LineRefusal;
 use reports::Report;
 use reports::Written;
 use words::IDLE;
+
+// ---- the leaves
 
 // Fills the first n words of a part with the first n of these.
 fn put_words(part: &mut [u16], ws: [u16; 7], n: usize)
@@ -38,14 +42,13 @@ fn put_idles(part: &mut [u16], n: usize)
     }
 }
 
-// The first n of these words and one idle word, from a place on, or number 10.
-fn put_spaced(line: &mut [u16], place: usize, ws: [u16; 7], n: usize) -> Wrote
-    requires { ⌜ (place ≤ length (now line)) × (n ≤ 7) ⌝ }
+// ---- a report
+
+// The first n of these words and one idle word, from a place on that has room for them.
+fn put(line: &mut [u16], place: usize, ws: [u16; 7], n: usize) -> Wrote
+    requires { ⌜ (place + n < length (now line)) × (n ≤ 7) ⌝ }
     ensures { λ w. ⌜ Puts (now (line .entry)) place (take n ws) w (now (line .exit)) ⌝ }
 {
-    if line.len() - place <= n {
-        return Wrote::Refused(LineRefusal::NoRoom, place);
-    }
     let behind = place + n;
     let next = behind + 1;
     put_words(&mut line[place..], ws, n);
@@ -53,21 +56,28 @@ fn put_spaced(line: &mut [u16], place: usize, ws: [u16; 7], n: usize) -> Wrote
     Wrote::Next(next)
 }
 
+// The answer to so many words, a place and what a report was made into: row 2, then those of every form.
+fn answer_to(size: usize, place: usize, made: Written) -> Wrote
+    ensures { λ w. ⌜ w ≡ wideAnswer size place made ⌝ }
+{
+    if MOST < size {
+        return Wrote::Refused(LineRefusal::LineTooLong, place);
+    }
+    deciding::decide(size, place, made)
+}
+
 // A report's words and one idle word, from a place on.
 pub fn write(line: &mut [u16], place: usize, report: Report) -> Wrote
     ensures { λ w. ⌜ Writes signMagnitude (now (line .entry)) place report w (now (line .exit)) ⌝ }
 {
-    let n = line.len();
-    if MOST < n {
-        return Wrote::Refused(LineRefusal::LineTooLong, place);
-    }
-    if n < place {
-        return Wrote::Refused(LineRefusal::PlaceBeyondLine, place);
-    }
     let made = report_writer::words_of(report);
+    let answer = answer_to(line.len(), place, made);
+    if let Wrote::Refused(why, at) = answer {
+        return Wrote::Refused(why, at);
+    }
     match made {
-        Written::Four(a, b, c, d) => put_spaced(line, place, [a, b, c, d, 0, 0, 0], 4),
-        Written::Seven(a, b, c, d, e, f, g) => put_spaced(line, place, [a, b, c, d, e, f, g], 7),
+        Written::Four(a, b, c, d) => put(line, place, [a, b, c, d, 0, 0, 0], 4),
+        Written::Seven(a, b, c, d, e, f, g) => put(line, place, [a, b, c, d, e, f, g], 7),
         Written::Refused(why) => Wrote::Refused(why, place),
     }
 }

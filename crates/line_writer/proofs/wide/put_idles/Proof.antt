@@ -5,7 +5,7 @@ use mathlib.Core.List.{List, _++_}
 use lib.ListN.{length, take, drop, set, length-set, replicate, length-replicate, getD-replicate}
 use lib.Seq.{take-all}
 use Rattle.words.specs.Word.{idle}
-use Rattle.lines.proofs.Puts.{fill-more}
+use Rattle.line_writer.proofs.Leaves.{fill-more}
 use native.Mathlib.Omega.{arith}
 use Rattle.line_writer.proofs.wide.put_idles.Statement.{statement}
 use Rattle.line_writer.proofs.wide.put_idles.Tie as tie

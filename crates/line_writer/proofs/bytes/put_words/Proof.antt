@@ -1,14 +1,14 @@
--- `line_writer::bytes::put_pairs` meets its contract. Assumes nothing.
+-- `line_writer::bytes::put_words` meets its contract. Assumes nothing.
 use Prim.Native.Nat.{ℕ, _+_, _*_, _-_, _/_, _%_, _≤_}
 use mathlib.Core.Path.{_≡_, refl, ap, _∙_}
 use mathlib.Core.List.{List, _++_}
 use lib.ListN.{length, take, drop, getD, set, length-set}
-use Rattle.lines.specs.ByteWriting.{bytesOf}
-use Rattle.lines.proofs.BytePuts.{pair-more}
+use Rattle.lines.specs.Bytes.{bytesOf}
+use Rattle.line_writer.proofs.Leaves.{pair-more}
 use borrow.Author.Needs.{needs}
 use native.Mathlib.Omega.{arith}
-use Rattle.line_writer.proofs.bytes.put_pairs.Statement.{statement}
-use Rattle.line_writer.proofs.bytes.put_pairs.Tie as tie
+use Rattle.line_writer.proofs.bytes.put_words.Statement.{statement}
+use Rattle.line_writer.proofs.bytes.put_words.Tie as tie
 
 abbrev Inv-loop : tie.InvT-loop
 Inv-loop part₀ n ws i₀ part i = (i ≤ n) × (length part ≡ length part₀) × (part ≡ bytesOf (take i ws) ++ drop (i * 2) part₀)
@@ -54,7 +54,7 @@ loop-again : tie.Need-loop-again Inv-loop μ-loop
 loop-again c =
     let l = c .before .loop in
     let a = c .before .before .args in
-    let m : length (a .t2) ≡ 8 = search needs in
+    let m : length (a .t2) ≡ 7 = search needs in
     let w = getD (a .t2) (l .i) 0 in
     let hi = w / 256 % 256 in
     let lo = w % 256 in (
@@ -73,8 +73,8 @@ returns c =
     let e : l .i ≡ a .n = omega arith in
     l .inv .2 ∙ ap (λ (i : ℕ). bytesOf (take i (a .t2)) ++ drop (i * 2) (a .part .now)) e
 
-pub put-pairs-spec : {M : Type 1} → statement M
-put-pairs-spec =
+pub put-words-spec : {M : Type 1} → statement M
+put-words-spec =
     tie.close
     (tie.spec
     Inv-loop
