@@ -3,11 +3,10 @@ use Prim.Native.Nat.{ℕ, _+_}
 use mathlib.Core.Path.{_≡_, refl, sym, ap, _∙_}
 use mathlib.Core.List.{List, [], _∷_, _++_}
 use lib.ListN.{length}
-use Rattle.refusals.proofs.Claims as refusals
 use Rattle.words.proofs.Claims as words
 use Rattle.measures.proofs.Claims as measures
 use Rattle.reports.specs.declared.Report.{Report}
-use Rattle.reports.specs.Altitude.{signMagnitude}
+use Rattle.reports.specs.Altitude.{AltitudeForm}
 use Rattle.reports.specs.Layouts.{wordsOf}
 use Rattle.reports.specs.Runs.{readRun}
 use Rattle.reports.specs.Values.{Counted, counts, none, Yields}
@@ -30,6 +29,7 @@ use Rattle.lines.proofs.Back as lists
 use Rattle.lines.proofs.Written as written
 use Rattle.fields.proofs.Claims as fields
 use Rattle.claims.specs.Demands.{TakeEveryInputAndEnd, OneNumberedRefusal, NoSkipWithoutAName, GivenExactly, LeavesUntouched, MeanWhatIsPrinted, AcceptedExactly, WrittenAgain, ReadAgain, EqualLinesEqualLists, ReadingGivesTheList, OneOutcomeEach, Doubles, reportsIn, Demands}
+use Rattle.claims.proofs.Numbers.{numbers-differ, no-number-is-zero}
 use Rattle.claims.proofs.Twelve.{twelve}
 use Rattle.claims.proofs.Printed.{as-printed, entries-as-printed, rules-as-printed}
 use Rattle.claims.proofs.Places.{end-exactly, end-of-bytes, report-words, report-words-of-bytes, read-written, read-written-bytes}
@@ -39,8 +39,8 @@ use Rattle.claims.proofs.Fields.{writing-refuses, has-layout, again, re
 
 take-every-input : TakeEveryInputAndEnd
 take-every-input = record {
-  words = λ line place r. (_, _, record { answers = refl; leaves = refl }, λ b left w. (w .answers, w .leaves));
-  bytes = λ bytes place r. (_, _, record { answers = refl; leaves = refl }, λ b left w. (w .answers, w .leaves));
+  words = λ form line place r. (_, _, record { answers = refl; leaves = refl }, λ b left w. (w .answers, w .leaves));
+  bytes = λ form bytes place r. (_, _, record { answers = refl; leaves = refl }, λ b left w. (w .answers, w .leaves));
   fields = λ r l t s. (_, _, record { answers = refl; leaves = refl }, λ b left w. (w .answers, w .leaves));
   onward = outcomes.onward;
   enough = outcomes.calls-enough;
@@ -50,10 +50,8 @@ one-refusal : OneNumberedRefusal
 one-refusal = record {
   end = end-exactly;
   end-of-bytes = end-of-bytes;
-  line-numbers = refusals.line-numbers-differ;
-  field-numbers = refusals.field-numbers-differ;
-  apart = refusals.numbers-apart;
-  none-is-0 = refusals.no-number-is-zero;
+  numbers = numbers-differ;
+  none-is-0 = no-number-is-zero;
 }
 
 no-skip : NoSkipWithoutAName
@@ -71,10 +69,10 @@ given-exactly = record {
 
 untouched : LeavesUntouched
 untouched = record {
-  words = λ line place r q p exit w.
-      w .leaves ∙ ap (λ (x : Wrote). leftBy x line place (wordsOf signMagnitude r)) (sym (w .answers));
-  bytes = λ bytes place r q p exit w.
-      w .leaves ∙ ap (λ (x : Wrote). bytesLeft x bytes place (wordsOf signMagnitude r)) (sym (w .answers));
+  words = λ form line place r q p exit w.
+      w .leaves ∙ ap (λ (x : Wrote). leftBy x line place (wordsOf form r)) (sym (w .answers));
+  bytes = λ form bytes place r q p exit w.
+      w .leaves ∙ ap (λ (x : Wrote). bytesLeft x bytes place (wordsOf form r)) (sym (w .answers));
   fields = λ r l t s q exit w. w .leaves ∙ fields.refused-untouched r l t s q (sym (w .answers));
 }
 
@@ -134,20 +132,20 @@ equal-lists : EqualLinesEqualLists
 equal-lists = record { lists = lists.equal-lists; written = written.written-so }
 
 -- the reports among the outcomes of a list that reads back
-reports-back : (p : ℕ) (ss : List Spaced) (n : ℕ) → reportsIn (back signMagnitude p ss ++ (endOf n ∷ [])) ≡ reportsOf ss
+reports-back : (form : AltitudeForm) (p : ℕ) (ss : List Spaced) (n : ℕ) → reportsIn (back form p ss ++ (endOf n ∷ [])) ≡ reportsOf ss
 unfolding back
-reports-back p [] n = refl
-reports-back p (s ∷ ss) n =
-    ap (λ (rs : List Report). s .report ∷ rs) (reports-back (p + s .ahead + length (wordsOf signMagnitude (s .report))) ss n)
+reports-back form p [] n = refl
+reports-back form p (s ∷ ss) n =
+    ap (λ (rs : List Report). s .report ∷ rs) (reports-back form (p + s .ahead + length (wordsOf form (s .report))) ss n)
 
 list-back : ReadingGivesTheList
 list-back = record {
   outcomes-are = lists.reads-back;
   reader = lists.document-returns;
-  list = λ ss tail f a m.
+  list = λ form sound ss tail f a m.
       ap reportsIn
-      (lists.reads-back (readRun signMagnitude) signMagnitude (lists.document-returns signMagnitude reports.document-form) ss tail f a m)
-      ∙ reports-back 0 ss (length (lineOf signMagnitude ss tail));
+      (lists.reads-back (readRun form) form (lists.document-returns form sound) ss tail f a m)
+      ∙ reports-back form 0 ss (length (lineOf form ss tail));
 }
 
 one-each : OneOutcomeEach

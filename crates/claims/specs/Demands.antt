@@ -1,6 +1,6 @@
 -- Demands 1 to 3 of the person that this converter is built for, sentence by sentence, in their order. The sentence stands above in their
--- words; the definition under it says it, by the written definitions and claims of the crates below, of document 01's form of the altitude
--- (signMagnitude) or of every form and every answer to a run. Demands, at the end, gathers them, and proofs/Demands.antt proves it as one
+-- words; the definition under it says it, by the written definitions and claims of the crates below, of every sound form of the altitude (document 01's is
+-- one: `form` under MeanWhatIsPrinted) or of every form and every answer to a run. Demands, at the end, gathers them, and proofs/Demands.antt proves it as one
 -- value. Statements only, with what they need to be said.
 use Prim.Native.Nat.{ℕ, _+_, _-_, _/_, _%_, _≤_}
 use mathlib.Core.Path.{_≡_}
@@ -11,7 +11,6 @@ use lib.Dec.{T, ltb}
 use lib.Ieee.{binary64, fits}
 use lib.IntN.{ℤ}
 use lib.ListN.{length, take, drop, replicate}
-use Rattle.refusals.specs.Claims as refusals
 use Rattle.refusals.specs.declared.LineRefusal.{LineRefusal}
 use Rattle.refusals.specs.declared.FieldRefusal.{FieldRefusal}
 use Rattle.refusals.specs.declared.FieldRefusal.the-variants.{NotWritable, NoRoom}
@@ -21,7 +20,7 @@ use Rattle.measures.specs.Claims as measures
 use Rattle.bits.specs.Bits.{Bytes}
 use Rattle.reports.specs.Claims as reports
 use Rattle.reports.specs.declared.Report.{Report}
-use Rattle.reports.specs.Altitude.{signMagnitude}
+use Rattle.reports.specs.Altitude.{AltitudeForm, Sound}
 use Rattle.reports.specs.Layouts.{wordsOf}
 use Rattle.reports.specs.Runs.{readRun}
 use Rattle.reports.specs.Values.{Counted, Yields}
@@ -45,6 +44,7 @@ use Rattle.fields.specs.declared.Written.{Written}
 use Rattle.fields.specs.declared.Written.the-variants as F
 use Rattle.fields.specs.Reading.{Test, answerOf, readField, textOf}
 use Rattle.fields.specs.Writing.{takes, bitsIn, wayIn, bytesIn, writtenOf, leftOf}
+use Rattle.claims.specs.Numbers.{NumbersDiffer, NoNumberIsZero}
 use Rattle.claims.specs.Twelve.{Twelve}
 use Rattle.claims.specs.Printed.{AsPrinted, EntriesAsPrinted, RulesAsPrinted}
 
@@ -61,13 +61,13 @@ pub record WritesField (r : Record) (l : List ℤ) (t s : List ℕ) (answer : Wr
 
 -- "The reader and the writer take every input there is, of every length, damaged or not, and end. Nobody has to test a line before handing
 -- it in." That a call asks for nothing and returns is no claim here: the checker holds every function to it, and no public one has a
--- `requires`. They are wide::read, bytes::read, writer::write and byte_writer::write of lines, and reading::read, reading::text and
--- writing::write of fields. A reader's promise is an equation with a definition that answers every input; a writer's allows one answer and
+-- `requires`. They are wide::read and bytes::read of line_reader, wide::write, bytes::write and bytes::answer of line_writer, read and text of
+-- field_reader's reading, and write of field_writer's writing. A reader's promise is an equation with a definition that answers every input; a writer's allows one answer and
 -- one buffer at exit (words, bytes, fields). On a line and from a place that are taken, every outcome but the end goes on (onward), and a line of
 -- n words is done within (n + 1) / 2 rounded down, plus one, calls (enough)
 pub record TakeEveryInputAndEnd : Type 0 where
-  pub words : (line : List ℕ) (place : ℕ) (r : Report) → AllowsOne (Writes signMagnitude line place r)
-  pub bytes : (bytes : List ℕ) (place : ℕ) (r : Report) → AllowsOne (WritesBytes signMagnitude bytes place r)
+  pub words : (form : AltitudeForm) (line : List ℕ) (place : ℕ) (r : Report) → AllowsOne (Writes form line place r)
+  pub bytes : (form : AltitudeForm) (bytes : List ℕ) (place : ℕ) (r : Report) → AllowsOne (WritesBytes form bytes place r)
   pub fields : (r : Record) (l : List ℤ) (t s : List ℕ) → AllowsOne (WritesField r l t s)
   pub onward : lines.Onward
   pub enough : lines.CallsEnough
@@ -79,13 +79,11 @@ OnlyIdleLeft line place = (length line ≤ most) × (place ≤ length line) × (
 -- "What can't be accepted gets one numbered refusal": a place has a report, a refusal or the end, and the end is told exactly where only
 -- idle words are left, so no word is passed over without a name; a number names one refusal, and 0 names none
 pub record OneNumberedRefusal : Type 0 where
-  pub end : (line : List ℕ) (place : ℕ) → (readAt signMagnitude line place .what ≡ W.End) ↔ OnlyIdleLeft line place
-  pub end-of-bytes : (bytes : List ℕ) (place : ℕ)
-      → (readBytes signMagnitude bytes place .what ≡ W.End) ↔ ((length bytes ≤ mostBytes) × (length bytes % 2 ≡ 0) × OnlyIdleLeft (wordsIn bytes) place)
-  pub line-numbers : refusals.LineNumbersDiffer
-  pub field-numbers : refusals.FieldNumbersDiffer
-  pub apart : refusals.NumbersApart
-  pub none-is-0 : refusals.NoNumberIsZero
+  pub end : (form : AltitudeForm) (line : List ℕ) (place : ℕ) → (readAt form line place .what ≡ W.End) ↔ OnlyIdleLeft line place
+  pub end-of-bytes : (form : AltitudeForm) (bytes : List ℕ) (place : ℕ)
+      → (readBytes form bytes place .what ≡ W.End) ↔ ((length bytes ≤ mostBytes) × (length bytes % 2 ≡ 0) × OnlyIdleLeft (wordsIn bytes) place)
+  pub numbers : NumbersDiffer
+  pub none-is-0 : NoNumberIsZero
 
 -- "A skip without a name is the fault I want designed out": every word of a line is idle, in a report or in a refused run, and the words of
 -- the outcomes, as a line is read, are all of those that are not idle
@@ -114,10 +112,10 @@ pub record GivenExactly : Type 0 where
 -- "and a refusal leaves the lent buffers untouched": those lent to a writer, by its promise. Those lent to a reader are lent for reading
 -- alone (`&[T]`), which the language holds it to
 pub record LeavesUntouched : Type 0 where
-  pub words : (line : List ℕ) (place : ℕ) (r : Report) (q : LineRefusal) (p : ℕ) (exit : List ℕ)
-      → Writes signMagnitude line place r (P.Refused q p) exit → exit ≡ line
-  pub bytes : (bytes : List ℕ) (place : ℕ) (r : Report) (q : LineRefusal) (p : ℕ) (exit : List ℕ)
-      → WritesBytes signMagnitude bytes place r (P.Refused q p) exit → exit ≡ bytes
+  pub words : (form : AltitudeForm) (line : List ℕ) (place : ℕ) (r : Report) (q : LineRefusal) (p : ℕ) (exit : List ℕ)
+      → Writes form line place r (P.Refused q p) exit → exit ≡ line
+  pub bytes : (form : AltitudeForm) (bytes : List ℕ) (place : ℕ) (r : Report) (q : LineRefusal) (p : ℕ) (exit : List ℕ)
+      → WritesBytes form bytes place r (P.Refused q p) exit → exit ≡ bytes
   pub fields : (r : Record) (l : List ℤ) (t s : List ℕ) (q : FieldRefusal) (exit : List ℕ)
       → WritesField r l t s (F.Refused q) exit → exit ≡ s
 
@@ -167,10 +165,10 @@ between first after line = take (after - first) (drop first line)
 -- writer puts a field's bytes into any lent bytes that have room, of which those behind stay
 pub record WrittenAgain : Type 0 where
   pub runs : reports.WrittenAgain
-  pub on-a-line : (line : List ℕ) (place : ℕ) (r : Report) → readAt signMagnitude line place .what ≡ W.Accepted r
-      → wordsOf signMagnitude r ≡ between (readAt signMagnitude line place .first) (readAt signMagnitude line place .after) line
-  pub on-bytes : (bytes : List ℕ) (place : ℕ) (r : Report) → readBytes signMagnitude bytes place .what ≡ W.Accepted r
-      → wordsOf signMagnitude r ≡ between (readBytes signMagnitude bytes place .first) (readBytes signMagnitude bytes place .after) (wordsIn bytes)
+  pub on-a-line : (form : AltitudeForm) → Sound form → (line : List ℕ) (place : ℕ) (r : Report) → readAt form line place .what ≡ W.Accepted r
+      → wordsOf form r ≡ between (readAt form line place .first) (readAt form line place .after) line
+  pub on-bytes : (form : AltitudeForm) → Sound form → (bytes : List ℕ) (place : ℕ) (r : Report) → readBytes form bytes place .what ≡ W.Accepted r
+      → wordsOf form r ≡ between (readBytes form bytes place .first) (readBytes form bytes place .after) (wordsIn bytes)
   pub fields : (s : List ℕ) (n : ℕ) (w : Direction) (r : Record) → Bytes s → answerOf s n w ≡ Accepted r
       → (b : List ℕ) → Bytes b → length s ≤ length b
       → WritesField r (readField s n w .list) (textOf s n w) b (F.Bits n) (s ++ drop (length s) b)
@@ -180,12 +178,12 @@ pub record WrittenAgain : Type 0 where
 pub record ReadAgain : Type 0 where
   pub runs : reports.ReadBack
   pub runs-taken : reports.TakesWhatFits
-  pub on-a-line : (line : List ℕ) (place : ℕ) (r : Report) (next : ℕ) (exit : List ℕ)
-      → Writes signMagnitude line place r (P.Next next) exit
-      → readAt signMagnitude exit place ≡ outcomeOf (W.Accepted r) place (next - 1) place
-  pub in-bytes : (bytes : List ℕ) (place : ℕ) (r : Report) (next : ℕ) (exit : List ℕ)
-      → WritesBytes signMagnitude bytes place r (P.Next next) exit
-      → readBytes signMagnitude exit place ≡ outcomeOf (W.Accepted r) place (next - 1) place
+  pub on-a-line : (form : AltitudeForm) → Sound form → (line : List ℕ) (place : ℕ) (r : Report) (next : ℕ) (exit : List ℕ)
+      → Writes form line place r (P.Next next) exit
+      → readAt form exit place ≡ outcomeOf (W.Accepted r) place (next - 1) place
+  pub in-bytes : (form : AltitudeForm) → Sound form → (bytes : List ℕ) (place : ℕ) (r : Report) (next : ℕ) (exit : List ℕ)
+      → WritesBytes form bytes place r (P.Next next) exit
+      → readBytes form exit place ≡ outcomeOf (W.Accepted r) place (next - 1) place
   pub fields : (r : Record) (l : List ℤ) (t b : List ℕ) (n : ℕ) (exit : List ℕ) → length l ≡ 30 → Bytes t → Bytes b
       → WritesField r l t b (F.Bits n) exit
       → (readField (take ((n + 7) / 8) exit) n (wayIn r) ≡ record { answer = Accepted r; list = l })
@@ -213,8 +211,8 @@ reportsIn (o ∷ os) = among (o .what) (reportsIn os)
 pub record ReadingGivesTheList : Type 0 where
   pub outcomes-are : lines.ReadsBack
   pub reader : lines.DocumentReturns
-  pub list : (ss : List Spaced) (tail : ℕ) → AllFit signMagnitude ss → Apart ss → length (lineOf signMagnitude ss tail) ≤ most
-      → reportsIn (outcomes (readRun signMagnitude) (lineOf signMagnitude ss tail)) ≡ reportsOf ss
+  pub list : (form : AltitudeForm) → Sound form → (ss : List Spaced) (tail : ℕ) → AllFit form ss → Apart ss → length (lineOf form ss tail) ≤ most
+      → reportsIn (outcomes (readRun form) (lineOf form ss tail)) ≡ reportsOf ss
 
 -- "On any line of that length or less, read from its start, each unbroken stretch of non-idle words gets exactly one outcome, in order: the
 -- one those words get alone, places moved along": of the stretches, and what they are

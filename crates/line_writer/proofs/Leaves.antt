@@ -11,6 +11,7 @@ use Rattle.lines.specs.declared.Wrote.{Wrote}
 use Rattle.lines.specs.declared.Wrote.the-variants as W
 use Rattle.lines.specs.Bytes.{bytesOf}
 use Rattle.lines.specs.Claims.{put}
+use Rattle.lines.proofs.ByteWords.{bytes-length}
 use Rattle.lines.proofs.Puts.{put-put}
 use Rattle.line_writer.specs.Deciding.{Puts, PutsBytes}
 
@@ -41,11 +42,6 @@ put-back line place n ws part z e =
     (append-nil part ∙ e ∙ ap (λ (l : List ℕ). ws ++ drop n l) (part-is line place) ∙ ap (λ (k : ℕ). ws ++ drop k (drop place line)) (sym z))
 
 -- ---- the bytes of words
-
-pub bytes-length : (ws : List ℕ) → length (bytesOf ws) ≡ length ws * 2
-unfolding bytesOf
-bytes-length [] = refl
-bytes-length (w ∷ ws) = let h = bytes-length ws in omega arith
 
 bytes-append : (ws vs : List ℕ) → bytesOf (ws ++ vs) ≡ bytesOf ws ++ bytesOf vs
 unfolding bytesOf

@@ -1,6 +1,6 @@
 -- What is claimed of lines: demands 1 and 3. Statements only, with what they need to be said; the laws on whole lines hold for any answer
 -- to a run. Proved in proofs/: the file is named at each.
-use Prim.Native.Nat.{ℕ, _+_, _-_, _/_, _≤_, _<_}
+use Prim.Native.Nat.{ℕ, _+_, _-_, _/_, _%_, _≤_, _<_}
 use mathlib.Core.Logic.{_↔_, _⊎_}
 use mathlib.Core.Bool.{Bool, true, false, cond}
 use mathlib.Core.Path.{_≡_}
@@ -25,7 +25,7 @@ use Rattle.lines.specs.declared.What.the-variants as W
 use Rattle.lines.specs.declared.Outcome.{Outcome}
 use Rattle.lines.specs.declared.Wrote.the-variants as P
 use Rattle.lines.specs.Line.{most, outcomeOf, endOf, isReport, isRefusal, isEnd, readBy, readAt, calls, outcomes}
-use Rattle.lines.specs.Bytes.{wordsIn, readBytes}
+use Rattle.lines.specs.Bytes.{mostBytes, wordsIn, readBytes}
 use Rattle.lines.specs.ByteWriting.{byteWriterRows, writeBytes, bytesLeft}
 use Rattle.lines.specs.Stretches.{Run, runs, idleWords, reportedWords, refusedWords}
 use Rattle.lines.specs.Spaced.{Spaced, lineOf, reportsOf, AllFit, Apart, back}
@@ -242,6 +242,14 @@ abbrev pub RefusedLeaves : Type 0
 RefusedLeaves =
     (form : AltitudeForm) (line : List ℕ) (place p : ℕ) (r : Report) (q : LineRefusal) → writeAt form line place r ≡ P.Refused q p →
     (p ≡ place) × (leftBy (writeAt form line place r) line place (wordsOf form r) ≡ line)
+
+-- ---- bytes
+
+-- bytes that are few enough and even in number are read, and written, as the line of the words that they hold (proofs/ByteWords.antt)
+abbrev pub BytesAsWords : Type 0
+BytesAsWords =
+    (form : AltitudeForm) (bytes : List ℕ) (place : ℕ) (r : Report) → length bytes ≤ mostBytes → length bytes % 2 ≡ 0 →
+    (readBytes form bytes place ≡ readAt form (wordsIn bytes) place) × (writeBytes form bytes place r ≡ writeAt form (wordsIn bytes) place r)
 
 -- the bytes that a call leaves hold the words that it would leave of the words that they held (proofs/ByteLeft.antt)
 abbrev pub SameWords : Type 0

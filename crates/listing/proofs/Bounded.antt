@@ -6,13 +6,12 @@ use mathlib.Core.Logic.{_⊎_, inl, inr, ⊎-elim}
 use mathlib.Core.List.{List, [], _∷_}
 use native.Mathlib.Omega.{arith}
 use lib.ListN.{length, drop}
-use borrow.Author.Tests.{le-ltb, ne-eqb}
 use Rattle.reports.specs.Altitude.{signMagnitude}
+use Rattle.reports.specs.Records.{reportOf}
 use Rattle.lines.specs.declared.Outcome.{Outcome}
 use Rattle.lines.specs.Bytes.{mostBytes, wordsIn, readBytes}
 use Rattle.lines.specs.Line.{most, endOf, gap, runIn, placed, outcomeAt, readBy}
-use Rattle.words.proofs.Tests.{passed}
-use Rattle.lines.proofs.ByteWords.{words-length}
+use Rattle.lines.proofs.ByteWords.{words-length, bytes-as-words}
 use Rattle.lines.proofs.Outcomes.{read-there, onward}
 use Rattle.listing.specs.declared.Walk.{Walk}
 use Rattle.listing.specs.Listing.{answer}
@@ -49,8 +48,7 @@ between line p m h =
 
 -- within 65,536 bytes, an even number, the reader of bytes is that of words
 pub by-words : (bytes : List ℕ) (p : ℕ) → length bytes ≤ mostBytes → (length bytes % 2 ≡ 1 → ⊥) → readBytes signMagnitude bytes p ≡ readBy answer (wordsIn bytes) p
-unfolding readBytes
-by-words bytes p s e = passed _ _ (le-ltb mostBytes (length bytes) s) ∙ passed _ _ (ne-eqb (length bytes % 2) 1 e)
+by-words bytes p s e = bytes-as-words signMagnitude bytes p (reportOf signMagnitude []) s (omega arith) .0
 
 pub within : (bytes : List ℕ) (w : Walk) (n : ℕ) (o : Outcome) → length bytes ≤ mostBytes → (length bytes % 2 ≡ 1 → ⊥) → n ≡ length bytes / 2
     → w .place ≤ n → w .reported ≤ w .place → w .refused ≤ w .place - w .reported → o ≡ readBytes signMagnitude bytes (w .place) → Within n w o

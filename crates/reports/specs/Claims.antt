@@ -1,20 +1,16 @@
 -- What is claimed of reports, in any sound form of the altitude: demand 2, and each refusal exactly under its condition. Statements only;
 -- proofs/Claims.antt, Demand2.antt and Refusals.antt prove them.
-use Prim.Native.Nat.{ℕ, _<_}
+use Prim.Native.Nat.{ℕ}
 use mathlib.Core.Path.{_≡_}
 use mathlib.Core.Bool.{true}
 use mathlib.Core.List.{List, [], _∷_}
 use mathlib.Core.Logic.{_↔_}
 use lib.ListN.{length, getD}
 use Rattle.rows.specs.Claims.{FirstIs}
-use Rattle.refusals.specs.Numbers.{lineNumber, fieldNumber}
 use Rattle.refusals.specs.declared.LineRefusal.{LineRefusal}
-use Rattle.refusals.specs.declared.FieldRefusal.{FieldRefusal}
 use Rattle.words.specs.Word.{wide, even, first}
 use Rattle.reports.specs.declared.Report.{Report}
 use Rattle.reports.specs.declared.RunAnswer.the-variants.{Accepted, Refused}
-use Rattle.reports.specs.declared.kinds.Kind.{Kind}
-use Rattle.reports.specs.Kinds.{kindNumber}
 use Rattle.reports.specs.Altitude.{AltitudeForm, Sound, signMagnitude}
 use Rattle.words.specs.Layout.{twelveEach}
 use Rattle.reports.specs.Layouts.{layoutOf, wordsOf, Fits, Takes, asWritten, written}
@@ -77,12 +73,3 @@ FirstSeven = (form : AltitudeForm) (ws : List ℕ) (n w e : ℕ) → judged form
 -- so what is judged of a run's first seven words, its length and its first wide and first even word is what the whole run is read as
 abbrev pub JudgedIsRead : Type 0
 JudgedIsRead = (form : AltitudeForm) (ws : List ℕ) → judged form (firstSeven ws) (length ws) (first wide ws) (first even ws) ≡ readRun form ws
-
--- ---- the kinds
-
--- no two kinds share a number, and none has a refusal's
-abbrev pub KindNumbersDiffer : Type 0
-KindNumbersDiffer = (a b : Kind) → kindNumber a ≡ kindNumber b → a ≡ b
-
-abbrev pub KindsAboveRefusals : Type 0
-KindsAboveRefusals = (k : Kind) → ((q : LineRefusal) → lineNumber q < kindNumber k) × ((q : FieldRefusal) → fieldNumber q < kindNumber k)

@@ -7,7 +7,8 @@ use lib.Seq.{length-take-le}
 use Rattle.words.specs.Word.{idle}
 use Rattle.lines.specs.Bytes.{bytesOf}
 use Rattle.lines.specs.Claims.{put}
-use Rattle.line_writer.proofs.Leaves.{bytes-length, put-back, puts-bytes}
+use Rattle.lines.proofs.ByteWords.{bytes-length}
+use Rattle.line_writer.proofs.Leaves.{put-back, puts-bytes}
 use borrow.Author.Needs.{needs}
 use native.Mathlib.Omega.{arith}
 use Rattle.line_writer.proofs.bytes.put.Statement.{statement}

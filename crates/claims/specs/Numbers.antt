@@ -1,0 +1,28 @@
+-- Every number by which an answer is named, of all components: no two answers share one, and 0 names none. A component that brings refusals of
+-- its own gets a case here. Definitions and statements; proofs/Numbers.antt proves them.
+use Prim.Native.Nat.{ℕ, _<_}
+use mathlib.Core.Path.{_≡_}
+use Rattle.refusals.specs.declared.LineRefusal.{LineRefusal}
+use Rattle.refusals.specs.declared.FieldRefusal.{FieldRefusal}
+use Rattle.refusals.specs.Numbers.{lineNumber, fieldNumber}
+use Rattle.reports.specs.declared.kinds.Kind.{Kind}
+use Rattle.reports.specs.Kinds.{kindNumber}
+
+-- a refusal of the line, a refusal of a link data field, the kind of a report
+pub data Named : Type 0 where
+  line : LineRefusal → Named
+  field : FieldRefusal → Named
+  kind : Kind → Named
+
+abbrev pub numberOf : Named → ℕ
+numberOf (line q) = lineNumber q
+numberOf (field q) = fieldNumber q
+numberOf (kind k) = kindNumber k
+
+-- a number names one of them
+abbrev pub NumbersDiffer : Type 0
+NumbersDiffer = (a b : Named) → numberOf a ≡ numberOf b → a ≡ b
+
+-- 0 is free to say "not refused"
+abbrev pub NoNumberIsZero : Type 0
+NoNumberIsZero = (a : Named) → 0 < numberOf a
