@@ -31,7 +31,7 @@ use Rattle.fields.proofs.Claims as fields
 use Rattle.claims.specs.Demands.{TakeEveryInputAndEnd, OneNumberedRefusal, NoSkipWithoutAName, GivenExactly, LeavesUntouched, MeanWhatIsPrinted, AcceptedExactly, WrittenAgain, ReadAgain, EqualLinesEqualLists, ReadingGivesTheList, OneOutcomeEach, Doubles, reportsIn, Demands}
 use Rattle.claims.proofs.Numbers.{numbers-differ, no-number-is-zero}
 use Rattle.claims.proofs.Twelve.{twelve}
-use Rattle.claims.proofs.Printed.{as-printed, entries-as-printed, rules-as-printed}
+use Rattle.claims.proofs.Printed.{as-printed, only-printed, entries-as-printed, rules-as-printed, all-have-rules}
 use Rattle.claims.proofs.Places.{end-exactly, end-of-bytes, report-words, report-words-of-bytes, read-written, read-written-bytes}
 use Rattle.claims.proofs.Fields.{writing-refuses, has-layout, again, read-left}
 
@@ -99,7 +99,9 @@ meaning = record {
   of-twelve-bits = reports.twelve-bits-a-word;
   fields = fields.fields-mean;
   fields-by-bits = as-printed;
+  no-other-type = only-printed;
   rules-by-bits = rules-as-printed;
+  rules-of-all = all-have-rules;
   lists-by-bits = entries-as-printed;
   weights = measures.weights-as-printed;
   values = one-value;

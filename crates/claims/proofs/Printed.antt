@@ -18,7 +18,7 @@ use Rattle.fields.specs.declared.Field.{Field}
 use Rattle.fields.specs.Table.{table, rows, rowAt, placeFrom, placeOf, byPlace, widths, widthsAt, rules, rulesAt, valuesOf, hasFault, countIn, sizeIn}
 use Rattle.fields.specs.Records.{fieldOf, fieldAt}
 use Rattle.fields.specs.Reading.{valuesAt, typeOf, spareBitSet, listed, listedBy, listIn}
-use Rattle.claims.specs.Printed.{Row, printed, AllMeant, AsPrinted, EntriesAsPrinted, Rule, ruled, anyOf, anySet, AllRuled, RulesAsPrinted}
+use Rattle.claims.specs.Printed.{Row, printed, AllMeant, AsPrinted, OnlyPrinted, EntriesAsPrinted, Rule, ruled, anyOf, anySet, AllRuled, AllHaveRules, RulesAsPrinted}
 
 -- what the table says of a field of a type
 record Made : Type 0 where
@@ -48,6 +48,13 @@ all-meant s a (x ∷ xs) e =
 pub as-printed : AsPrinted
 unfolding table rows rowAt placeFrom widths widthsAt valuesOf countIn sizeIn fieldAt
 as-printed s = (all-meant s 0 (printed (λ a b. bits s a b)) (simp (add-zero, zero-add)), all-meant s 16 (printed (λ a b. bits s (16 + a) (16 + b))) (simp (add-zero, zero-add)))
+
+pub only-printed : OnlyPrinted
+unfolding table rows
+only-printed = refl
+
+pub all-have-rules : AllHaveRules
+all-have-rules = refl
 
 -- ---- the lists
 
@@ -139,15 +146,15 @@ faults s a c = record {
   unused = byPlace false (λ i. hasFault 2 (rulesAt i) (valuesAt s a i)) (placeOf c);
 }
 
-abbrev told : Rule → Ruled
-told x = record { spare = anySet (x .spares); unused = anyOf (x .unused) }
+abbrev ruling : Rule → Ruled
+ruling x = record { spare = anySet (x .spares); unused = anyOf (x .unused) }
 
-all-ruled : (s : List ℕ) (a : ℕ) (xs : List Rule) → map (λ (x : Rule). faults s a (x .code)) xs ≡ map told xs → AllRuled s a xs
+all-ruled : (s : List ℕ) (a : ℕ) (xs : List Rule) → map (λ (x : Rule). faults s a (x .code)) xs ≡ map ruling xs → AllRuled s a xs
 unfolding spareBitSet
 all-ruled s a [] e = tt
 all-ruled s a (x ∷ xs) e =
-    let q : faults s a (x .code) ≡ told x = cc in (
-      λ h. let k : faults s a (typeOf s a) ≡ told x = ap (faults s a) h ∙ q in (ap (λ (m : Ruled). m .spare) k, ap (λ (m : Ruled). m .unused) k),
+    let q : faults s a (x .code) ≡ ruling x = cc in (
+      λ h. let k : faults s a (typeOf s a) ≡ ruling x = ap (faults s a) h ∙ q in (ap (λ (m : Ruled). m .spare) k, ap (λ (m : Ruled). m .unused) k),
       all-ruled s a xs (cc),
     )
 

@@ -46,7 +46,7 @@ use Rattle.fields.specs.Reading.{Test, answerOf, readField, textOf}
 use Rattle.fields.specs.Writing.{takes, bitsIn, wayIn, bytesIn, writtenOf, leftOf}
 use Rattle.claims.specs.Numbers.{NumbersDiffer, NoNumberIsZero}
 use Rattle.claims.specs.Twelve.{Twelve}
-use Rattle.claims.specs.Printed.{AsPrinted, EntriesAsPrinted, RulesAsPrinted}
+use Rattle.claims.specs.Printed.{AsPrinted, OnlyPrinted, EntriesAsPrinted, RulesAsPrinted, AllHaveRules}
 
 -- ---- demand 1
 
@@ -138,7 +138,9 @@ pub record MeanWhatIsPrinted : Type 0 where
   pub of-twelve-bits : reports.TwelveBitsAWord
   pub fields : fields.FieldsMean
   pub fields-by-bits : AsPrinted
+  pub no-other-type : OnlyPrinted
   pub rules-by-bits : RulesAsPrinted
+  pub rules-of-all : AllHaveRules
   pub lists-by-bits : (s : List ℕ) (k : ℕ) → EntriesAsPrinted s k
   pub weights : measures.WeightsAsPrinted
   pub values : (c : Counted) (x y : Values) → Doubles x → Doubles y → Yields c x → Yields c y → x ≡ y

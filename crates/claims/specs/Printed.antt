@@ -3,7 +3,7 @@
 -- only; proofs/Printed.antt proves the claims by computing them.
 use Prim.Native.Nat.{ℕ, _+_, _*_, _%_, _<_}
 use mathlib.Core.Path.{_≡_}
-use mathlib.Core.List.{List, [], _∷_}
+use mathlib.Core.List.{List, [], _∷_, _++_, map}
 use mathlib.Core.Bool.{Bool, false, not, _||_}
 use lib.Dec.{eqb, leb}
 use lib.IntN.{pos}
@@ -11,9 +11,10 @@ use lib.ListN.{getD}
 use Rattle.bits.specs.Bits.{bits}
 use Rattle.fields.specs.declared.Direction.{Direction}
 use Rattle.fields.specs.declared.Direction.the-variants.{ToSensor, FromSensor}
+use Rattle.fields.specs.declared.Row as known
 use Rattle.fields.specs.declared.Field.{Field}
 use Rattle.fields.specs.declared.Field.the-variants.{TacticalUplink, ElmUplink, DownlinkRequest, IdRequest, CapabilityRequest, Cancellation, Test, AltimeterCorrection, AtcFailure, SensorFailure, DabsControlState, AtcrbsControlState, RejectionNotice, DeliveryNotice, TacticalDownlink, ElmDownlink, Utility, Capability, IdCode, TestResponse, ControllerAlert}
-use Rattle.fields.specs.Table.{placeOf, byPlace, rowAt, rulesAt, hasFault, sizeIn}
+use Rattle.fields.specs.Table.{rows, placeOf, byPlace, rowAt, rulesAt, hasFault, sizeIn}
 use Rattle.fields.specs.Lists.{blockOf}
 use Rattle.fields.specs.Reading.{typeOf, valuesAt, recordIn, listIn, spareBitSet}
 
@@ -94,6 +95,10 @@ AllMeant s before (x ∷ rows) =
 -- a field alone, and one inside a relay, behind its type and sensor
 abbrev pub AsPrinted : Type 0
 AsPrinted = (s : List ℕ) → AllMeant s 0 (printed (λ a b. bits s a b)) × AllMeant s 16 (printed (λ a b. bits s (16 + a) (16 + b)))
+
+-- and no other type has a row: those of the table are the printed ones, in their order, and the relay's
+abbrev pub OnlyPrinted : Type 0
+OnlyPrinted = map (λ (x : known.Row). x .code) rows ≡ map (λ (x : Row). x .code) (printed (λ a b. 0)) ++ (0x03 ∷ [])
 
 -- the list beside the record, entry k of it counted from 0: an altimeter block has 8 bits, an address or an identifier 24, and the first
 -- stands at bit 17. (No type that is relayed has a list.)
@@ -179,6 +184,10 @@ abbrev pub AllRuled : List ℕ → ℕ → List Rule → Type 0
 AllRuled s before [] = Unit {0}
 AllRuled s before (x ∷ rules) =
     (typeOf s before ≡ x .code → (spareBitSet s before ≡ anySet (x .spares)) × (unusedAt s before ≡ anyOf (x .unused))) × AllRuled s before rules
+
+-- every printed type has its rules
+abbrev pub AllHaveRules : Type 0
+AllHaveRules = map (λ (x : Rule). x .code) (ruled (λ a b. 0)) ≡ map (λ (x : Row). x .code) (printed (λ a b. 0))
 
 abbrev pub RulesAsPrinted : Type 0
 RulesAsPrinted = (s : List ℕ) → AllRuled s 0 (ruled (λ a b. bits s a b)) × AllRuled s 16 (ruled (λ a b. bits s (16 + a) (16 + b)))

@@ -33,9 +33,9 @@ use Rattle.fields.specs.Reading.{readField, textOf}
 -- ---- what a row says
 
 -- what is given: the words of a line; or the bytes of a link data field, its bit count and the way it travels
-pub data Given : Type 0 where
-  line : List ℕ → Given
-  field : List ℕ → ℕ → Direction → Given
+pub data Input : Type 0 where
+  line : List ℕ → Input
+  field : List ℕ → ℕ → Direction → Input
 
 -- what a call of the reader says of a run: the lister's name, the whole record, and range, azimuth and time in 1024ths of a nmi, of a
 -- degree and of a second; or the number of the refusal; or that the line ends
@@ -56,14 +56,14 @@ call s f a n = record { says = s; first = f; after = a; named = n }
 
 -- what is answered: of a line every call, from its start to its end; of a field the whole record, its list and its text, or the number of
 -- the refusal, with the list and the text that stand beside it
-pub data Told : Type 0 where
-  calls : List Call → Told
-  message : Record → List ℤ → List ℕ → Told
-  refusal : ℕ → List ℤ → List ℕ → Told
+pub data Reply : Type 0 where
+  calls : List Call → Reply
+  message : Record → List ℤ → List ℕ → Reply
+  refusal : ℕ → List ℤ → List ℕ → Reply
 
-pub record Row : Type 0 where
-  pub given : Given
-  pub told : Told
+pub record Worked : Type 0 where
+  pub input : Input
+  pub reply : Reply
 
 -- ---- what the written definitions answer
 
@@ -75,11 +75,11 @@ said W.End = end
 abbrev pub callOf : Outcome → Call
 callOf o = call (said (o .what)) (o .first) (o .after) (o .named)
 
-abbrev pub messageOf : Answer → List ℤ → List ℕ → Told
+abbrev pub messageOf : Answer → List ℤ → List ℕ → Reply
 messageOf (A.Accepted r) l t = message r l t
 messageOf (A.Refused q) l t = refusal (fieldNumber q) l t
 
-abbrev pub answerTo : Given → Told
+abbrev pub answerTo : Input → Reply
 answerTo (line ws) = calls (map callOf (outcomes (readRun signMagnitude) ws))
 answerTo (field s n w) = messageOf (readField s n w .answer) (readField s n w .list) (textOf s n w)
 
@@ -93,7 +93,7 @@ abbrev c2 : ℕ → ℕ → List ℕ
 c2 beginning ending = beginning ∷ 1281 ∷ 256 ∷ 7 ∷ 5175 ∷ 1414 ∷ ending ∷ []
 
 -- what is answered of a line that is one run of n words: that, of the run from place 0 on, whose first word is named; and then the end
-abbrev one : ℕ → Said → Told
+abbrev one : ℕ → Said → Reply
 one n said = calls (call said 0 n 0 ∷ call end n n n ∷ [])
 
 -- 40 nmi, a quarter of the circle, three counts of 1/8 s
@@ -138,37 +138,37 @@ dabs h =
 abbrev zeros : ℕ → List ℤ
 zeros n = replicate n (pos 0)
 
-abbrev row : Given → Told → Row
-row g t = record { given = g; told = t }
+abbrev worked : Input → Reply → Worked
+worked g t = record { input = g; reply = t }
 
-abbrev pub table : List Row
+abbrev pub table : List Worked
 table =
     -- C1 868 1281 2048 647: Search, FAA, 40 nmi, azimuth 1024, run length 5, time 3
-    row (line c1) (one 4 (report Search search values))
+    worked (line c1) (one 4 (report Search search values))
     -- C2 3973 1281 256 7 5175 1414 4102: DABS, primary, A1B2C3 hex, 40 nmi, azimuth 2048, time 3, -300 ft
-    ∷ row (line (c2 3973 4102)) (one 7 (report Dabs (dabs (Altitude (negℤ (pos 3)))) values))
+    ∷ worked (line (c2 3973 4102)) (one 7 (report Dabs (dabs (Altitude (negℤ (pos 3)))) values))
     -- C3 C2 ending 4096: 9
-    ∷ row (line (c2 3973 4096)) (one 7 (refused 9))
+    ∷ worked (line (c2 3973 4096)) (one 7 (refused 9))
     -- C4 C2 beginning 3974, ending 4: 7; ending 8: DABS-CD
-    ∷ row (line (c2 3974 4)) (one 7 (refused 7))
-    ∷ row (line (c2 3974 8)) (one 7 (report DabsCd (dabs (Cd true (record { 0 = 0 }))) values))
+    ∷ worked (line (c2 3974 4)) (one 7 (refused 7))
+    ∷ worked (line (c2 3974 8)) (one 7 (report DabsCd (dabs (Cd true (record { 0 = 0 }))) values))
     -- C5 C1 twice, no idle: 6
-    ∷ row (line (c1 ++ c1)) (one 8 (refused 6))
+    ∷ worked (line (c1 ++ c1)) (one 8 (refused 6))
     -- C6 0: 4
-    ∷ row (line (0 ∷ [])) (one 1 (refused 4))
+    ∷ worked (line (0 ∷ [])) (one 1 (refused 4))
     -- C7 8192: 3
-    ∷ row (line (8192 ∷ [])) (one 1 (refused 3))
+    ∷ worked (line (8192 ∷ [])) (one 1 (refused 3))
     -- C8 1024: 5
-    ∷ row (line (1024 ∷ [])) (one 1 (refused 5))
+    ∷ worked (line (1024 ∷ [])) (one 1 (refused 5))
     -- C9 577: 5
-    ∷ row (line (577 ∷ [])) (one 1 (refused 5))
+    ∷ worked (line (577 ∷ [])) (one 1 (refused 5))
     -- C10 bytes 9B 01 12 83, 32 bits, to the sensor: +12, -3
-    ∷ row (field (0x9B ∷ 0x01 ∷ 0x12 ∷ 0x83 ∷ []) 32 ToSensor)
+    ∷ worked (field (0x9B ∷ 0x01 ∷ 0x12 ∷ 0x83 ∷ []) 32 ToSensor)
     (message (Single (AltimeterCorrection 1)) (pos 12 ∷ negℤ (pos 3) ∷ zeros 28) [])
     -- C11 the same with 80 last: 28
-    ∷ row (field (0x9B ∷ 0x01 ∷ 0x12 ∷ 0x80 ∷ []) 32 ToSensor) (refusal 28 (zeros 30) [])
+    ∷ worked (field (0x9B ∷ 0x01 ∷ 0x12 ∷ 0x80 ∷ []) 32 ToSensor) (refusal 28 (zeros 30) [])
     -- C12 21 A1 B2 C3 5B and seven zeros, 96 bits: number 5, urgent, EXP 3 (21 travels to the sensor; its text is zero)
-    ∷ row (field (0x21 ∷ 0xA1 ∷ 0xB2 ∷ 0xC3 ∷ 0x5B ∷ replicate 7 0x00) 96 ToSensor)
+    ∷ worked (field (0x21 ∷ 0xA1 ∷ 0xB2 ∷ 0xC3 ∷ 0x5B ∷ replicate 7 0x00) 96 ToSensor)
     (message (Single (TacticalUplink 0xA1B2C3 5 1 3 0)) (zeros 30) [])
     ∷ []
 
@@ -176,4 +176,4 @@ table =
 
 -- what is given in each row is answered as the row tells
 abbrev pub Twelve : Type 0
-Twelve = map (λ (r : Row). answerTo (r .given)) table ≡ map (λ (r : Row). r .told) table
+Twelve = map (λ (r : Worked). answerTo (r .input)) table ≡ map (λ (r : Worked). r .reply) table
