@@ -351,7 +351,7 @@ uint32_t siamrung_field_refusal(const uint8_t *bytes, size_t length, size_t coun
 /* Answers the field's type, for a relay SIAMRUNG_TYPE_RELAY. Answers 0 if the field is refused. */
 uint32_t siamrung_field_type(const uint8_t *bytes, size_t length, size_t count, uint32_t from_sensor);
 
-/* Answers the type whose items the field has: for a relay the type of the field inside, else the field's own type. Answers 0 if the field is
+/* Answers the type that the items belong to: for a relay the type of the field inside, else the field's own type. Answers 0 if the field is
  * refused. */
 uint32_t siamrung_field_inner_type(const uint8_t *bytes, size_t length, size_t count, uint32_t from_sensor);
 
@@ -376,8 +376,8 @@ size_t siamrung_field_text_length(const uint8_t *bytes, size_t length, size_t co
 /* ---- calls that write a link data field */
 
 /*
- * Writes the field of that type with these items to the start of the bytes. The unused bits of the last byte become 0. Answers the number of
- * bits of the field. If the call is refused, it leaves every byte as it was and answers 0; siamrung_field_write_refusal says why.
+ * Writes the field of that type with these items to the start of the bytes. The unused bits of the field's last byte become 0. Answers the
+ * number of bits of the field. If the call is refused, it leaves every byte as it was and answers 0; siamrung_field_write_refusal says why.
  *
  * Never pass SIAMRUNG_TYPE_RELAY: to write a relay, pass the type of the field inside and add the item SENSOR. A type that travels to the
  * sensor is not relayed, and a test response is not relayed.
