@@ -1,6 +1,7 @@
 /*
- * A small recorder: reads a recording from standard input and prints each report with its values and units, each refusal with its reason,
- * and at the end how many of each kind there were, and how many reports had a height, so that a recording without heights shows at once.
+ * A small recorder. It reads a recording from standard input. It prints each report with its values and units, and each refusal with its
+ * reason. At the end it prints how many reports of each kind there were, how many refusals, and how many reports had a height: so one sees at
+ * once that a recording has no heights.
  */
 #include <inttypes.h>
 #include <stdio.h>
@@ -8,7 +9,7 @@
 
 #include "siamrung.h"
 
-/* One byte more than a line may have, so that a longer one is seen as too long. */
+/* One byte more than a line may have, so that the library sees when a recording is too long. */
 #define MOST 65537
 
 static const char *const kind_names[] = {
@@ -34,7 +35,7 @@ static const char *reason(uint32_t refusal)
     }
 }
 
-/* The items that are printed by name where the report has them: the value is the count times the scale. */
+/* Items that are printed with their names, if the report has them. The printed value is the count times the scale. */
 static const struct {
     uint32_t item;
     const char *name;
@@ -82,7 +83,7 @@ int main(void)
             printf("%zu REFUSED %" PRIu32 " at %zu: %s\n", siamrung_first(bytes, length, place), why,
                    siamrung_named(bytes, length, place), reason(why));
             refused++;
-            /* a refused line or place gives its own place back: nothing more can be read */
+            /* the line or the place itself is refused: the answer is the place that was passed, and nothing more can be read */
             if (siamrung_after(bytes, length, place) == place)
                 break;
         } else {

@@ -1,21 +1,23 @@
 /*
- * siamrung.h: the calls of the Siamrung converter for C and C++ programs: reading a line of words, writing a report into one, reading and
- * writing a link data field.
+ * siamrung.h: the calls of the Siamrung converter for C and C++ programs. They read a line of words, write a report into a line, read a link
+ * data field and write one.
  *
- * A line is a slice of bytes, two a word, high byte first: a pointer and the number of bytes. An empty slice may be NULL, 0. A place is a
- * number of words from the start of the line, counted from 0. Every slice and every place is taken: what cannot be read is answered with a
- * refusal, never passed over.
+ * Lines. A line is a slice of bytes: a pointer and the number of bytes. Two bytes are a word, high byte first. A line has at most 65,536
+ * bytes, which are 32,768 words. An empty slice may be NULL with the length 0. A place is a number of words from the start of the line,
+ * counted from 0. Every slice and every place gets an answer. What cannot be read gets a refusal; it is never passed over.
  *
- * A call that reads a line answers one number about the run of words at the place: idle words from the place on are skipped, and from a
- * place inside a run the run begins there. No call writes what it reads, and none keeps anything: any thread may call at any time. A call
- * reads its own run and no more of the line, so a program that goes from run to run by siamrung_after does work in proportion to the line.
+ * Reading. A call that reads a line answers one number about the run of words at the place. It skips the idle words from the place on. From a
+ * place inside a run, the run begins at that place. A call that reads writes nothing. No call keeps anything, so any thread may call at any
+ * time. A call reads its own run and no more of the line. So a program that goes from run to run by siamrung_after does work in proportion to
+ * the line.
  *
- * The numbers below never change their meaning, and none is ever used for something else. A line has at most 65,536 bytes, 32,768 words;
- * a link data field at most 2008 bits, 251 bytes.
+ * Writing. The program passes items: a slice of bytes, sixteen bytes an item. The first eight bytes are the item's number, the last eight are
+ * its value, high byte first. A negative value is in two's complement. The items stand in any order. The program passes all items of that
+ * kind (or type), each once, and no others: nothing is filled in, and nothing is passed over. The bytes that a call writes must overlap no
+ * other slice that is passed to it.
  *
- * What is written is given as items: a slice of bytes, sixteen an item, its number in the first eight and its value in the last eight, high
- * byte first, a negative value in two's complement. The order is free. All items of that kind (or type) are given, each once, and no others:
- * nothing is filled in, and nothing passed over. The bytes that a call writes overlap no other slice that it is given.
+ * Versions. The numbers below keep their meaning: none is ever used for something else. siamrung_version grows with each change of the calls.
+ * A call whose meaning changes under the same arguments gets a new name, so that an old program fails to build and never misreads.
  */
 #ifndef SIAMRUNG_H
 #define SIAMRUNG_H
@@ -44,7 +46,7 @@ extern "C" {
 #define SIAMRUNG_KIND_ATCRBS_RDAS 113
 #define SIAMRUNG_KIND_MTD 114
 #define SIAMRUNG_KIND_RDAS 115
-/* no report: the run at the place is refused, or the line or the place is; siamrung_refusal says why */
+/* no report: the run at the place is refused, or the line itself, or the place itself; siamrung_refusal says why */
 #define SIAMRUNG_KIND_REFUSED 120
 /* no report: only idle words are left */
 #define SIAMRUNG_KIND_END 121
@@ -52,33 +54,33 @@ extern "C" {
 /* ---- refusals: what siamrung_refusal answers */
 
 #define SIAMRUNG_REFUSAL_NONE 0
-/* line over 65,536 bytes */
+/* the line has more than 65,536 bytes */
 #define SIAMRUNG_REFUSAL_LINE_TOO_LONG 2
-/* odd number of bytes */
+/* the line has an odd number of bytes */
 #define SIAMRUNG_REFUSAL_ODD_BYTE_COUNT 14
-/* place beyond the line's length */
+/* the place is beyond the line's length */
 #define SIAMRUNG_REFUSAL_PLACE_BEYOND_LINE 1
-/* a word of the run above 8191 */
+/* a word of the run is above 8191 */
 #define SIAMRUNG_REFUSAL_WORD_TOO_WIDE 3
-/* a word of the run with an even number of ones */
+/* a word of the run has an even number of ones */
 #define SIAMRUNG_REFUSAL_EVEN_WORD 4
-/* first word: no known form */
+/* the first word has no known form */
 #define SIAMRUNG_REFUSAL_UNKNOWN_FORM 5
-/* the run has not 4 (or 7) words, as its first word says */
+/* the first word says 4 (or 7) words, and the run has another number of words */
 #define SIAMRUNG_REFUSAL_WRONG_LENGTH 6
-/* bit 12 one and bits 88-90 not assigned */
+/* seven words: bit 12 is one, and bits 88-90 have a value that is not assigned for that bit 4 */
 #define SIAMRUNG_REFUSAL_UNASSIGNED_RADAR 7
-/* a zero or spare bit is one */
+/* a zero bit or a spare bit is one */
 #define SIAMRUNG_REFUSAL_SPARE_BIT_SET 8
-/* altitude sign 1 with magnitude 0 */
+/* the altitude is minus zero: sign 1 and magnitude 0 */
 #define SIAMRUNG_REFUSAL_MINUS_ZERO 9
-/* writing: a value too large for its field */
+/* writing: a value is too large for its field, or kind and items are no record */
 #define SIAMRUNG_REFUSAL_VALUE_TOO_LARGE 11
-/* writing: too few words from the place on */
+/* writing: from the place on there are too few words for the report and one idle word */
 #define SIAMRUNG_REFUSAL_NO_ROOM 10
 
 /*
- * ---- items: the fields of a report, for siamrung_has, siamrung_item and siamrung_write. A flag is 0 or 1.
+ * ---- items: the values of a report, for siamrung_has, siamrung_item and siamrung_write. A flag is 0 or 1.
  *
  * SEARCH: TEST FAA AF RANGE AZIMUTH AIMS AIMS_CODE RUN TIME
  * STROBE: TEST FAA AF RANGE AZIMUTH RUN TIME
@@ -88,8 +90,8 @@ extern "C" {
  * DABS: TEST PRIMARY SPI REINFORCED CODE7700 CODE7600 FAA RANGE AZIMUTH ALERT RELAY TIME ADDRESS, and ALTITUDE or CARRIED
  * ATCRBS: TEST MODE3A SPI REINFORCED CODE7700 CODE7600 FAA RANGE AZIMUTH CONFIDENCE TRANSITION FALSE_TARGET RELAY TIME CODE FILE, and
  * ALTITUDE or CARRIED
- * DABS_CD and ATCRBS_CD: as DABS and ATCRBS, with MODE_C and RUN for the last
- * DABS_MTD, DABS_RDAS, ATCRBS_MTD, ATCRBS_RDAS: as DABS and ATCRBS, with MODE_C and QUALITY for the last
+ * DABS_CD and ATCRBS_CD: as DABS and ATCRBS, but with MODE_C and RUN instead of ALTITUDE or CARRIED
+ * DABS_MTD, DABS_RDAS, ATCRBS_MTD, ATCRBS_RDAS: as DABS and ATCRBS, but with MODE_C and QUALITY instead of ALTITUDE or CARRIED
  * MTD: TEST FAA RANGE AZIMUTH AIMS TIME DOPPLER1 DOPPLER2 FILE QUALITY CONFIDENCE FALSE_TARGET GROUND
  * RDAS: TEST FAA RANGE AZIMUTH AIMS TIME FILE QUALITY FALSE_TARGET
  */
@@ -97,22 +99,22 @@ extern "C" {
 #define SIAMRUNG_ITEM_TEST 1
 #define SIAMRUNG_ITEM_FAA 2
 #define SIAMRUNG_ITEM_AF 3
-/* one count 1/8 nmi; of DABS, ATCRBS, MTD and RDAS 1/128 nmi */
+/* one count is 1/8 nmi; in DABS, ATCRBS (also with substitution), MTD and RDAS it is 1/128 nmi */
 #define SIAMRUNG_ITEM_RANGE 4
-/* 4096 to the circle; of DABS, ATCRBS, MTD and RDAS 8192 */
+/* 4096 counts are the circle; in DABS, ATCRBS (also with substitution), MTD and RDAS 8192 counts are */
 #define SIAMRUNG_ITEM_AZIMUTH 5
-/* in storage, one count 1/8 s */
+/* time in storage; one count is 1/8 s */
 #define SIAMRUNG_ITEM_TIME 6
-/* run length, one count 4 ACP */
+/* run length; one count is 4 ACP */
 #define SIAMRUNG_ITEM_RUN 7
 #define SIAMRUNG_ITEM_AIMS 8
 #define SIAMRUNG_ITEM_AIMS_CODE 9
 #define SIAMRUNG_ITEM_VARIATION 10
-/* of a Map, one count 1/8 nmi */
+/* range start of a Map; one count is 1/8 nmi */
 #define SIAMRUNG_ITEM_START 11
-/* of a Map, one count 1/8 nmi */
+/* range stop of a Map; one count is 1/8 nmi */
 #define SIAMRUNG_ITEM_STOP 12
-/* of Status, twelve bits as sent */
+/* SECOND, THIRD, FOURTH: the last three words of a Status, twelve bits each, as sent */
 #define SIAMRUNG_ITEM_SECOND 13
 #define SIAMRUNG_ITEM_THIRD 14
 #define SIAMRUNG_ITEM_FOURTH 15
@@ -127,26 +129,26 @@ extern "C" {
 #define SIAMRUNG_ITEM_RELAY 24
 /* 24 bits */
 #define SIAMRUNG_ITEM_ADDRESS 25
-/* of ATCRBS a flag, of MTD four bits */
+/* in ATCRBS a flag, in MTD four bits */
 #define SIAMRUNG_ITEM_CONFIDENCE 26
 #define SIAMRUNG_ITEM_TRANSITION 27
 #define SIAMRUNG_ITEM_FALSE_TARGET 28
 /* twelve bits, octal ABCD */
 #define SIAMRUNG_ITEM_CODE 29
-/* 0: uncorrelated */
+/* file number; 0 means uncorrelated */
 #define SIAMRUNG_ITEM_FILE 30
-/* hundreds of feet, signed */
+/* in hundreds of feet, signed */
 #define SIAMRUNG_ITEM_ALTITUDE 31
 /* bits 79-90 as sent, where they are no altitude */
 #define SIAMRUNG_ITEM_CARRIED 32
-/* of MTD, RDAS and their substitutions */
+/* in MTD and RDAS, and in the substitutions by MTD and RDAS */
 #define SIAMRUNG_ITEM_QUALITY 33
 #define SIAMRUNG_ITEM_DOPPLER1 34
 #define SIAMRUNG_ITEM_DOPPLER2 35
 #define SIAMRUNG_ITEM_GROUND 36
 
-/* ---- types of link data fields (hexadecimal in the document): what siamrung_field_type answers, and, but for RELAY, what siamrung_field_write
- * takes */
+/* ---- types of link data fields, in hexadecimal as in the document. siamrung_field_type answers them; siamrung_field_write takes all of them
+ * except RELAY */
 
 /* to the sensor */
 #define SIAMRUNG_TYPE_TACTICAL_UPLINK 0x21
@@ -173,35 +175,37 @@ extern "C" {
 #define SIAMRUNG_TYPE_CONTROLLER_ALERT 0x83
 #define SIAMRUNG_TYPE_RELAY 0x03
 
-/* ---- refusals of link data fields: what siamrung_field_refusal and siamrung_field_write_refusal answer; 0: none */
+/* ---- refusals of link data fields: what siamrung_field_refusal and siamrung_field_write_refusal answer; 0 means not refused */
 
-/* count under 8 or over 2008 */
+/* the count of bits is under 8 or over 2008 */
 #define SIAMRUNG_FIELD_REFUSAL_COUNT_OUT_OF_RANGE 20
-/* bytes are not count/8 rounded up */
+/* the number of bytes is not count/8 rounded up */
 #define SIAMRUNG_FIELD_REFUSAL_WRONG_BYTE_COUNT 21
 /* a bit after the count is one */
 #define SIAMRUNG_FIELD_REFUSAL_BIT_AFTER_COUNT 22
-/* type not in Table 5-1 */
+/* the type is not in Table 5-1 */
 #define SIAMRUNG_FIELD_REFUSAL_UNKNOWN_TYPE 23
-/* a type that is known and not carried */
+/* the type is known, but the converter does not carry it */
 #define SIAMRUNG_FIELD_REFUSAL_TYPE_NOT_CARRIED 24
-/* the other way's type */
+/* the type is one that travels the other way */
 #define SIAMRUNG_FIELD_REFUSAL_WRONG_DIRECTION 25
 /* a relay or a test response inside a relay */
 #define SIAMRUNG_FIELD_REFUSAL_NOT_RELAYED 29
-/* count not the layout's */
+/* the count of bits is not the layout's */
 #define SIAMRUNG_FIELD_REFUSAL_WRONG_BIT_COUNT 26
-/* spare bit one */
+/* a spare bit is one */
 #define SIAMRUNG_FIELD_REFUSAL_SPARE_BIT_SET 27
-/* a value not in use */
+/* a value is not in use */
 #define SIAMRUNG_FIELD_REFUSAL_VALUE_NOT_IN_USE 28
-/* writing: a value too large or not in use; an item, the list or the text that is not this type's; a sensor with a type that is not relayed */
+/* writing: a value is too large or not in use; the items, the list or the text are not those of the type; SENSOR is passed with a type that is
+ * not relayed */
 #define SIAMRUNG_FIELD_REFUSAL_NOT_WRITABLE 30
-/* writing: too few bytes */
+/* writing: there are too few bytes for the field */
 #define SIAMRUNG_FIELD_REFUSAL_NO_ROOM 31
 
 /*
- * ---- items of link data fields, for siamrung_field_has, siamrung_field_item and siamrung_field_write; the bits are the document's.
+ * ---- items of link data fields, for siamrung_field_has, siamrung_field_item and siamrung_field_write. Each has the bits that the document
+ * gives it.
  *
  * TACTICAL_UPLINK: ADDRESS NUMBER PRIORITY EXP TEXT
  * ELM_UPLINK: ADDRESS NUMBER PRIORITY EXP LENGTH
@@ -228,18 +232,18 @@ extern "C" {
 /* 24 bits */
 #define SIAMRUNG_FIELD_ITEM_ADDRESS 201
 #define SIAMRUNG_FIELD_ITEM_NUMBER 202
-/* P: 1 is urgent */
+/* P in the document; 1 means urgent */
 #define SIAMRUNG_FIELD_ITEM_PRIORITY 203
 #define SIAMRUNG_FIELD_ITEM_EXP 204
-/* of a tactical message, 56 bits; an ELM's text has a place and a length instead */
+/* text of a tactical message, 56 bits; siamrung_field_text_place answers where an ELM's text is */
 #define SIAMRUNG_FIELD_ITEM_TEXT 205
-/* of an ELM: its text has 10 (LENGTH + 1) bytes */
+/* Length of an ELM; the ELM's text has 10 (LENGTH + 1) bytes */
 #define SIAMRUNG_FIELD_ITEM_LENGTH 206
 #define SIAMRUNG_FIELD_ITEM_MSRC 207
 /* referenced number */
 #define SIAMRUNG_FIELD_ITEM_REFERENCED 208
 #define SIAMRUNG_FIELD_ITEM_REFERENCED_TYPE 209
-/* of a test and its response, 48 bits */
+/* of a test and of a test response, 48 bits */
 #define SIAMRUNG_FIELD_ITEM_PATTERN 210
 #define SIAMRUNG_FIELD_ITEM_N 211
 #define SIAMRUNG_FIELD_ITEM_STATE 212
@@ -258,7 +262,7 @@ extern "C" {
 #define SIAMRUNG_FIELD_ITEM_ECA 225
 /* twelve bits, octal ABCD */
 #define SIAMRUNG_FIELD_ITEM_CODE 226
-/* of a controller alert: two aircraft, 24 bits each; CS says which form */
+/* ACID1, ACID2: the two aircraft of a controller alert, 24 bits each; CS1 and CS2 say which form they have */
 #define SIAMRUNG_FIELD_ITEM_ACID1 227
 #define SIAMRUNG_FIELD_ITEM_ACID2 228
 #define SIAMRUNG_FIELD_ITEM_CS1 229
@@ -269,44 +273,48 @@ extern "C" {
 #define SIAMRUNG_FIELD_ITEM_DEL2 234
 #define SIAMRUNG_FIELD_ITEM_V1 235
 #define SIAMRUNG_FIELD_ITEM_V2 236
-/* of a relay alone, 8 bits */
+/* of a relay only, 8 bits */
 #define SIAMRUNG_FIELD_ITEM_SENSOR 237
 
 /* ---- calls that read a line */
 
-/* The version of these calls: 2. It grows when a call is added. */
+/* Answers the version of these calls: 2. It grows with each change of the calls. */
 uint32_t siamrung_version(void);
 
-/* What stands at the place: a kind of report, SIAMRUNG_KIND_REFUSED or SIAMRUNG_KIND_END. */
+/* Answers what stands at the place: a kind of report, SIAMRUNG_KIND_REFUSED or SIAMRUNG_KIND_END. */
 uint32_t siamrung_kind(const uint8_t *bytes, size_t length, size_t place);
 
 /*
- * Why the run at the place is refused: the first of the conditions, in the order in which they stand above (2, 14, 1, 3, 4, ..), that
- * holds. SIAMRUNG_REFUSAL_NONE for a report and at the end. Refusals 2, 14 and 1 are of the line or the place itself: a program that goes
- * from run to run stops there, since siamrung_after gives its own place back.
+ * Answers why the run at the place is refused. The conditions are tested in the order in which they stand above (2, 14, 1, 3, 4, ..), and the
+ * first that holds answers. For a report and at the end the answer is SIAMRUNG_REFUSAL_NONE. Refusals 2, 14 and 1 are about the line or the
+ * place itself. A program that goes from run to run stops there, because siamrung_after then answers the place that was passed.
  */
 uint32_t siamrung_refusal(const uint8_t *bytes, size_t length, size_t place);
 
-/* The place of the run's first word; at the end, the number of words of the line; for refusals 2, 14 and 1, the place given. */
+/* Answers the place of the run's first word. At the end it answers the number of words of the line; for refusals 2, 14 and 1, the place that
+ * was passed. */
 size_t siamrung_first(const uint8_t *bytes, size_t length, size_t place);
 
-/* The place after the run's last word, from which to go on; at the end, the number of words; for refusals 2, 14 and 1, the place given. */
+/* Answers the place after the run's last word: the program goes on from there. At the end it answers the number of words of the line; for
+ * refusals 2, 14 and 1, the place that was passed. */
 size_t siamrung_after(const uint8_t *bytes, size_t length, size_t place);
 
-/* The place that a refusal names: the first such word for 3 and 4, the run's first for 5 to 9, the place given for 2, 14 and 1. For a
- * report its first word, at the end the number of words. */
+/* Answers the place that a refusal names: for 3 and 4 the first such word of the run, for 5 to 9 the run's first word, for 2, 14 and 1 the
+ * place that was passed. For a report it answers the place of its first word, at the end the number of words of the line. */
 size_t siamrung_named(const uint8_t *bytes, size_t length, size_t place);
 
-/* 1 if there is a report at the place that has the item, else 0. A number that is no item's is an item that no report has. */
+/* Answers 1 if there is a report at the place and it has the item, else 0. So for a number that is no item of reports it answers 0. */
 uint32_t siamrung_has(const uint8_t *bytes, size_t length, size_t place, uint32_t item);
 
-/* The item of the report at the place; 0 where there is none, which siamrung_has tells. */
+/* Answers the value of the item of the report at the place, or 0 if there is no such item. 0 may be a real value, so siamrung_has says whether
+ * the item is there. */
 int64_t siamrung_item(const uint8_t *bytes, size_t length, size_t place, uint32_t item);
 
-/* 1 if there is a report with range and azimuth at the place: any but Status. Else 0. */
+/* Answers 1 if there is a report with range and azimuth at the place, else 0. Every report has them, except a Status. */
 uint32_t siamrung_has_values(const uint8_t *bytes, size_t length, size_t place);
 
-/* Range in nmi (of a Map its start), azimuth in degrees, time in seconds (of a Map 0), each exact; +0 where siamrung_has_values is 0. */
+/* Answer the range in nmi (for a Map its range start), the azimuth in degrees and the time in seconds (for a Map 0). Each is exact. Each is +0
+ * where siamrung_has_values answers 0. */
 double siamrung_nmi(const uint8_t *bytes, size_t length, size_t place);
 double siamrung_degrees(const uint8_t *bytes, size_t length, size_t place);
 double siamrung_seconds(const uint8_t *bytes, size_t length, size_t place);
@@ -315,71 +323,76 @@ double siamrung_seconds(const uint8_t *bytes, size_t length, size_t place);
 
 /*
  * Writes the report of that kind with these items into the line, from the place on: its 4 or 7 words and one idle word. Answers the place
- * after them. Refused, it leaves every byte as it was and answers the place given; siamrung_write_refusal tells. A report right behind a
- * word that is not idle joins its run: write at the place that the call before answered.
+ * after them. If the call is refused, it leaves every byte as it was and answers the place that was passed; siamrung_write_refusal says why.
+ * A report that is written directly behind a word that is not idle joins the run of that word. So write at the place that the call before
+ * answered.
  */
 size_t siamrung_write(uint8_t *bytes, size_t length, size_t place, uint32_t kind, const uint8_t *items, size_t items_length);
 
 /*
- * Why siamrung_write with the same arguments is refused: the first of 2, 14, 1, 11, 10 that holds, else SIAMRUNG_REFUSAL_NONE. It writes
- * nothing, and answers the same before that call and after it. Number 11 is also the answer to what is no record at all: a kind that is no
- * report's, an item that the kind has not, one that is missing or given twice, a flag of 2, a length that is no multiple of sixteen.
+ * Answers why siamrung_write with the same arguments is refused: the first of 2, 14, 1, 11, 10 whose condition holds, else
+ * SIAMRUNG_REFUSAL_NONE. It writes nothing. It answers the same before that call and after it. 11 is also the answer where kind and items are
+ * no record at all: the kind is not a kind of report, an item is not one of the kind's, an item is missing or passed twice, a flag is neither
+ * 0 nor 1, or the length of the items is no multiple of sixteen.
  */
 uint32_t siamrung_write_refusal(const uint8_t *bytes, size_t length, size_t place, uint32_t kind, const uint8_t *items, size_t items_length);
 
 /*
  * ---- calls that read a link data field
  *
- * A field is a slice of bytes and a number of bits; bit 1 is the top bit of the first byte. from_sensor says which way it travels: 0 to the
- * sensor, any other number from it.
+ * A field is a slice of bytes and a count of its bits: at most 2008 bits, which are 251 bytes. Bit 1 is the top bit of the first byte.
+ * from_sensor says which way the field travels: 0 means to the sensor, any other number means from the sensor.
  */
 
-/* Why the field is refused: the first of 20, 21, 22, 23, 24, 25, 29, 26, 27, 28 that holds, else 0. In a relay of at least 24 bits that
- * comes from the sensor, 23 to 28 speak of the field inside. */
+/* Answers why the field is refused: the first of 20, 21, 22, 23, 24, 25, 29, 26, 27, 28 whose condition holds, else 0. In a relay of at least
+ * 24 bits that comes from the sensor, 23 to 28 are about the field inside. */
 uint32_t siamrung_field_refusal(const uint8_t *bytes, size_t length, size_t count, uint32_t from_sensor);
 
-/* The field's type, SIAMRUNG_TYPE_RELAY for a relay; 0 where it is refused. */
+/* Answers the field's type, for a relay SIAMRUNG_TYPE_RELAY. Answers 0 if the field is refused. */
 uint32_t siamrung_field_type(const uint8_t *bytes, size_t length, size_t count, uint32_t from_sensor);
 
-/* The type that the items speak of: of a relay, that of the field inside; else the field's own. 0 where it is refused. */
+/* Answers the type that the items belong to: for a relay the type of the field inside, else the field's own type. Answers 0 if the field is
+ * refused. */
 uint32_t siamrung_field_inner_type(const uint8_t *bytes, size_t length, size_t count, uint32_t from_sensor);
 
-/* 1 if the field is accepted and has the item, else 0. */
+/* Answers 1 if the field is accepted and has the item, else 0. */
 uint32_t siamrung_field_has(const uint8_t *bytes, size_t length, size_t count, uint32_t from_sensor, uint32_t item);
 
-/* The item; 0 where there is none, which siamrung_field_has tells. */
+/* Answers the value of the item, or 0 if there is no such item. 0 may be a real value, so siamrung_field_has says whether the item is there. */
 uint64_t siamrung_field_item(const uint8_t *bytes, size_t length, size_t count, uint32_t from_sensor, uint32_t item);
 
-/* How many list entries the field has: altimeter blocks, addresses or identifiers; 0 for other types and refused fields. */
+/* Answers how many list entries the field has: altimeter blocks, addresses or identifiers. Answers 0 for other types and for refused fields. */
 size_t siamrung_field_entries(const uint8_t *bytes, size_t length, size_t count, uint32_t from_sensor);
 
-/* The list entry at the index, counted from 0: of ALTIMETER_CORRECTION hundreds of feet, signed, else 24 bits. 0 from
- * siamrung_field_entries on. */
+/* Answers the list entry at the index, counted from 0. An entry of ALTIMETER_CORRECTION is in hundreds of feet, signed; any other entry has 24
+ * bits. Answers 0 if the index is not below the answer of siamrung_field_entries. */
 int64_t siamrung_field_entry(const uint8_t *bytes, size_t length, size_t count, uint32_t from_sensor, size_t index);
 
-/* The place, in bytes, and the length of an ELM's text, a relayed one's too. For other types and refused fields the length is 0, and the
- * place is the end of the bytes. */
+/* Answer the place and the length of an ELM's text, in bytes; also of a relayed ELM. For other types and for refused fields the length is 0 and
+ * the place is the end of the bytes. */
 size_t siamrung_field_text_place(const uint8_t *bytes, size_t length, size_t count, uint32_t from_sensor);
 size_t siamrung_field_text_length(const uint8_t *bytes, size_t length, size_t count, uint32_t from_sensor);
 
 /* ---- calls that write a link data field */
 
 /*
- * Writes the field of that type with these items to the start of the bytes, and zeros to the end of the byte that it begins last. Answers
- * the number of its bits. Refused, it leaves every byte as it was and answers 0; siamrung_field_write_refusal tells.
+ * Writes the field of that type with these items to the start of the bytes. The unused bits of the field's last byte become 0. Answers the
+ * number of bits of the field. If the call is refused, it leaves every byte as it was and answers 0; siamrung_field_write_refusal says why.
  *
- * The type is no relay's: the item SENSOR among the items makes a relay of the field; a type to the sensor and a test response are not
- * relayed. list is thirty numbers, eight bytes each, high byte first, a negative one in two's complement: the entries, and zeros behind them;
- * all zero for a type without a list. text is an ELM's, and empty for every other type.
+ * Never pass SIAMRUNG_TYPE_RELAY: to write a relay, pass the type of the field inside and add the item SENSOR. A type that travels to the
+ * sensor is not relayed, and a test response is not relayed.
+ *
+ * list is thirty numbers, eight bytes each, high byte first, a negative number in two's complement. The entries come first, and zeros behind
+ * them. For a type without a list all thirty are 0. text is the text of an ELM. For every other type it is empty.
  */
 size_t siamrung_field_write(uint8_t *bytes, size_t length, uint32_t type, const uint8_t *items, size_t items_length, const uint8_t *list,
                             size_t list_length, const uint8_t *text, size_t text_length);
 
 /*
- * Why siamrung_field_write with the same arguments is refused: the first of 30, 31 that holds, else 0. It writes nothing, and answers the
- * same before that call and after it. Number 30 is also the answer to what is no record at all: a type that is none, SIAMRUNG_TYPE_RELAY,
- * an item that the type has not, one that is missing or given twice, a length of the items that is no multiple of sixteen, one of the list
- * that is not 240.
+ * Answers why siamrung_field_write with the same arguments is refused: the first of 30, 31 whose condition holds, else 0. It writes nothing. It
+ * answers the same before that call and after it. 30 is also the answer where the arguments are no record at all: the type is not listed above
+ * or is SIAMRUNG_TYPE_RELAY, an item is not one of the type's, an item is missing or passed twice, the length of the items is no multiple of
+ * sixteen, or the length of the list is not 240.
  */
 uint32_t siamrung_field_write_refusal(const uint8_t *bytes, size_t length, uint32_t type, const uint8_t *items, size_t items_length,
                                       const uint8_t *list, size_t list_length, const uint8_t *text, size_t text_length);
