@@ -22,14 +22,14 @@ use Rattle.lines.proofs.Outcomes.{alone-free, goes-on, one-each}
 -- ---- the outcomes before the end are those of the runs
 
 -- what is known of a run's outcome: it is no end, and its first word is the run's
-pub record Told (answer : Answer) (lo hi : ℕ) (r : Run) : Type 0 where
+pub record Inside (answer : Answer) (lo hi : ℕ) (r : Run) : Type 0 where
   pub lasts : isEnd (alone answer r .what) ≡ false
   pub from : lo ≤ alone answer r .first
   pub below : alone answer r .first < hi
 
-told : (answer : Answer) (p : ℕ) (ws : List ℕ) → length ws ≤ most → All (Told answer p (p + length ws)) (runsFrom p [] ws)
-told answer p ws m =
-    all-runs (Told answer p (p + length ws)) p (p + length ws)
+inside : (answer : Answer) (p : ℕ) (ws : List ℕ) → length ws ≤ most → All (Inside answer p (p + length ws)) (runsFrom p [] ws)
+inside answer p ws m =
+    all-runs (Inside answer p (p + length ws)) p (p + length ws)
     (λ q w l f a b.
     let e = alone-free answer q w l (omega arith) f in
     let s : alone answer (record { place = q; words = w ∷ l }) .first ≡ q = ap (λ (o : Outcome). o .first) e in
@@ -40,14 +40,14 @@ told answer p ws m =
     })
     p [] ws tt (omega arith) (omega arith)
 
-before-runs : (answer : Answer) (lo hi n : ℕ) (rs : List Run) → All (Told answer lo hi) rs → beforeEnd (map (alone answer) rs ++ (endOf n ∷ [])) ≡ map (alone answer) rs
+before-runs : (answer : Answer) (lo hi n : ℕ) (rs : List Run) → All (Inside answer lo hi) rs → beforeEnd (map (alone answer) rs ++ (endOf n ∷ [])) ≡ map (alone answer) rs
 unfolding beforeEnd
 before-runs answer lo hi n [] h = refl
 before-runs answer lo hi n (r ∷ rs) h = passed _ _ (h .0 .lasts) ∙ ap (λ (os : List Outcome). alone answer r ∷ os) (before-runs answer lo hi n rs (h .1))
 
 before-end : (answer : Answer) (line : List ℕ) → length line ≤ most → beforeEnd (outcomes answer line) ≡ map (alone answer) (runs line)
 before-end answer line m =
-    ap beforeEnd (one-each answer line m) ∙ before-runs answer 0 (0 + length line) (length line) (runs line) (told answer 0 line m)
+    ap beforeEnd (one-each answer line m) ∙ before-runs answer 0 (0 + length line) (length line) (runs line) (inside answer 0 line m)
 
 -- ---- moved along
 
@@ -115,7 +115,7 @@ outside-append lo hi (o ∷ os) qs =
     kept false true = refl
     kept false false = refl
 
-none-outside : (answer : Answer) (lo hi : ℕ) (rs : List Run) → All (Told answer lo hi) rs → outside lo hi (map (alone answer) rs) ≡ []
+none-outside : (answer : Answer) (lo hi : ℕ) (rs : List Run) → All (Inside answer lo hi) rs → outside lo hi (map (alone answer) rs) ≡ []
 unfolding outside
 none-outside answer lo hi [] h = refl
 none-outside answer lo hi (r ∷ rs) h =
@@ -145,7 +145,7 @@ between answer a x b n k m =
     let none : out (map (moved lo) (beforeEnd (outcomes answer x))) ≡ [] =
     ap out inner
     ∙ ap (λ (j : ℕ). outside lo (lo + j) (map (alone answer) (runsFrom lo [] x))) (sym k)
-    ∙ none-outside answer lo (lo + length x) (runsFrom lo [] x) (told answer lo x (omega arith)) in
+    ∙ none-outside answer lo (lo + length x) (runsFrom lo [] x) (inside answer lo x (omega arith)) in
     ap (λ (l : List ℕ). out (outcomes answer l)) same
     ∙ ap out
     (splits answer pre x post (inr (a, refl)) (inr (b, refl)) (let z = ap length same in omega arith)

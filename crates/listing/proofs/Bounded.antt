@@ -6,7 +6,6 @@ use mathlib.Core.Logic.{_⊎_, inl, inr, ⊎-elim}
 use mathlib.Core.List.{List, [], _∷_}
 use native.Mathlib.Omega.{arith}
 use lib.ListN.{length, drop}
-use Rattle.reports.specs.Altitude.{signMagnitude}
 use Rattle.reports.specs.Records.{reportOf}
 use Rattle.lines.specs.declared.Outcome.{Outcome}
 use Rattle.lines.specs.Bytes.{mostBytes, wordsIn, readBytes}
@@ -14,7 +13,7 @@ use Rattle.lines.specs.Line.{most, endOf, gap, runIn, placed, outcomeAt, readBy
 use Rattle.lines.proofs.ByteWords.{words-length, bytes-as-words}
 use Rattle.lines.proofs.Outcomes.{read-there, onward}
 use Rattle.listing.specs.declared.Walk.{Walk}
-use Rattle.listing.specs.Listing.{answer}
+use Rattle.listing.specs.Listing.{form, answer}
 use Rattle.listing.specs.Bounds.{Within}
 
 -- from a place up to the end of a line of n words
@@ -47,11 +46,11 @@ between line p m h =
         }
 
 -- within 65,536 bytes, an even number, the reader of bytes is that of words
-pub by-words : (bytes : List ℕ) (p : ℕ) → length bytes ≤ mostBytes → (length bytes % 2 ≡ 1 → ⊥) → readBytes signMagnitude bytes p ≡ readBy answer (wordsIn bytes) p
-by-words bytes p s e = bytes-as-words signMagnitude bytes p (reportOf signMagnitude []) s (omega arith) .0
+pub by-words : (bytes : List ℕ) (p : ℕ) → length bytes ≤ mostBytes → (length bytes % 2 ≡ 1 → ⊥) → readBytes form bytes p ≡ readBy answer (wordsIn bytes) p
+by-words bytes p s e = bytes-as-words form bytes p (reportOf form []) s (omega arith) .0
 
 pub within : (bytes : List ℕ) (w : Walk) (n : ℕ) (o : Outcome) → length bytes ≤ mostBytes → (length bytes % 2 ≡ 1 → ⊥) → n ≡ length bytes / 2
-    → w .place ≤ n → w .reported ≤ w .place → w .refused ≤ w .place - w .reported → o ≡ readBytes signMagnitude bytes (w .place) → Within n w o
+    → w .place ≤ n → w .reported ≤ w .place → w .refused ≤ w .place - w .reported → o ≡ readBytes form bytes (w .place) → Within n w o
 within bytes w n o s e size a b c is =
     let k = words-length bytes in
     let t = between (wordsIn bytes) (w .place) (omega arith) (omega arith) in

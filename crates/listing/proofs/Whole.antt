@@ -68,17 +68,17 @@ hasEnd [] = false
 hasEnd (o ∷ os) = cond (isEnd (o .what)) true (hasEnd os)
 
 -- a walk that has counted no more words than lie before its place
-pub record Sound (n : ℕ) (w : Walk) : Type 0 where
+pub record Under-way (n : ℕ) (w : Walk) : Type 0 where
   pub going : w .done ≡ false
   pub inside : w .place ≤ n
   pub counted : w .reported + w .refused ≤ w .place
 
 -- an outcome that is no end leaves such a walk at the place after it
-sound-on : (n : ℕ) (w : Walk) (what : What) (first after named : ℕ) → Sound n w → isEnd what ≡ false → w .place ≤ first → first ≤ after → after ≤ n
-    → Sound n (onward w (stepFor n w what first after named)) × (onward w (stepFor n w what first after named) .place ≡ after)
-sound-on n w (W.Accepted r) first after named s e a b c = let k = s .counted in (record { going = refl; inside = c; counted = omega arith }, refl)
-sound-on n w (W.Refused q) first after named s e a b c = let k = s .counted in (record { going = refl; inside = c; counted = omega arith }, refl)
-sound-on n w W.End first after named s e a b c = absurd (let z : _≡_ {A = ℕ} 0 1 = cc in omega arith)
+goes-on : (n : ℕ) (w : Walk) (what : What) (first after named : ℕ) → Under-way n w → isEnd what ≡ false → w .place ≤ first → first ≤ after → after ≤ n
+    → Under-way n (onward w (stepFor n w what first after named)) × (onward w (stepFor n w what first after named) .place ≡ after)
+goes-on n w (W.Accepted r) first after named s e a b c = let k = s .counted in (record { going = refl; inside = c; counted = omega arith }, refl)
+goes-on n w (W.Refused q) first after named s e a b c = let k = s .counted in (record { going = refl; inside = c; counted = omega arith }, refl)
+goes-on n w W.End first after named s e a b c = absurd (let z : _≡_ {A = ℕ} 0 1 = cc in omega arith)
 
 module _ (bytes : List ℕ) (short : length bytes ≤ mostBytes) (even : length bytes % 2 ≡ 1 → ⊥) where
   abbrev n : ℕ
@@ -87,14 +87,14 @@ module _ (bytes : List ℕ) (short : length bytes ≤ mostBytes) (even : length 
   few : n ≤ most
   few = let k = words-length bytes in omega arith
 
-  step-is : (w : Walk) → Sound n w → stepAt bytes w ≡ stepOn n w (readBy answer (wordsIn bytes) (w .place))
+  step-is : (w : Walk) → Under-way n w → stepAt bytes w ≡ stepOn n w (readBy answer (wordsIn bytes) (w .place))
   step-is w s =
       let k = s .counted in
       is-read bytes w n (s .going) short even (words-length bytes) (s .inside) (omega arith) (omega arith)
       ∙ ap (stepOn n w) (by-words bytes (w .place) short even)
 
   -- the fills say what the calls of the reader answer
-  fills-told : (k : ℕ) (w : Walk) → Sound n w → hasEnd (calls answer k (wordsIn bytes) (w .place)) ≡ true
+  fills-told : (k : ℕ) (w : Walk) → Under-way n w → hasEnd (calls answer k (wordsIn bytes) (w .place)) ≡ true
       → Says-all k bytes w (told n w (calls answer k (wordsIn bytes) (w .place)))
   unfolding calls told hasEnd
   fills-told zero w s h = absurd (let z : _≡_ {A = Bool} true false = sym h in let y : _≡_ {A = ℕ} 0 1 = cc in omega arith)
@@ -112,7 +112,7 @@ module _ (bytes : List ℕ) (short : length bytes ≤ mostBytes) (even : length 
         all .1,
       ))
       (λ e.
-      let on = sound-on n w (o .what) (o .first) (o .after) (o .named) s (e .0) (b .behind) (b .forward) (b .inside) in
+      let on = goes-on n w (o .what) (o .first) (o .after) (o .named) s (e .0) (b .behind) (b .forward) (b .inside) in
       let same : calls answer k line (onward w t .place) ≡ calls answer k line (o .after) = ap (calls answer k line) (on .1) in
       let rest : cond (isEnd (o .what)) [] (calls answer k line (o .after)) ≡ calls answer k line (o .after) = passed _ _ (e .0) in
       let more = fills-told k (onward w t) (on .0)
@@ -193,7 +193,7 @@ module _ (bytes : List ℕ) (short : length bytes ≤ mostBytes) (even : length 
   words-said : Says-all k bytes start (listingOf line)
   words-said =
       let n = length line in
-      let ok : Sound n start = record { going = refl; inside = omega arith; counted = omega arith } in
+      let ok : Under-way n start = record { going = refl; inside = omega arith; counted = omega arith } in
       let all = fills-told bytes short even k start ok (ap hasEnd outcomes-are ∙ end-last n (map (alone answer) (runs line))) in
       let add = totals-add answer line in
       let left : n - (0 + reported (runs line)) - (0 + refused (runs line)) ≡ idleWords line = omega arith in (

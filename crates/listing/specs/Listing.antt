@@ -1,23 +1,27 @@
 -- The whole listing of a recording, over the words of its line (document 01, "The C host and the lister"): said without the reader.
 -- Definitions only.
 use Prim.Native.Nat.{ℕ, _+_, _%_}
-use mathlib.Core.Bool.{cond}
 use mathlib.Core.List.{List, [], _∷_, _++_}
 use lib.Dec.{eqb, ltb}
 use lib.ListN.{length}
+use Rattle.rows.specs.Rows.{row, firstOf}
 use Rattle.refusals.specs.Numbers.{lineNumber}
 use Rattle.reports.specs.declared.RunAnswer.{RunAnswer}
 use Rattle.reports.specs.declared.RunAnswer.the-variants as A
-use Rattle.reports.specs.Altitude.{signMagnitude}
+use Rattle.reports.specs.Altitude.{AltitudeForm, signMagnitude}
 use Rattle.reports.specs.Kinds.{kindOf}
 use Rattle.reports.specs.Runs.{readRun}
 use Rattle.lines.specs.Bytes.{mostBytes, wordsIn}
 use Rattle.lines.specs.Stretches.{Run, runs, idleWords, reportedWords, refusedWords}
 use Rattle.listing.specs.Letters.{text, reportLine, refusedLine, totalsLine}
 
--- document 01's answer to the words of a run
+-- the lister reads altitudes in document 01's form
+abbrev pub form : AltitudeForm
+form = signMagnitude
+
+-- the answer to the words of a run
 abbrev pub answer : List ℕ → RunAnswer
-answer ws = readRun signMagnitude ws
+answer ws = readRun form ws
 
 -- the line of a run of n words at a place that got this answer
 abbrev pub lineFor : ℕ → ℕ → RunAnswer → List ℕ
@@ -37,6 +41,4 @@ listingOf line =
 -- the listing of a recording: over 65,536 bytes LONG, else for an odd number ODD, else that of its words
 unfoldable pub listing : List ℕ → List ℕ
 listing bytes =
-    cond (ltb mostBytes (length bytes)) (text "LONG\n")
-    (cond (eqb (length bytes % 2) 1) (text "ODD\n")
-    (listingOf (wordsIn bytes)))
+    firstOf (row (ltb mostBytes (length bytes)) (text "LONG\n") ∷ row (eqb (length bytes % 2) 1) (text "ODD\n") ∷ []) (listingOf (wordsIn bytes))

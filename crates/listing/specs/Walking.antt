@@ -1,12 +1,12 @@
 -- The walk over a recording: what one call comes to, and calls one after the other. Definitions only.
 use Prim.Native.Nat.{ℕ, zero, suc, _+_, _-_, _%_, _≤_}
 use mathlib.Core.Path.{_≡_}
-use mathlib.Core.Bool.{Bool, true, false, cond}
+use mathlib.Core.Bool.{Bool, true, false}
 use mathlib.Core.List.{List, [], _∷_, _++_}
 use lib.Dec.{eqb, ltb}
 use lib.ListN.{length, drop}
+use Rattle.rows.specs.Rows.{Row, row, firstOf}
 use Rattle.refusals.specs.Numbers.{lineNumber}
-use Rattle.reports.specs.Altitude.{signMagnitude}
 use Rattle.reports.specs.Kinds.{kindOf}
 use Rattle.lines.specs.declared.What.{What}
 use Rattle.lines.specs.declared.What.the-variants as W
@@ -15,6 +15,7 @@ use Rattle.lines.specs.Bytes.{mostBytes, wordsIn, readBytes}
 use Rattle.listing.specs.declared.Walk.{Walk}
 use Rattle.listing.specs.declared.Piece.{Piece}
 use Rattle.listing.specs.declared.Piece.the-variants as P
+use Rattle.listing.specs.Listing.{form}
 use Rattle.listing.specs.Letters.{text, reportLine, refusedLine, totalsLine}
 
 -- the place that the walk has come to, the words in reports and in refused runs before it
@@ -47,21 +48,25 @@ stepFor n w W.End first after named = Says (totalsLine (n - w .reported - w .ref
 abbrev pub stepOn : ℕ → Walk → Outcome → Step
 stepOn n w o = stepFor n w (o .what) (o .first) (o .after) (o .named)
 
--- a call: a walk that is done says nothing; LONG and ODD are all that is said; a place beyond the line's end, or more words counted than
--- lie before it, is no walk over this line; else the reader's outcome at the place
+-- a call's rows: a walk that is done says nothing; LONG and ODD are all that is said; a place beyond the line's end, or more words counted
+-- than lie before it, is no walk over this line
+abbrev pub stepRows : List ℕ → Walk → List (Row Step)
+stepRows bytes w =
+    row (w .done) Ended
+    ∷ row (ltb mostBytes (length bytes)) (Says (text "LONG\n") (closed w))
+    ∷ row (eqb (length bytes % 2) 1) (Says (text "ODD\n") (closed w))
+    ∷ row (ltb (length (wordsIn bytes)) (w .place)) Astray
+    ∷ row (ltb (w .place) (w .reported)) Astray
+    ∷ row (ltb (w .place - w .reported) (w .refused)) Astray
+    ∷ []
+
+-- a call: where no row holds, the reader's outcome at the place
 unfoldable pub stepAt : List ℕ → Walk → Step
-stepAt bytes w =
-    cond (w .done) Ended
-    (cond (ltb mostBytes (length bytes)) (Says (text "LONG\n") (closed w))
-    (cond (eqb (length bytes % 2) 1) (Says (text "ODD\n") (closed w))
-    (cond (ltb (length (wordsIn bytes)) (w .place)) Astray
-    (cond (ltb (w .place) (w .reported)) Astray
-    (cond (ltb (w .place - w .reported) (w .refused)) Astray
-    (stepOn (length (wordsIn bytes)) w (readBytes signMagnitude bytes (w .place))))))))
+stepAt bytes w = firstOf (stepRows bytes w) (stepOn (length (wordsIn bytes)) w (readBytes form bytes (w .place)))
 
 -- the same into a buffer of so many bytes
 unfoldable pub stepIn : ℕ → List ℕ → Walk → Step
-stepIn room bytes w = cond (ltb room 64) Cramped (stepAt bytes w)
+stepIn room bytes w = firstOf (row (ltb room 64) Cramped ∷ []) (stepAt bytes w)
 
 -- ---- one call and the buffer
 
