@@ -6,13 +6,14 @@ use mathlib.Core.Logic.{_⊎_, inl, inr}
 use mathlib.Core.Bool.{Bool, true, false, cond, not, _&&_, _||_}
 use Prim.Native.Nat.{ℕ, zero, suc, _+_, _-_, _*_, _/_, _%_, _≤_, _<_, _^_, zero-le}
 use native.Mathlib.Nat.{zero-add, mul-zero, add-zero, div-add-mod'}
-use native.Mathlib.Decide.{decLt, ℕ-discrete}
+use native.Mathlib.Decide.{ℕ-discrete}
 use native.Mathlib.Omega.{arith}
-use lib.IntN.{ℤ, pos, negsuc, negℤ, natAbs}
+use lib.IntN.{ℤ, pos, negℤ, natAbs}
 use lib.Dec.{eqb, ltb, leb}
-use lib.ListN.{length, getD, take, drop, replicate, length-replicate, length-drop}
+use lib.ListN.{length, getD, drop, replicate, length-replicate, length-drop}
 use lib.Seq.{take-all, drop-length}
-use borrow.Author.Tests.{eqb-true, eqb-false, ltb-true, ltb-false, eq-eqb, ne-eqb, lt-ltb, le-ltb, not-true, not-false}
+use borrow.Author.Tests.{eqb-true, eqb-false, ltb-false, eq-eqb, ne-eqb, lt-ltb, not-true, not-false}
+use Rattle.rows.specs.Claims.{NoneHolds}
 use Rattle.bits.specs.Bits.{bitsOf, putBits, Bytes}
 use Rattle.fields.specs.Lists.{negative, blockOf, blockBits, blockUnused, entryOf, entryBits, entryFits, anyUnused, entriesIn, listFits, entriesBits}
 use Rattle.fields.specs.declared.Direction.{Direction}
@@ -20,7 +21,7 @@ use Rattle.fields.specs.declared.Direction.the-variants.{ToSensor, FromS
 use Rattle.fields.specs.declared.Place.{Place}
 use Rattle.fields.specs.declared.Place.the-variants.{At, Nowhere}
 use Rattle.fields.specs.Table.{placeOf, rowAt, rulesAt, widthsAt, valuesOf, hasFault, countIn, sizeIn}
-use Rattle.fields.specs.Reading.{fromSensor, sameWay, typeOf, valuesAt, opens, startOf, recordIn, recordOf, notRelayed, listed, listedBy, listIn, listOf, textIn, blockCount, blocksIn, wrongByteCount, bitAfterCount, unknownType, typeNotCarried, wrongDirection, wrongBitCount, spareBitSet, valueNotInUse, sizedBy, fieldTests, readTests}
+use Rattle.fields.specs.Reading.{fromSensor, sameWay, typeOf, valuesAt, opens, startOf, recordOf, notRelayed, listed, listedBy, listIn, listOf, textIn, blockCount, blocksIn, wrongByteCount, bitAfterCount, unknownType, typeNotCarried, wrongDirection, wrongBitCount, spareBitSet, valueNotInUse, sizedBy, fieldRows, readRows}
 use Rattle.fields.specs.declared.Record.{Record}
 use Rattle.fields.specs.declared.Record.the-variants.{Single, Relay}
 use Rattle.fields.specs.declared.Answer.the-variants.{Accepted}
@@ -31,10 +32,9 @@ use Rattle.fields.proofs.Back.{values-back, first-eight, parts-write}
 use Rattle.fields.proofs.Facts.{below-relay, listed-most, from-no-list, no-steps, step-told, text-whole, steps-told}
 use Rattle.fields.proofs.Taking.{widths-length, widths-sum, sum-same}
 use Rattle.bits.proofs.Laws.{bitsOf-lt}
-use Rattle.fields.specs.Claims.{NoneGiven}
 use Rattle.fields.specs.Writing.{fieldIn, numbersIn, textLengthBy, takesAt, bitsAt, widthsIn, valuesIn, putAll, putField, sumOf, headBits, headWidths, headValues, headFits, relaysAt, fitAll, fillOf}
 use Rattle.fields.proofs.Rows.{Fit, found-within, found-code, values-fit}
-use Rattle.fields.proofs.Rounds.{Entry, tens, valuesOf-join, valuesOf-length, values-bytes, sum-join}
+use Rattle.fields.proofs.Rounds.{Entry, valuesOf-join, valuesOf-length, values-bytes, sum-join}
 
 -- ---- a block that is in use
 
@@ -192,7 +192,7 @@ none-listed i vs h n f = go (from-no-list i h f)
 
 -- ---- a field that is accepted
 
-module _ (s : List ℕ) (n : ℕ) (w : Direction) (bytes : Bytes s) (none : NoneGiven (readTests s n w)) where
+module _ (s : List ℕ) (n : ℕ) (w : Direction) (bytes : Bytes s) (none : NoneHolds (readRows s n w)) where
   abbrev a : ℕ
   a = startOf s n w
 
@@ -204,7 +204,7 @@ module _ (s : List ℕ) (n : ℕ) (w : Direction) (bytes : Bytes s) (none : None
   unfolding bitAfterCount
   no-more = eqb-true _ _ (not-false _ (none .1 .1 .0))
 
-  abbrev field : NoneGiven (fieldTests s n a w)
+  abbrev field : NoneHolds (fieldRows s n a w)
   field = none .1 .1 .1
 
   -- the type has a row

@@ -2,21 +2,22 @@
 -- Assumes nothing.
 use mathlib.Core.Path.{_≡_, refl, sym, ap, _∙_, subst}
 use mathlib.Core.List.{List, [], _∷_, _++_}
-use mathlib.Core.Logic.{_⊎_, inl, inr, ⊎-elim}
-use mathlib.Core.Bool.{Bool, true, false, cond, not, _&&_, _||_}
-use Prim.Native.Nat.{ℕ, zero, suc, _+_, _-_, _*_, _/_, _%_, _≤_, _<_, _^_, zero-le}
+use mathlib.Core.Logic.{_⊎_, inl, inr}
+use mathlib.Core.Bool.{Bool, true, false, cond, not, _&&_}
+use Prim.Native.Nat.{ℕ, _+_, _-_, _*_, _/_, _%_, _≤_, _<_}
 use native.Mathlib.Nat.{zero-add, mul-zero, add-zero}
 use native.Mathlib.Omega.{arith}
-use lib.IntN.{ℤ, pos}
+use lib.IntN.{ℤ}
 use lib.Dec.{eqb, ltb, leb, lit<}
-use lib.ListN.{length, getD, take, drop, replicate, length-replicate, length-drop, length-append, drop-of-length-le}
+use lib.ListN.{length, getD, drop, replicate, length-replicate, length-drop}
 use lib.Pow.{pow-pos}
 use lib.Seq.{take-all, drop-length}
-use borrow.Author.Tests.{eqb-true, ltb-true, eq-eqb, ne-eqb, le-ltb, le-leb, not-true}
+use borrow.Author.Tests.{ltb-true, eq-eqb, ne-eqb, le-ltb, le-leb, not-true}
 use native.Mathlib.Decide.{ℕ-discrete}
 use Rattle.fields.specs.declared.Answer.{Answer}
 use Rattle.fields.specs.declared.Answer.the-variants.{Accepted}
-use Rattle.bits.specs.Bits.{bitsOf, bits, putBits, Bytes}
+use Rattle.rows.specs.Claims.{NoneHolds}
+use Rattle.bits.specs.Bits.{bitsOf, Bytes}
 use Rattle.bits.proofs.Laws.{bitsOf-putBits, length-putBits, putBits-bytes}
 use Rattle.fields.specs.declared.Direction.{Direction}
 use Rattle.fields.specs.declared.Direction.the-variants.{ToSensor, FromSensor}
@@ -28,8 +29,7 @@ use Rattle.fields.specs.declared.Record.the-variants.{Single, Relay}
 use Rattle.fields.specs.Table.{table, rules, placeOf, rowAt, widthsAt, rulesAt, valuesOf, faultOf, hasFault, countIn, sizeIn}
 use Rattle.fields.specs.Records.{fieldOf, numbersOf}
 use Rattle.fields.specs.Lists.{anyUnused, entriesIn, listFits, entriesBits}
-use Rattle.fields.specs.Reading.{fromSensor, sameWay, typeOf, valuesAt, opens, startOf, recordIn, recordOf, notRelayed, listed, listedBy, listIn, listOf, textIn, textPlace, textOf, readField, answerOf, blockCount, blocksIn, fieldTests, readTests, countOutOfRange, wrongByteCount, bitAfterCount, unknownType, wrongDirection, wrongBitCount, spareBitSet, valueNotInUse, sizedBy}
-use Rattle.fields.specs.Claims.{NoneGiven}
+use Rattle.fields.specs.Reading.{fromSensor, sameWay, typeOf, valuesAt, opens, startOf, recordIn, recordOf, notRelayed, listed, listedBy, listIn, listOf, textIn, textPlace, textOf, readField, answerOf, blockCount, blocksIn, fieldRows, readRows, countOutOfRange, wrongByteCount, bitAfterCount, unknownType, wrongDirection, wrongBitCount, spareBitSet, valueNotInUse, sizedBy}
 use Rattle.fields.specs.Writing.{fieldIn, numbersIn, headBits, headWidths, headValues, headFits, relaysAt, textLengthBy, bitsAt, widthsIn, valuesIn, putAll, fillOf, putField, sumOf}
 use Rattle.fields.proofs.Rows.{Fit, found-code, carried}
 use Rattle.fields.proofs.Puts.{length-putAll, listFits-room, entriesBits-length, both-true, head-small}
@@ -356,10 +356,10 @@ module _ (i : ℕ) (r : Record) (l : List ℤ) (t : List ℕ) (low : i < 21) (pl
   unfolding spareBitSet
   spare-is = rw (here, parted .1) (spares-out (fieldIn r) i place)
 
-  none : NoneGiven (readTests out n (rowAt i .way))
+  none : NoneHolds (readRows out n (rowAt i .way))
   unfolding countOutOfRange wrongByteCount bitAfterCount unknownType wrongDirection
   none =
-      let field : NoneGiven (fieldTests out n (headBits r) (rowAt i .way)) =
+      let field : NoneHolds (fieldRows out n (headBits r) (rowAt i .way)) =
       (rw here refl, (rw code-is (carried i (omega arith)), (rw (here, same-way (rowAt i .way)) refl, (told .2, (sized-is, (spare-is, (unused, tt))))))) in
       (rw (le-ltb n 8 (omega (arith, least)), le-ltb 2008 n (omega (arith, most))) refl, (rw (eq-eqb (length out) size out-length) refl, (rw no-more refl, rw (told .0) field)))
 
