@@ -21,12 +21,12 @@ use Rattle.field_reader.specs.declared.Passed.{Passed}
 use Rattle.field_reader.specs.declared.Passed.the-variants as Q
 use Rattle.field_reader.specs.declared.Plain.{Plain}
 use Rattle.field_reader.specs.declared.Plain.the-variants as P
-use Rattle.field_reader.specs.Steps.{passed, outerOf, throughout, plain, plainOf, unknownOf, judgedBy, rowRead, handed, answered, relayed, openedOf}
+use Rattle.field_reader.specs.Steps.{passed, outerOf, unlessRefused, plain, plainOf, unknownOf, judgedBy, rowRead, handed, answered, relayed, openedOf}
 
 -- the count and the bytes first, then the field
-pub outer-first : (s : List ℕ) (n : ℕ) (w : Direction) → answerOf s n w ≡ throughout (openedOf s n w) (outerOf s n)
+pub outer-first : (s : List ℕ) (n : ℕ) (w : Direction) → answerOf s n w ≡ unlessRefused (openedOf s n w) (outerOf s n)
 unfolding answerOf outerOf openedOf
-outer-first s n w = each-of Passed Answer (throughout (openedOf s n w)) (each passed (countRows s n)) Q.Clear
+outer-first s n w = each-of Passed Answer (unlessRefused (openedOf s n w)) (each passed (countRows s n)) Q.Clear
 
 module _ (s : List ℕ) (n a : ℕ) (w : Direction) where
   -- the field before its record is made

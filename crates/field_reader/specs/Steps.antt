@@ -33,9 +33,9 @@ unfoldable pub outerOf : List ℕ → ℕ → Passed
 outerOf s n = firstOf (each passed (countRows s n)) Q.Clear
 
 -- the answer, where x is that to a field whose count and bytes nothing is said against
-abbrev pub throughout : Answer → Passed → Answer
-throughout x Q.Clear = x
-throughout x (Q.Refused r) = Refused r
+abbrev pub unlessRefused : Answer → Passed → Answer
+unlessRefused x Q.Clear = x
+unlessRefused x (Q.Refused r) = Refused r
 
 -- ---- a field, or that inside a relay
 

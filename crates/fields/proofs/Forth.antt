@@ -105,9 +105,9 @@ block-forth x l h = go (ℕ-discrete (x / 128) 1)
 
 -- ---- entries
 
--- entries that are read are numbers that fit, and give the same bits
-abbrev pub Sound : ℕ → List ℕ → Type 0
-Sound step xs = Fit (replicate (length xs) step) xs × ((step ≡ 8) → anyUnused xs ≡ false)
+-- entries that fit their bits and, if they are blocks, are in use
+abbrev InUse : ℕ → List ℕ → Type 0
+InUse step xs = Fit (replicate (length xs) step) xs × ((step ≡ 8) → anyUnused xs ≡ false)
 
 entry-forth : (step x : ℕ) → Entry step → x < 2 ^ step → (step ≡ 8 → blockUnused x ≡ false) → (entryFits step (entryOf step x) ≡ true) × (entryBits step (entryOf step x) ≡ x)
 unfolding entryOf entryFits entryBits
@@ -124,7 +124,7 @@ or-right : (a b : Bool) → (a || b) ≡ false → b ≡ false
 or-right true b h = absurd (let z : _≡_ {A = ℕ} 0 1 = cc in omega arith)
 or-right false b h = h
 
-pub list-forth : (step room : ℕ) (xs : List ℕ) → (0 < length xs → Entry step) → length xs ≤ room → Sound step xs
+pub list-forth : (step room : ℕ) (xs : List ℕ) → (0 < length xs → Entry step) → length xs ≤ room → InUse step xs
     → (listFits step (length xs) (entriesIn step room xs) ≡ true) × (entriesBits step (length xs) (entriesIn step room xs) ≡ xs)
 unfolding listFits entriesIn entriesBits anyUnused
 list-forth step zero [] e r f = (refl, refl)

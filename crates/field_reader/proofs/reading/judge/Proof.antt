@@ -1,7 +1,6 @@
 -- `field_reader::reading::judge` meets its contract: the rows by steps are the document's, in its order. Assumes nothing.
 use borrow.Author.Needs.{needs}
-use mathlib.Core.Path.{_≡_, refl, sym, _∙_}
-use Rattle.field_reader.specs.Steps.{throughout, openedOf}
+use mathlib.Core.Path.{refl, sym, _∙_}
 use Rattle.field_reader.proofs.Order.{outer-first}
 use Rattle.field_reader.proofs.reading.judge.Statement.{statement}
 use Rattle.field_reader.proofs.reading.judge.Tie as tie

@@ -1,6 +1,6 @@
 -- `field_reader::reading::opened` meets its contract: the type is read once. Assumes nothing.
 use borrow.Author.Needs.{needs}
-use mathlib.Core.Path.{_≡_, sym, ap, _∙_}
+use mathlib.Core.Path.{_≡_, sym, _∙_}
 use native.Mathlib.Omega.{arith}
 use Rattle.fields.specs.Reading.{opens}
 use Rattle.field_reader.proofs.Order.{opened-relay, opened-field}

@@ -1,6 +1,6 @@
 -- `field_reader::reading::plain` meets its contract: a place that is found stands in the table. Assumes nothing.
 use borrow.Author.Needs.{needs}
-use mathlib.Core.Path.{_≡_, sym, ap, _∙_}
+use mathlib.Core.Path.{_≡_, sym, _∙_}
 use native.Mathlib.Omega.{arith}
 use Rattle.fields.specs.Table.{placeOf}
 use Rattle.fields.specs.Reading.{typeOf}
