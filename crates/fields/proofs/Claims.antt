@@ -23,10 +23,10 @@ use Rattle.fields.specs.declared.Direction.{Direction}
 use Rattle.fields.specs.declared.Found.{Found}
 use Rattle.fields.proofs.Forth.{place, place-is, way-is, head-is, takes-is, bits-is, bytes-is, way-same, entries-length, drop-bytes}
 use Rattle.fields.proofs.Taking.{taken}
-use Rattle.fields.proofs.Return.{place-low, read-is, text-read, text-place}
+use Rattle.fields.proofs.Return.{read-is, text-read, text-place}
 use Rattle.fields.proofs.Puts.{fit-of}
 use Rattle.fields.proofs.Exactly.{accepted-exactly, written-exactly}
-use Rattle.fields.proofs.Back.{parts-read, parts-write, placeIn, record-back, place-back, values-back}
+use Rattle.fields.proofs.Back.{parts-read, parts-write, placeIn, record-back, place-back, place-low, values-back}
 
 -- ---- demand 2, its three parts
 
