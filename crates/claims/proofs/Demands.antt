@@ -33,7 +33,7 @@ use Rattle.claims.proofs.Numbers.{numbers-differ, no-number-is-zero}
 use Rattle.claims.proofs.Twelve.{twelve}
 use Rattle.claims.proofs.Printed.{as-printed, only-printed, entries-as-printed, rules-as-printed, all-have-rules}
 use Rattle.claims.proofs.Places.{end-exactly, end-of-bytes, report-words, report-words-of-bytes, read-written, read-written-bytes}
-use Rattle.claims.proofs.Fields.{writing-refuses, has-layout, again, read-left}
+use Rattle.claims.proofs.Fields.{has-layout, again, read-left}
 
 -- ---- demand 1
 
@@ -64,7 +64,7 @@ given-exactly = record {
   writing-words = refused.writer-refuses;
   writing-bytes = refused.byte-writer-refuses;
   reading-fields = fields.refused-exactly;
-  writing-fields = writing-refuses;
+  writing-fields = fields.writer-refuses;
 }
 
 untouched : LeavesUntouched

@@ -1,5 +1,4 @@
--- Link data fields: the writer's two refusals as the document's table has them, what it is to have a layout, and a record written out again
--- into any lent bytes. Assumes nothing.
+-- Link data fields: what it is to have a layout, and a record written out again into any lent bytes. Assumes nothing.
 use Prim.Native.Nat.{ℕ, _+_, _/_, _≤_}
 use mathlib.Core.Path.{_≡_, refl, sym, ap, _∙_}
 use mathlib.Core.Bool.{Bool, true, false}
@@ -12,50 +11,16 @@ use lib.ListN.{length, take, drop}
 use lib.Seq.{take-at}
 use borrow.Author.Tests.{ltb-true, ltb-false}
 use Rattle.bits.specs.Bits.{Bytes}
-use Rattle.refusals.specs.declared.FieldRefusal.{FieldRefusal}
-use Rattle.refusals.specs.declared.FieldRefusal.the-variants.{NotWritable, NoRoom}
 use Rattle.fields.specs.declared.Direction.{Direction}
 use Rattle.fields.specs.declared.Record.{Record}
 use Rattle.fields.specs.declared.Found.{Found}
 use Rattle.fields.specs.declared.Answer.the-variants.{Accepted}
 use Rattle.fields.specs.declared.Written.the-variants as F
-use Rattle.fields.specs.Claims.{Given}
 use Rattle.fields.specs.Reading.{answerOf, listOf, readField, textOf}
 use Rattle.fields.specs.Writing.{takes, bitsIn, wayIn, bytesIn, writtenOf}
-use Rattle.fields.proofs.Claims.{not-writable-exactly, no-room-exactly, written-exactly, written-reads, fields-mean}
+use Rattle.fields.proofs.Claims.{written-exactly, written-reads, fields-mean}
 use Rattle.claims.proofs.Anywhere.{left-anywhere, bytes-length}
-use Rattle.claims.specs.Demands.{WritesField, writerTests, HasFieldLayout}
-
--- ---- 30 and 31
-
-differ : true ≡ false → ⊥
-differ e = let z : _≡_ {A = ℕ} 0 1 = cc in omega arith
-
-same-refusal : {p q : FieldRefusal} → F.Refused p ≡ F.Refused q → p ≡ q
-same-refusal e = cc
-
-pub writing-refuses : (r : Record) (l : List ℤ) (t s : List ℕ) (q : FieldRefusal)
-    → (writtenOf r l t s ≡ F.Refused q) ↔ Given q (writerTests r l t s)
-writing-refuses r l t s q = go (takes r l t) (ltb (length s) ((bitsIn r + 7) / 8)) refl refl
-  where
-    go : (a b : Bool) → takes r l t ≡ a → ltb (length s) ((bitsIn r + 7) / 8) ≡ b
-        → (writtenOf r l t s ≡ F.Refused q) ↔ Given q (writerTests r l t s)
-    go false b e h =
-        let w = not-writable-exactly r l t s .1 e in
-        rw e (λ k. inl (refl, same-refusal (sym w ∙ k)), ⊎-elim (λ k. w ∙ ap F.Refused (k .1)) (λ k. absurd (differ (k .0))))
-    go true true e h =
-        let w = no-room-exactly r l t s .1 (e, ltb-true _ _ h) in
-        rw (e, h) (
-          λ k. inr (refl, inl (refl, same-refusal (sym w ∙ k))),
-          ⊎-elim (λ k. absurd (differ (sym (k .0)))) (λ k. ⊎-elim (λ i. w ∙ ap F.Refused (i .1)) (λ i. absurd (i .1)) (k .1)),
-        )
-    go true false e h =
-        let m : (bitsIn r + 7) / 8 ≤ length s = ltb-false _ _ h in
-        let w = written-exactly r l t s e (omega arith) in
-        rw (e, h) (
-          λ k. absurd (let z : _≡_ {A = ℕ} 0 1 = cc in omega arith),
-          ⊎-elim (λ k. absurd (differ (sym (k .0)))) (λ k. ⊎-elim (λ i. absurd (differ (sym (i .0)))) (λ i. absurd (i .1)) (k .1)),
-        )
+use Rattle.claims.specs.Demands.{WritesField, HasFieldLayout}
 
 -- ---- layouts
 

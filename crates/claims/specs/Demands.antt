@@ -7,13 +7,12 @@ use mathlib.Core.Path.{_≡_}
 use mathlib.Core.Bool.{true, not, cond}
 use mathlib.Core.List.{List, [], _∷_, _++_}
 use mathlib.Core.Logic.{_↔_}
-use lib.Dec.{T, ltb}
+use lib.Dec.{T}
 use lib.Ieee.{binary64, fits}
 use lib.IntN.{ℤ}
 use lib.ListN.{length, take, drop, replicate}
 use Rattle.refusals.specs.declared.LineRefusal.{LineRefusal}
 use Rattle.refusals.specs.declared.FieldRefusal.{FieldRefusal}
-use Rattle.refusals.specs.declared.FieldRefusal.the-variants.{NotWritable, NoRoom}
 use Rattle.words.specs.Claims as words
 use Rattle.words.specs.Word.{idle}
 use Rattle.measures.specs.Claims as measures
@@ -42,7 +41,7 @@ use Rattle.fields.specs.declared.Record.{Record}
 use Rattle.fields.specs.declared.Answer.the-variants.{Accepted}
 use Rattle.fields.specs.declared.Written.{Written}
 use Rattle.fields.specs.declared.Written.the-variants as F
-use Rattle.fields.specs.Reading.{Test, answerOf, readField, textOf}
+use Rattle.fields.specs.Reading.{answerOf, readField, textOf}
 use Rattle.fields.specs.Writing.{takes, bitsIn, wayIn, bytesIn, writtenOf, leftOf}
 use Rattle.claims.specs.Numbers.{NumbersDiffer, NoNumberIsZero}
 use Rattle.claims.specs.Twelve.{Twelve}
@@ -91,13 +90,6 @@ pub record NoSkipWithoutAName : Type 0 where
   pub words-add : lines.TotalsAdd
   pub words-counted : lines.TotalsCounted
 
--- the writer of fields, as the document's table has it: 30, then 31
-abbrev pub writerTests : Record → List ℤ → List ℕ → List ℕ → List Test
-writerTests r l t s =
-    record { holds = not (takes r l t); refusal = NotWritable }
-    ∷ record { holds = ltb (length s) ((bitsIn r + 7) / 8); refusal = NoRoom }
-    ∷ []
-
 -- "given exactly under that number's condition": in reading and in writing, of words, of bytes and of fields, the refusal is that of the
 -- first row of document 01's table whose condition holds, and it names that row's place
 pub record GivenExactly : Type 0 where
@@ -106,8 +98,7 @@ pub record GivenExactly : Type 0 where
   pub writing-words : lines.WriterRefuses
   pub writing-bytes : lines.ByteWriterRefuses
   pub reading-fields : fields.RefusedExactly
-  pub writing-fields : (r : Record) (l : List ℤ) (t s : List ℕ) (q : FieldRefusal)
-      → (writtenOf r l t s ≡ F.Refused q) ↔ fields.Given q (writerTests r l t s)
+  pub writing-fields : fields.WriterRefuses
 
 -- "and a refusal leaves the lent buffers untouched": those lent to a writer, by its promise. Those lent to a reader are lent for reading
 -- alone (`&[T]`), which the language holds it to

@@ -16,7 +16,7 @@ use Rattle.fields.specs.declared.Field.{Field}
 use Rattle.fields.specs.declared.Record.{Record}
 use Rattle.fields.specs.declared.Record.the-variants.{Single, Relay}
 use Rattle.fields.specs.Table.{table, rows, widths, widthsAt, rules, rulesAt, placeFrom, placeOf, byPlace, hasFault}
-use Rattle.fields.specs.Writing.{fieldIn, headFits, fitAll, takesAt, writtenAt, writtenOf}
+use Rattle.fields.specs.Writing.{fieldIn, headFits, fitAll, takesAt, takes, writtenOf}
 use Rattle.field_items.specs.Items.{itemsOf, fieldItems, innerOf}
 use Rattle.field_items.specs.Given.{foundIn, fieldGiven, relayBy, recordGiven, covers, fits, unfit, checkedAt, given}
 use Rattle.field_items.specs.Claims.{ItemsByName, Holds, OwnItems, NothingPassedOver, UnfitRefused}
@@ -94,5 +94,5 @@ nothing-passed-over t s l = go (eqb (length l) 240) refl
 -- ---- what is no record
 
 pub unfit-refused : UnfitRefused
-unfolding writtenOf writtenAt takesAt headFits fitAll hasFault rulesAt rules widthsAt widths placeFrom rows table
+unfolding writtenOf takes takesAt headFits fitAll hasFault rulesAt rules widthsAt widths placeFrom rows table
 unfit-refused l t s = refl

@@ -10,7 +10,7 @@ use refusals::FieldRefusal;
 
 // Nothing is said against the bytes, or why they are refused.
 pub enum Passed {
-    Sound,
+    Clear,
     Refused(FieldRefusal),
 }
 

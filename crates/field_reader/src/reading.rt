@@ -243,7 +243,7 @@ fn outer(b: &[u8], count: usize) -> Passed
     if bits::read(b, count, (8 - count % 8) % 8) != 0 {
         return Passed::Refused(FieldRefusal::BitAfterCount);
     }
-    Passed::Sound
+    Passed::Clear
 }
 
 // The answer alone, for callers that ask for nothing of the list.
@@ -252,7 +252,7 @@ pub fn judge(b: &[u8], count: usize, way: Direction) -> Answer
 {
     let o = outer(b, count);
     match o {
-        Passed::Sound => opened(b, count, way),
+        Passed::Clear => opened(b, count, way),
         Passed::Refused(r) => Answer::Refused(r),
     }
 }

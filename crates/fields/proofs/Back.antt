@@ -1,14 +1,13 @@
 -- What is written is read, and what is read is written: for parts of any widths, and for the records of all types.
 -- Assumes nothing.
 use mathlib.Core.Path.{_≡_, refl, sym, ap, _∙_}
-use mathlib.Core.List.{List, [], _∷_, _++_}
-use mathlib.Core.Logic.{_⊎_, inl, inr}
-use mathlib.Core.Bool.{Bool, true, false, cond, not, _&&_, _||_}
-use Prim.Native.Nat.{ℕ, zero, suc, _+_, _-_, _*_, _/_, _%_, _≤_, _<_, _^_}
+use mathlib.Core.List.{List, [], _∷_}
+use mathlib.Core.Logic.{inl, inr}
+use mathlib.Core.Bool.{Bool, true, false, cond, _&&_}
+use Prim.Native.Nat.{ℕ, zero, suc, _+_, _-_, _*_, _/_, _%_, _≤_, _<_}
 use native.Mathlib.Decide.{decLt, ℕ-discrete}
-use native.Mathlib.Nat.{add-zero, add-assoc, mod-lt, zero-lt-suc}
 use native.Mathlib.Omega.{arith}
-use lib.Dec.{eqb}
+use lib.Dec.{eqb, lit<}
 use lib.ListN.{length, getD, replicate, length-replicate}
 use borrow.Author.Tests.{eqb-true}
 use Rattle.bits.specs.Bits.{bitAt, bitsOf, putBit, putBits, Bytes}
@@ -22,7 +21,7 @@ use Rattle.fields.specs.Reading.{valuesAt}
 use Rattle.fields.specs.Writing.{putAll}
 use Rattle.fields.proofs.Rows.{Fit}
 use Rattle.fields.specs.Writing.{sumOf}
-use Rattle.fields.proofs.Puts.{length-putAll}
+use Rattle.fields.proofs.Puts.{length-putAll, both-false}
 
 -- ---- parts that were written read back
 
@@ -134,54 +133,50 @@ placeIn (F.IdCode a c) = 18
 placeIn (F.TestResponse a) = 19
 placeIn (F.ControllerAlert a b c d e f g h i j) = 20
 
--- the values of a record's parts make the record, and its type has its place
-pub record-back : (f : Field) → fieldOf (placeIn f) (numbersOf f) ≡ f
-unfolding fieldAt
-record-back (F.TacticalUplink a b c d e) = refl
-record-back (F.ElmUplink a b c d f) = refl
-record-back (F.DownlinkRequest a b c d e) = refl
-record-back (F.IdRequest a b) = refl
-record-back (F.CapabilityRequest a b) = refl
-record-back (F.Cancellation a b c d) = refl
-record-back (F.Test a) = refl
-record-back (F.AltimeterCorrection b) = refl
-record-back (F.AtcFailure a) = refl
-record-back (F.SensorFailure a c) = refl
-record-back (F.DabsControlState a b c) = refl
-record-back (F.AtcrbsControlState a b) = refl
-record-back (F.RejectionNotice a b c) = refl
-record-back (F.DeliveryNotice a b c) = refl
-record-back (F.TacticalDownlink a b) = refl
-record-back (F.ElmDownlink a c) = refl
-record-back (F.Utility a c) = refl
-record-back (F.Capability a b c d) = refl
-record-back (F.IdCode a c) = refl
-record-back (F.TestResponse a) = refl
-record-back (F.ControllerAlert a b c d e f g h i j) = refl
+-- a record's spares are zero
+abbrev pub sparesZero : List ℕ → List ℕ → Bool
+sparesZero [] vs = true
+sparesZero (r ∷ rs) [] = true
+sparesZero (r ∷ rs) (v ∷ vs) = cond (eqb r 1) (eqb v 0) true && sparesZero rs vs
 
+-- what holds of every record, case by case
+own : (f : Field) → (fieldOf (placeIn f) (numbersOf f) ≡ f) × (placeOf (getD (numbersOf f) 0 0) ≡ At (placeIn f)) × (placeIn f < 21) × (sparesZero (rulesAt (placeIn f)) (numbersOf f) ≡ true)
+unfolding fieldAt table rows placeFrom rules rulesAt
+own (F.TacticalUplink a b c d e) = (refl, refl, lit< tt, refl)
+own (F.ElmUplink a b c d f) = (refl, refl, lit< tt, refl)
+own (F.DownlinkRequest a b c d e) = (refl, refl, lit< tt, refl)
+own (F.IdRequest a b) = (refl, refl, lit< tt, refl)
+own (F.CapabilityRequest a b) = (refl, refl, lit< tt, refl)
+own (F.Cancellation a b c d) = (refl, refl, lit< tt, refl)
+own (F.Test a) = (refl, refl, lit< tt, refl)
+own (F.AltimeterCorrection b) = (refl, refl, lit< tt, refl)
+own (F.AtcFailure a) = (refl, refl, lit< tt, refl)
+own (F.SensorFailure a c) = (refl, refl, lit< tt, refl)
+own (F.DabsControlState a b c) = (refl, refl, lit< tt, refl)
+own (F.AtcrbsControlState a b) = (refl, refl, lit< tt, refl)
+own (F.RejectionNotice a b c) = (refl, refl, lit< tt, refl)
+own (F.DeliveryNotice a b c) = (refl, refl, lit< tt, refl)
+own (F.TacticalDownlink a b) = (refl, refl, lit< tt, refl)
+own (F.ElmDownlink a c) = (refl, refl, lit< tt, refl)
+own (F.Utility a c) = (refl, refl, lit< tt, refl)
+own (F.Capability a b c d) = (refl, refl, lit< tt, refl)
+own (F.IdCode a c) = (refl, refl, lit< tt, refl)
+own (F.TestResponse a) = (refl, refl, lit< tt, refl)
+own (F.ControllerAlert a b c d e f g h i j) = (refl, refl, lit< tt, refl)
+
+-- the values of its parts make the record
+pub record-back : (f : Field) → fieldOf (placeIn f) (numbersOf f) ≡ f
+record-back f = own f .0
+
+-- its type has its place, which is no relay's
 pub place-back : (f : Field) → placeOf (getD (numbersOf f) 0 0) ≡ At (placeIn f)
-unfolding table rows placeFrom
-place-back (F.TacticalUplink a b c d e) = refl
-place-back (F.ElmUplink a b c d f) = refl
-place-back (F.DownlinkRequest a b c d e) = refl
-place-back (F.IdRequest a b) = refl
-place-back (F.CapabilityRequest a b) = refl
-place-back (F.Cancellation a b c d) = refl
-place-back (F.Test a) = refl
-place-back (F.AltimeterCorrection b) = refl
-place-back (F.AtcFailure a) = refl
-place-back (F.SensorFailure a c) = refl
-place-back (F.DabsControlState a b c) = refl
-place-back (F.AtcrbsControlState a b) = refl
-place-back (F.RejectionNotice a b c) = refl
-place-back (F.DeliveryNotice a b c) = refl
-place-back (F.TacticalDownlink a b) = refl
-place-back (F.ElmDownlink a c) = refl
-place-back (F.Utility a c) = refl
-place-back (F.Capability a b c d) = refl
-place-back (F.IdCode a c) = refl
-place-back (F.TestResponse a) = refl
-place-back (F.ControllerAlert a b c d e f g h i j) = refl
+place-back f = own f .1
+
+pub place-low : (f : Field) → placeIn f < 21
+place-low f = own f .2
+
+pub spares-zero : (f : Field) → sparesZero (rulesAt (placeIn f)) (numbersOf f) ≡ true
+spares-zero f = own f .3
 
 -- the values with zero for the spares
 abbrev masked : List ℕ → List ℕ → List ℕ
@@ -192,32 +187,6 @@ masked (r ∷ rs) (v ∷ vs) = cond (eqb r 1) 0 v ∷ masked rs vs
 abbrev named : ℕ → List ℕ → List ℕ
 named c [] = []
 named c (v ∷ vs) = c ∷ vs
-
--- a record of read values has those values again, but for its type and its spares
-numbers-masked : (s : List ℕ) (a i : ℕ) → i < 21 → numbersOf (fieldOf i (valuesAt s a i)) ≡ masked (rulesAt i) (named (rowAt i .code) (valuesAt s a i))
-unfolding table rows rowAt widths widthsAt rules rulesAt valuesOf fieldAt
-numbers-masked s a zero h = refl
-numbers-masked s a (suc zero) h = refl
-numbers-masked s a (suc (suc zero)) h = refl
-numbers-masked s a (suc (suc (suc zero))) h = refl
-numbers-masked s a (suc (suc (suc (suc zero)))) h = refl
-numbers-masked s a (suc (suc (suc (suc (suc zero))))) h = refl
-numbers-masked s a (suc (suc (suc (suc (suc (suc zero)))))) h = refl
-numbers-masked s a (suc (suc (suc (suc (suc (suc (suc zero))))))) h = refl
-numbers-masked s a (suc (suc (suc (suc (suc (suc (suc (suc zero)))))))) h = refl
-numbers-masked s a (suc (suc (suc (suc (suc (suc (suc (suc (suc zero))))))))) h = refl
-numbers-masked s a (suc (suc (suc (suc (suc (suc (suc (suc (suc (suc zero)))))))))) h = refl
-numbers-masked s a (suc (suc (suc (suc (suc (suc (suc (suc (suc (suc (suc zero))))))))))) h = refl
-numbers-masked s a (suc (suc (suc (suc (suc (suc (suc (suc (suc (suc (suc (suc zero)))))))))))) h = refl
-numbers-masked s a (suc (suc (suc (suc (suc (suc (suc (suc (suc (suc (suc (suc (suc zero))))))))))))) h = refl
-numbers-masked s a (suc (suc (suc (suc (suc (suc (suc (suc (suc (suc (suc (suc (suc (suc zero)))))))))))))) h = refl
-numbers-masked s a (suc (suc (suc (suc (suc (suc (suc (suc (suc (suc (suc (suc (suc (suc (suc zero))))))))))))))) h = refl
-numbers-masked s a (suc (suc (suc (suc (suc (suc (suc (suc (suc (suc (suc (suc (suc (suc (suc (suc zero)))))))))))))))) h = refl
-numbers-masked s a (suc (suc (suc (suc (suc (suc (suc (suc (suc (suc (suc (suc (suc (suc (suc (suc (suc zero))))))))))))))))) h = refl
-numbers-masked s a (suc (suc (suc (suc (suc (suc (suc (suc (suc (suc (suc (suc (suc (suc (suc (suc (suc (suc zero)))))))))))))))))) h = refl
-numbers-masked s a (suc (suc (suc (suc (suc (suc (suc (suc (suc (suc (suc (suc (suc (suc (suc (suc (suc (suc (suc zero))))))))))))))))))) h = refl
-numbers-masked s a (suc (suc (suc (suc (suc (suc (suc (suc (suc (suc (suc (suc (suc (suc (suc (suc (suc (suc (suc (suc zero)))))))))))))))))))) h = refl
-numbers-masked s a (suc (suc (suc (suc (suc (suc (suc (suc (suc (suc (suc (suc (suc (suc (suc (suc (suc (suc (suc (suc (suc i))))))))))))))))))))) h = absurd (omega arith)
 
 spare-zero : (r v : ℕ) → eqb (faultOf r v) 1 ≡ false → cond (eqb r 1) 0 v ≡ v
 spare-zero r v h = go (eqb r 1) refl
@@ -230,53 +199,53 @@ spare-zero r v h = go (eqb r 1) refl
     go true e = rw e (zero-of (eqb v 0) refl (rw e at h))
     go false e = rw e refl
 
-or-false : (a b : Bool) → (a || b) ≡ false → (a ≡ false) × (b ≡ false)
-or-false true b h = absurd (let z : _≡_ {A = ℕ} 0 1 = cc in omega arith)
-or-false false b h = (refl, h)
-
 masked-same : (rs vs : List ℕ) → length rs ≡ length vs → hasFault 1 rs vs ≡ false → masked rs vs ≡ vs
 unfolding hasFault
 masked-same [] vs n h = refl
 masked-same (r ∷ rs) [] n h = refl
 masked-same (r ∷ rs) (v ∷ vs) n h =
-    let o = or-false (eqb (faultOf r v) 1) (hasFault 1 rs vs) h in
+    let o = both-false (eqb (faultOf r v) 1) (hasFault 1 rs vs) h in
     let e = spare-zero r v (o .0) in
     let m = masked-same rs vs (omega arith) (o .1) in
     rw (e, m) refl
 
--- the first of the values is the type
-abbrev pub first-is : List ℕ → ℕ → ℕ → Type 0
-first-is s a i = (getD (valuesAt s a i) 0 0 ≡ bitsOf s a 8) × (length (rulesAt i) ≡ length (valuesAt s a i)) × (named (getD (valuesAt s a i) 0 0) (valuesAt s a i) ≡ valuesAt s a i)
+-- what holds at every place, case by case: a record of read values has those values again, but for its type and its spares; and the first of
+-- the values is the type
+at-place : (s : List ℕ) (a i : ℕ) → i < 21
+    → (numbersOf (fieldOf i (valuesAt s a i)) ≡ masked (rulesAt i) (named (rowAt i .code) (valuesAt s a i)))
+    × (getD (valuesAt s a i) 0 0 ≡ bitsOf s a 8)
+    × (length (rulesAt i) ≡ length (valuesAt s a i))
+    × (named (getD (valuesAt s a i) 0 0) (valuesAt s a i) ≡ valuesAt s a i)
+unfolding table rows rowAt widths widthsAt rules rulesAt valuesOf fieldAt
+at-place s a zero h = (refl, refl, refl, refl)
+at-place s a (suc zero) h = (refl, refl, refl, refl)
+at-place s a (suc (suc zero)) h = (refl, refl, refl, refl)
+at-place s a (suc (suc (suc zero))) h = (refl, refl, refl, refl)
+at-place s a (suc (suc (suc (suc zero)))) h = (refl, refl, refl, refl)
+at-place s a (suc (suc (suc (suc (suc zero))))) h = (refl, refl, refl, refl)
+at-place s a (suc (suc (suc (suc (suc (suc zero)))))) h = (refl, refl, refl, refl)
+at-place s a (suc (suc (suc (suc (suc (suc (suc zero))))))) h = (refl, refl, refl, refl)
+at-place s a (suc (suc (suc (suc (suc (suc (suc (suc zero)))))))) h = (refl, refl, refl, refl)
+at-place s a (suc (suc (suc (suc (suc (suc (suc (suc (suc zero))))))))) h = (refl, refl, refl, refl)
+at-place s a (suc (suc (suc (suc (suc (suc (suc (suc (suc (suc zero)))))))))) h = (refl, refl, refl, refl)
+at-place s a (suc (suc (suc (suc (suc (suc (suc (suc (suc (suc (suc zero))))))))))) h = (refl, refl, refl, refl)
+at-place s a (suc (suc (suc (suc (suc (suc (suc (suc (suc (suc (suc (suc zero)))))))))))) h = (refl, refl, refl, refl)
+at-place s a (suc (suc (suc (suc (suc (suc (suc (suc (suc (suc (suc (suc (suc zero))))))))))))) h = (refl, refl, refl, refl)
+at-place s a (suc (suc (suc (suc (suc (suc (suc (suc (suc (suc (suc (suc (suc (suc zero)))))))))))))) h = (refl, refl, refl, refl)
+at-place s a (suc (suc (suc (suc (suc (suc (suc (suc (suc (suc (suc (suc (suc (suc (suc zero))))))))))))))) h = (refl, refl, refl, refl)
+at-place s a (suc (suc (suc (suc (suc (suc (suc (suc (suc (suc (suc (suc (suc (suc (suc (suc zero)))))))))))))))) h = (refl, refl, refl, refl)
+at-place s a (suc (suc (suc (suc (suc (suc (suc (suc (suc (suc (suc (suc (suc (suc (suc (suc (suc zero))))))))))))))))) h = (refl, refl, refl, refl)
+at-place s a (suc (suc (suc (suc (suc (suc (suc (suc (suc (suc (suc (suc (suc (suc (suc (suc (suc (suc zero)))))))))))))))))) h = (refl, refl, refl, refl)
+at-place s a (suc (suc (suc (suc (suc (suc (suc (suc (suc (suc (suc (suc (suc (suc (suc (suc (suc (suc (suc zero))))))))))))))))))) h = (refl, refl, refl, refl)
+at-place s a (suc (suc (suc (suc (suc (suc (suc (suc (suc (suc (suc (suc (suc (suc (suc (suc (suc (suc (suc (suc zero)))))))))))))))))))) h = (refl, refl, refl, refl)
+at-place s a (suc (suc (suc (suc (suc (suc (suc (suc (suc (suc (suc (suc (suc (suc (suc (suc (suc (suc (suc (suc (suc i))))))))))))))))))))) h = absurd (omega arith)
 
-pub first-eight : (s : List ℕ) (a i : ℕ) → i < 21 → first-is s a i
-unfolding table widths widthsAt rules rulesAt valuesOf
-first-eight s a zero h = (refl, refl, refl)
-first-eight s a (suc zero) h = (refl, refl, refl)
-first-eight s a (suc (suc zero)) h = (refl, refl, refl)
-first-eight s a (suc (suc (suc zero))) h = (refl, refl, refl)
-first-eight s a (suc (suc (suc (suc zero)))) h = (refl, refl, refl)
-first-eight s a (suc (suc (suc (suc (suc zero))))) h = (refl, refl, refl)
-first-eight s a (suc (suc (suc (suc (suc (suc zero)))))) h = (refl, refl, refl)
-first-eight s a (suc (suc (suc (suc (suc (suc (suc zero))))))) h = (refl, refl, refl)
-first-eight s a (suc (suc (suc (suc (suc (suc (suc (suc zero)))))))) h = (refl, refl, refl)
-first-eight s a (suc (suc (suc (suc (suc (suc (suc (suc (suc zero))))))))) h = (refl, refl, refl)
-first-eight s a (suc (suc (suc (suc (suc (suc (suc (suc (suc (suc zero)))))))))) h = (refl, refl, refl)
-first-eight s a (suc (suc (suc (suc (suc (suc (suc (suc (suc (suc (suc zero))))))))))) h = (refl, refl, refl)
-first-eight s a (suc (suc (suc (suc (suc (suc (suc (suc (suc (suc (suc (suc zero)))))))))))) h = (refl, refl, refl)
-first-eight s a (suc (suc (suc (suc (suc (suc (suc (suc (suc (suc (suc (suc (suc zero))))))))))))) h = (refl, refl, refl)
-first-eight s a (suc (suc (suc (suc (suc (suc (suc (suc (suc (suc (suc (suc (suc (suc zero)))))))))))))) h = (refl, refl, refl)
-first-eight s a (suc (suc (suc (suc (suc (suc (suc (suc (suc (suc (suc (suc (suc (suc (suc zero))))))))))))))) h = (refl, refl, refl)
-first-eight s a (suc (suc (suc (suc (suc (suc (suc (suc (suc (suc (suc (suc (suc (suc (suc (suc zero)))))))))))))))) h = (refl, refl, refl)
-first-eight s a (suc (suc (suc (suc (suc (suc (suc (suc (suc (suc (suc (suc (suc (suc (suc (suc (suc zero))))))))))))))))) h = (refl, refl, refl)
-first-eight s a (suc (suc (suc (suc (suc (suc (suc (suc (suc (suc (suc (suc (suc (suc (suc (suc (suc (suc zero)))))))))))))))))) h = (refl, refl, refl)
-first-eight s a (suc (suc (suc (suc (suc (suc (suc (suc (suc (suc (suc (suc (suc (suc (suc (suc (suc (suc (suc zero))))))))))))))))))) h = (refl, refl, refl)
-first-eight s a (suc (suc (suc (suc (suc (suc (suc (suc (suc (suc (suc (suc (suc (suc (suc (suc (suc (suc (suc (suc zero)))))))))))))))))))) h = (refl, refl, refl)
-first-eight s a (suc (suc (suc (suc (suc (suc (suc (suc (suc (suc (suc (suc (suc (suc (suc (suc (suc (suc (suc (suc (suc i))))))))))))))))))))) h = absurd (omega arith)
+pub first-eight : (s : List ℕ) (a i : ℕ) → i < 21 → getD (valuesAt s a i) 0 0 ≡ bitsOf s a 8
+first-eight s a i h = at-place s a i h .1
 
 pub values-back : (s : List ℕ) (a i : ℕ) → i < 21 → bitsOf s a 8 ≡ rowAt i .code → hasFault 1 (rulesAt i) (valuesAt s a i) ≡ false
     → numbersOf (fieldOf i (valuesAt s a i)) ≡ valuesAt s a i
 values-back s a i h c z =
-    let q = first-eight s a i h in
-    let e : named (rowAt i .code) (valuesAt s a i) ≡ valuesAt s a i =
-    ap (λ (x : ℕ). named x (valuesAt s a i)) (sym c ∙ sym (q .0)) ∙ q .2 in
-    numbers-masked s a i h ∙ ap (masked (rulesAt i)) e ∙ masked-same (rulesAt i) (valuesAt s a i) (q .1) z
+    let q = at-place s a i h in
+    let e : named (rowAt i .code) (valuesAt s a i) ≡ valuesAt s a i = ap (λ (x : ℕ). named x (valuesAt s a i)) (sym c ∙ sym (q .1)) ∙ q .3 in
+    q .0 ∙ ap (masked (rulesAt i)) e ∙ masked-same (rulesAt i) (valuesAt s a i) (q .2) z

@@ -1,107 +1,32 @@
--- The claims of specs/Claims.antt, from the laws.
+-- The claims of specs/Claims.antt that are demand 2, from the laws; Exactly.antt has those of the refusals.
 -- Assumes nothing.
 use Prim.Native.Nat.{ℕ, _+_, _/_}
 use mathlib.Core.Path.{_≡_, refl, sym, ap, _∙_}
-use mathlib.Core.Bool.{Bool, true, false, cond}
+use mathlib.Core.Bool.{true, false}
 use mathlib.Core.List.{List}
-use mathlib.Core.Logic.{_↔_}
 use native.Mathlib.Omega.{arith}
 use lib.IntN.{ℤ}
-use lib.Dec.{ltb}
 use lib.ListN.{length, getD, drop, replicate, length-replicate}
-use borrow.Author.Tests.{lt-ltb, le-ltb, ltb-true}
+use borrow.Author.Tests.{le-ltb}
+use Rattle.rows.specs.Claims.{NoneHolds}
 use Rattle.bits.specs.Bits.{Bytes}
-use Rattle.refusals.specs.declared.FieldRefusal.{FieldRefusal}
-use Rattle.refusals.specs.declared.FieldRefusal.the-variants.{NotWritable, NoRoom}
-use Rattle.fields.specs.declared.Place.{Place}
-use Rattle.fields.specs.declared.Place.the-variants.{At, Nowhere}
+use Rattle.fields.specs.declared.Place.the-variants.{At}
 use Rattle.fields.specs.declared.Record.{Record}
 use Rattle.fields.specs.declared.Answer.{Answer}
-use Rattle.fields.specs.declared.Answer.the-variants.{Accepted, Refused}
+use Rattle.fields.specs.declared.Answer.the-variants.{Accepted}
 use Rattle.fields.specs.declared.Written.{Written}
-use Rattle.fields.specs.declared.Written.the-variants as W
 use Rattle.fields.specs.Table.{rowAt, placeOf}
-use Rattle.fields.specs.Reading.{readTests, recordOf, answerOf, startOf, listOf, textIn, textPlace, readField, textOf}
-use Rattle.fields.specs.Writing.{fieldIn, numbersIn, wayIn, bytesIn, takesAt, takes, bitsAt, bitsIn, writtenAt, writtenOf, leftAt, leftOf, putField}
-use Rattle.fields.specs.Claims.{NoneGiven, RefusedExactly, AcceptedExactly, NotWritableExactly, NoRoomExactly, WrittenExactly, RefusedUntouched, PartsRead, PartsWrite, RecordBack, NumbersBack, WrittenReads, WrittenBytes, FieldsMean}
+use Rattle.fields.specs.Reading.{readRows, recordOf, answerOf, startOf, listOf, textIn, textPlace, readField, textOf}
+use Rattle.fields.specs.Writing.{fieldIn, numbersIn, wayIn, putIn, bytesIn, takes, bitsIn, noRoom, leftBy, leftOf}
+use Rattle.fields.specs.Claims.{PartsRead, PartsWrite, RecordBack, NumbersBack, WrittenReads, WrittenBytes, FieldsMean}
 use Rattle.fields.specs.declared.Direction.{Direction}
 use Rattle.fields.specs.declared.Found.{Found}
 use Rattle.fields.proofs.Forth.{place, place-is, way-is, head-is, takes-is, bits-is, bytes-is, way-same, entries-length, drop-bytes}
 use Rattle.fields.proofs.Taking.{taken}
-use Rattle.fields.proofs.Return.{place-low, read-is, text-read, text-place}
+use Rattle.fields.proofs.Return.{read-is, text-read, text-place}
 use Rattle.fields.proofs.Puts.{fit-of}
-use Rattle.fields.proofs.Exactly as exactly
-use Rattle.fields.proofs.Back.{parts-read, parts-write, placeIn, record-back, place-back, values-back}
-
--- ---- the reader
-
-pub refused-exactly : RefusedExactly
-refused-exactly = exactly.refused-exactly
-
-pub accepted-exactly : AcceptedExactly
-accepted-exactly = exactly.accepted-exactly
-
--- ---- the writer
-
--- its answer, by whether it takes the record and whether there is room
-module _ (r : Record) (l : List ℤ) (t s : List ℕ) where
-  abbrev room : Bool
-  room = ltb (length s) ((bitsIn r + 7) / 8)
-
-  abbrev answer : Bool → Bool → Written
-  answer a b = cond a (cond b (W.Refused NoRoom) (W.Bits (bitsIn r))) (W.Refused NotWritable)
-
-  answer-is : writtenOf r l t s ≡ answer (takes r l t) room
-  unfolding writtenOf writtenAt takes bitsIn
-  answer-is = go (placeOf (getD (numbersIn r) 0 0)) refl
-    where
-      go : (p : Place) → placeOf (getD (numbersIn r) 0 0) ≡ p → writtenOf r l t s ≡ answer (takes r l t) room
-      go Nowhere e = rw e refl
-      go (At i) e = rw e refl
-
-  -- and the bytes it leaves
-  left-is : (x : FieldRefusal) → writtenOf r l t s ≡ W.Refused x → leftOf r l t s ≡ s
-  unfolding writtenOf writtenAt leftOf leftAt
-  left-is x h = go (placeOf (getD (numbersIn r) 0 0)) refl
-    where
-      inner : (i : ℕ) (a b : Bool) → cond a (cond b (W.Refused NoRoom) (W.Bits (bitsAt i r))) (W.Refused NotWritable) ≡ W.Refused x → cond a (cond b s (putField i r l t s)) s ≡ s
-      inner i true true q = refl
-      inner i true false q = absurd (let z : _≡_ {A = ℕ} 0 1 = cc in omega arith)
-      inner i false b q = refl
-
-      go : (p : Place) → placeOf (getD (numbersIn r) 0 0) ≡ p → leftOf r l t s ≡ s
-      go Nowhere e = rw e refl
-      go (At i) e = rw e (inner i (takesAt i r l (length t)) (ltb (length s) ((bitsAt i r + 7) / 8)) (rw e at h))
-
-  writable : (a b : Bool) → (answer a b ≡ W.Refused NotWritable) ↔ (a ≡ false)
-  writable true true = (λ q. absurd (let z : _≡_ {A = ℕ} 0 1 = cc in omega arith), λ q. absurd (let z : _≡_ {A = ℕ} 0 1 = cc in omega arith))
-  writable true false = (λ q. absurd (let z : _≡_ {A = ℕ} 0 1 = cc in omega arith), λ q. absurd (let z : _≡_ {A = ℕ} 0 1 = cc in omega arith))
-  writable false b = (λ q. refl, λ q. refl)
-
-  roomless : (a b : Bool) → (answer a b ≡ W.Refused NoRoom) ↔ ((a ≡ true) × (b ≡ true))
-  roomless true true = (λ q. (refl, refl), λ q. refl)
-  roomless true false = (λ q. absurd (let z : _≡_ {A = ℕ} 0 1 = cc in omega arith), λ q. absurd (let k = q .1 in let z : _≡_ {A = ℕ} 0 1 = cc in omega arith))
-  roomless false b = (λ q. absurd (let z : _≡_ {A = ℕ} 0 1 = cc in omega arith), λ q. absurd (let k = q .0 in let z : _≡_ {A = ℕ} 0 1 = cc in omega arith))
-
-pub not-writable-exactly : NotWritableExactly
-not-writable-exactly r l t s =
-    let w = writable r l t s (takes r l t) (room r l t s) in
-    (λ e. w .0 (sym (answer-is r l t s) ∙ e), λ e. answer-is r l t s ∙ w .1 e)
-
-pub no-room-exactly : NoRoomExactly
-no-room-exactly r l t s =
-    let w = roomless r l t s (takes r l t) (room r l t s) in (
-      λ e. let q = w .0 (sym (answer-is r l t s) ∙ e) in (q .0, ltb-true _ _ (q .1)),
-      λ e. answer-is r l t s ∙ w .1 (e .0, lt-ltb _ _ (e .1)),
-    )
-
-pub written-exactly : WrittenExactly
-written-exactly r l t s h k =
-    answer-is r l t s ∙ ap (λ (a : Bool). answer r l t s a (room r l t s)) h
-    ∙ ap (λ (b : Bool). answer r l t s true b) (le-ltb (length s) ((bitsIn r + 7) / 8) (omega arith))
-
-pub refused-untouched : RefusedUntouched
-refused-untouched r l t s x h = left-is r l t s x h
+use Rattle.fields.proofs.Exactly.{accepted-exactly, written-exactly}
+use Rattle.fields.proofs.Back.{parts-read, parts-write, placeIn, record-back, place-back, place-low, values-back}
 
 -- ---- demand 2, its three parts
 
@@ -120,35 +45,22 @@ records-back f = (
 pub numbers-back : NumbersBack
 numbers-back = values-back
 
-module _ (r : Record) (l : List ℤ) (t : List ℕ) (h : takes r l t ≡ true) where
-  abbrev i : ℕ
-  i = placeIn (fieldIn r)
-
-  at : placeOf (getD (numbersIn r) 0 0) ≡ At i
-  at = place-back (fieldIn r)
-
-  taken-at : takesAt i r l (length t) ≡ true
-  unfolding takes
-  taken-at = rw at at h
-
-  pub written-reads-at : length l ≡ 30 → Bytes t
-      → (readField (bytesIn r l t) (bitsIn r) (wayIn r) ≡ record { answer = Accepted r; list = l }) × (textOf (bytesIn r l t) (bitsIn r) (wayIn r) ≡ t)
-  unfolding bytesIn bitsIn wayIn
-  written-reads-at n b =
-      let k = taken i r l (length t) taken-at in
-      let low = place-low (fieldIn r) in
-      rw at (read-is i r l t low at k n b, text-read i r l t low at k n b)
-
-  pub written-bytes-at : leftOf r l t (replicate ((bitsIn r + 7) / 8) 0) ≡ bytesIn r l t
-  unfolding leftOf leftAt bytesIn bitsIn
-  written-bytes-at =
-      rw (at, length-replicate {A = ℕ} ((bitsAt i r + 7) / 8) 0, taken-at, le-ltb ((bitsAt i r + 7) / 8) ((bitsAt i r + 7) / 8) (omega arith)) refl
-
 pub written-reads : WrittenReads
-written-reads r l t h = written-reads-at r l t h
+unfolding takes bytesIn putIn bitsIn wayIn
+written-reads r l t h n b =
+    let i = placeIn (fieldIn r) in
+    let low = place-low (fieldIn r) in
+    let at : placeOf (getD (numbersIn r) 0 0) ≡ At i = place-back (fieldIn r) in
+    let k = taken i r l (length t) (rw at at h) in
+    rw at (read-is i r l t low at k n b, text-read i r l t low at k n b)
 
 pub written-bytes : WrittenBytes
-written-bytes r l t h = written-bytes-at r l t h
+unfolding leftOf bytesIn
+written-bytes r l t h =
+    let n = (bitsIn r + 7) / 8 in
+    let z = replicate {A = ℕ} n 0 in
+    let room : noRoom r z ≡ false = le-ltb (length z) n (omega (arith, length-replicate {A = ℕ} n 0)) in
+    ap (λ (w : Written). leftBy w z (putIn r l t z)) (written-exactly r l t z (bitsIn r) .1 ((rw h refl, (room, tt)), refl))
 
 -- ---- demand 2
 
@@ -156,9 +68,9 @@ written-bytes r l t h = written-bytes-at r l t h
 abbrev Means : List ℕ → ℕ → Direction → Record → List ℤ → List ℕ → Type 0
 Means s n w r l t = (s ≡ bytesIn r l t) × (n ≡ bitsIn r) × (w ≡ wayIn r) × (takes r l t ≡ true) × (length l ≡ 30) × Bytes t
 
-forth : (s : List ℕ) (n : ℕ) (w : Direction) → Bytes s → NoneGiven (readTests s n w)
+forth : (s : List ℕ) (n : ℕ) (w : Direction) → Bytes s → NoneHolds (readRows s n w)
     → Means s n w (recordOf s n w) (listOf s (Accepted (recordOf s n w))) (drop (textIn s (startOf s n w)) s)
-unfolding bytesIn bitsIn wayIn takes
+unfolding bytesIn putIn bitsIn wayIn takes
 forth s n w b none =
     let p = place s n w b none in
     let i = p .0 in
@@ -179,7 +91,7 @@ fields-mean s n w r l t b = (there, back)
     there : (readField s n w ≡ record { answer = Accepted r; list = l }) × (textOf s n w ≡ t) → Means s n w r l t
     there e =
         let a : answerOf s n w ≡ Accepted r = ap (λ (f : Found). f .answer) (e .0) in
-        let x = exactly.accepted-exactly s n w r .0 a in
+        let x = accepted-exactly s n w r .0 a in
         let p = place s n w b (x .0) in
         let er = x .1 in
         let c : answerOf s n w ≡ Accepted (recordOf s n w) = a ∙ ap Accepted (sym er) in

@@ -1,18 +1,18 @@
 -- Facts of the table's rows, each by one test that antt computes over all of them.
 -- Assumes nothing.
-use mathlib.Core.Path.{_≡_, refl, sym, ap, _∙_}
-use mathlib.Core.List.{List, [], _∷_}
+use mathlib.Core.Path.{_≡_, refl}
+use mathlib.Core.List.{List}
 use mathlib.Core.Logic.{_⊎_, inl, inr}
 use mathlib.Core.Bool.{Bool, true, false, cond, not, _&&_, _||_}
-use Prim.Native.Nat.{ℕ, zero, suc, _+_, _-_, _*_, _/_, _%_, _≤_, _<_, _^_, zero-le}
+use Prim.Native.Nat.{ℕ, _+_, _-_, _*_, _%_, _≤_, _<_, _^_, zero-le}
 use native.Mathlib.Nat.{mul-le-mul-left}
 use native.Mathlib.Decide.{ℕ-discrete}
 use native.Mathlib.Omega.{arith}
-use lib.Dec.{T, eqb, ltb, leb, leb→le, eqb→eq}
+use lib.Dec.{T, eqb, leb, leb→le, eqb→eq}
 use lib.ListN.{length, getD, List·getD-eq-default}
-use borrow.Author.Tests.{eqb-true, eq-eqb, ne-eqb, eqb-false}
+use borrow.Author.Tests.{eqb-true, eq-eqb, ne-eqb}
 use Rattle.fields.specs.declared.Row.{Row}
-use Rattle.fields.specs.Table.{table, rows, rowAt, widths, widthsAt, countIn, sizeIn, RowSmall}
+use Rattle.fields.specs.Table.{table, rows, rowAt, widths, widthsAt, countIn, sizeIn}
 use Rattle.fields.specs.Reading.{fromSensor, listedBy}
 use Rattle.fields.specs.Writing.{textLengthBy}
 use Rattle.fields.proofs.Rows.{below-at, both-left, both-right, Fit, fit-at}
@@ -46,7 +46,7 @@ text-whole i h e =
     go false q t = absurd (let z : _≡_ {A = ℕ} 0 1 = cc in omega arith)
 
 -- what comes from the sensor has no list
-pub from-no-list : (i : ℕ) → i < 22 → fromSensor (rowAt i .way) ≡ true → (rowAt i .step ≡ 80) ⊎ (rowAt i .step ≡ 0)
+from-no-list : (i : ℕ) → i < 22 → fromSensor (rowAt i .way) ≡ true → (rowAt i .step ≡ 80) ⊎ (rowAt i .step ≡ 0)
 unfolding table rows rowAt fromSensor
 from-no-list i h e =
     go (fromSensor (rowAt i .way)) (eqb (rowAt i .step) 80) refl e
@@ -61,7 +61,7 @@ from-no-list i h e =
 abbrev uncounted : Row → Bool
 uncounted r = eqb (r .more) 0 && (eqb (r .first) 11 && (eqb (r .second) 11 && eqb (r .third) 11))
 
-pub no-steps : (i : ℕ) (vs : List ℕ) → i < 22 → length vs ≡ 11 → rowAt i .step ≡ 0 → countIn (rowAt i) vs ≡ 0
+no-steps : (i : ℕ) (vs : List ℕ) → i < 22 → length vs ≡ 11 → rowAt i .step ≡ 0 → countIn (rowAt i) vs ≡ 0
 unfolding table rows rowAt countIn
 no-steps i vs h n e =
     go (eqb (rowAt i .step) 0) (eq-eqb _ _ e) (below-at (λ (j : ℕ). not (eqb (rowAt j .step) 0) || uncounted (rowAt j)) 22 tt i h)
@@ -82,7 +82,7 @@ no-steps i vs h n e =
     go false q t = absurd (let z : _≡_ {A = ℕ} 0 1 = cc in omega arith)
 
 -- entries are blocks or numbers of 24 bits
-pub step-told : (i : ℕ) → i < 22 → (rowAt i .step ≡ 80) ⊎ ((rowAt i .step ≡ 0) ⊎ ((rowAt i .step ≡ 8) ⊎ (rowAt i .step ≡ 24)))
+step-told : (i : ℕ) → i < 22 → (rowAt i .step ≡ 80) ⊎ ((rowAt i .step ≡ 0) ⊎ ((rowAt i .step ≡ 8) ⊎ (rowAt i .step ≡ 24)))
 unfolding table rows rowAt
 step-told i h =
     go (eqb (rowAt i .step) 80) (eqb (rowAt i .step) 0) (eqb (rowAt i .step) 8) refl refl refl
@@ -94,6 +94,25 @@ step-told i h =
     go false true c p q r t = inr (inl (eqb-true _ _ q))
     go false false true p q r t = inr (inr (inl (eqb-true _ _ r)))
     go false false false p q r t = inr (inr (inr (eqb→eq _ _ t)))
+
+-- so what is listed is one of these
+pub entry-listed : (i : ℕ) (vs : List ℕ) → i < 22 → length vs ≡ 11 → 0 < listedBy (rowAt i) vs → (rowAt i .step ≡ 8) ⊎ (rowAt i .step ≡ 24)
+unfolding listedBy
+entry-listed i vs h n m = go (step-told i h)
+  where
+    go : (rowAt i .step ≡ 80) ⊎ ((rowAt i .step ≡ 0) ⊎ ((rowAt i .step ≡ 8) ⊎ (rowAt i .step ≡ 24))) → (rowAt i .step ≡ 8) ⊎ (rowAt i .step ≡ 24)
+    go (inl e) = absurd (let q : 0 < 0 = rw (eq-eqb (rowAt i .step) 80 e) at m in omega arith)
+    go (inr (inl e)) = absurd (let c = no-steps i vs h n e in let q : 0 < countIn (rowAt i) vs = rw (ne-eqb (rowAt i .step) 80 (λ u. omega arith)) at m in omega arith)
+    go (inr (inr e)) = e
+
+-- and nothing of what comes from the sensor
+pub none-listed : (i : ℕ) (vs : List ℕ) → i < 22 → length vs ≡ 11 → fromSensor (rowAt i .way) ≡ true → listedBy (rowAt i) vs ≡ 0
+unfolding listedBy
+none-listed i vs h n f = go (from-no-list i h f)
+  where
+    go : (rowAt i .step ≡ 80) ⊎ (rowAt i .step ≡ 0) → listedBy (rowAt i) vs ≡ 0
+    go (inl e) = rw (eq-eqb (rowAt i .step) 80 e) refl
+    go (inr e) = rw (ne-eqb (rowAt i .step) 80 (λ u. omega arith)) (no-steps i vs h n e)
 
 -- no field is longer than 1336 bits
 abbrev most : Row → List ℕ → ℕ

@@ -2,17 +2,18 @@
 -- Assumes nothing.
 use mathlib.Core.Path.{_≡_, refl, sym, ap, _∙_, subst}
 use mathlib.Core.List.{List, [], _∷_, _++_}
-use mathlib.Core.Logic.{_⊎_, inl, inr}
-use mathlib.Core.Bool.{Bool, true, false, cond, not, _&&_, _||_}
+use mathlib.Core.Logic.{inl, inr}
+use mathlib.Core.Bool.{Bool, true, false, cond, not, _&&_}
 use Prim.Native.Nat.{ℕ, zero, suc, _+_, _-_, _*_, _/_, _%_, _≤_, _<_, _^_, zero-le}
 use native.Mathlib.Nat.{zero-add, mul-zero, add-zero, div-add-mod'}
-use native.Mathlib.Decide.{decLt, ℕ-discrete}
+use native.Mathlib.Decide.{ℕ-discrete}
 use native.Mathlib.Omega.{arith}
-use lib.IntN.{ℤ, pos, negsuc, negℤ, natAbs}
+use lib.IntN.{ℤ, pos, negℤ, natAbs}
 use lib.Dec.{eqb, ltb, leb}
-use lib.ListN.{length, getD, take, drop, replicate, length-replicate, length-drop}
+use lib.ListN.{length, getD, drop, replicate, length-replicate, length-drop}
 use lib.Seq.{take-all, drop-length}
-use borrow.Author.Tests.{eqb-true, eqb-false, ltb-true, ltb-false, eq-eqb, ne-eqb, lt-ltb, le-ltb, not-true, not-false}
+use borrow.Author.Tests.{eqb-true, eqb-false, ltb-false, eq-eqb, ne-eqb, lt-ltb, not-true, not-false}
+use Rattle.rows.specs.Claims.{NoneHolds}
 use Rattle.bits.specs.Bits.{bitsOf, putBits, Bytes}
 use Rattle.fields.specs.Lists.{negative, blockOf, blockBits, blockUnused, entryOf, entryBits, entryFits, anyUnused, entriesIn, listFits, entriesBits}
 use Rattle.fields.specs.declared.Direction.{Direction}
@@ -20,30 +21,23 @@ use Rattle.fields.specs.declared.Direction.the-variants.{ToSensor, FromS
 use Rattle.fields.specs.declared.Place.{Place}
 use Rattle.fields.specs.declared.Place.the-variants.{At, Nowhere}
 use Rattle.fields.specs.Table.{placeOf, rowAt, rulesAt, widthsAt, valuesOf, hasFault, countIn, sizeIn}
-use Rattle.fields.specs.Reading.{fromSensor, sameWay, typeOf, valuesAt, opens, startOf, recordIn, recordOf, notRelayed, listed, listedBy, listIn, listOf, textIn, blockCount, blocksIn, wrongByteCount, bitAfterCount, unknownType, typeNotCarried, wrongDirection, wrongBitCount, spareBitSet, valueNotInUse, sizedBy, fieldTests, readTests}
+use Rattle.fields.specs.Reading.{fromSensor, sameWay, typeOf, valuesAt, opens, startOf, recordOf, notRelayed, listed, listedBy, listIn, listOf, textIn, blockCount, blocksIn, wrongByteCount, bitAfterCount, unknownType, typeNotCarried, wrongDirection, wrongBitCount, spareBitSet, valueNotInUse, sizedBy, fieldRows, readRows}
 use Rattle.fields.specs.declared.Record.{Record}
-use Rattle.fields.specs.declared.Record.the-variants.{Single, Relay}
 use Rattle.fields.specs.declared.Answer.the-variants.{Accepted}
 use Rattle.fields.specs.Records.{fieldOf, numbersOf}
-use Rattle.fields.proofs.Puts.{both-true, putAll-join}
-use Rattle.fields.proofs.Values.{valuesOf-snoc}
+use Rattle.fields.proofs.Puts.{both-true, both-false, putAll-join}
 use Rattle.fields.proofs.Back.{values-back, first-eight, parts-write}
-use Rattle.fields.proofs.Facts.{below-relay, listed-most, from-no-list, no-steps, step-told, text-whole, steps-told}
-use Rattle.fields.proofs.Taking.{widths-length, widths-sum, sum-same}
+use Rattle.fields.proofs.Facts.{below-relay, listed-most, entry-listed, none-listed, text-whole}
+use Rattle.fields.proofs.Taking.{head-sum, parts-sum, widths-length, widths-sum, sum-same}
 use Rattle.bits.proofs.Laws.{bitsOf-lt}
-use Rattle.fields.specs.Claims.{NoneGiven}
 use Rattle.fields.specs.Writing.{fieldIn, numbersIn, textLengthBy, takesAt, bitsAt, widthsIn, valuesIn, putAll, putField, sumOf, headBits, headWidths, headValues, headFits, relaysAt, fitAll, fillOf}
 use Rattle.fields.proofs.Rows.{Fit, found-within, found-code, values-fit}
-use Rattle.fields.proofs.Rounds.{Entry, tens, valuesOf-join, valuesOf-length, values-bytes, sum-join}
+use Rattle.fields.proofs.Rounds.{Entry, valuesOf-join, valuesOf-snoc, valuesOf-length, values-bytes, sum-join}
 
 -- ---- a block that is in use
 
 in-use : (x : ℕ) → blockUnused x ≡ false → (x % 16 ≤ 9) × (x ≡ 128 → ⊥)
-in-use x h = let o = or-false (ltb 9 (x % 16)) (eqb x 128) h in (ltb-false 9 (x % 16) (o .0), eqb-false x 128 (o .1))
-  where
-    or-false : (a b : Bool) → (a || b) ≡ false → (a ≡ false) × (b ≡ false)
-    or-false true b h = absurd (let z : _≡_ {A = ℕ} 0 1 = cc in omega arith)
-    or-false false b h = (refl, h)
+in-use x h = let o = both-false (ltb 9 (x % 16)) (eqb x 128) h in (ltb-false 9 (x % 16) (o .0), eqb-false x 128 (o .1))
 
 -- hundreds and thousands of a sum
 parts-of : (q d : ℕ) → d ≤ 9 → ((q * 10 + d) / 10 ≡ q) × ((q * 10 + d) % 10 ≡ d)
@@ -105,9 +99,9 @@ block-forth x l h = go (ℕ-discrete (x / 128) 1)
 
 -- ---- entries
 
--- entries that are read are numbers that fit, and give the same bits
-abbrev pub Sound : ℕ → List ℕ → Type 0
-Sound step xs = Fit (replicate (length xs) step) xs × ((step ≡ 8) → anyUnused xs ≡ false)
+-- entries that fit their bits and, if they are blocks, are in use
+abbrev InUse : ℕ → List ℕ → Type 0
+InUse step xs = Fit (replicate (length xs) step) xs × ((step ≡ 8) → anyUnused xs ≡ false)
 
 entry-forth : (step x : ℕ) → Entry step → x < 2 ^ step → (step ≡ 8 → blockUnused x ≡ false) → (entryFits step (entryOf step x) ≡ true) × (entryBits step (entryOf step x) ≡ x)
 unfolding entryOf entryFits entryBits
@@ -116,23 +110,15 @@ entry-forth step x (inl e) l u =
     rw e (lt-ltb _ 80 (b .0), b .1)
 entry-forth step x (inr e) l u = rw e (lt-ltb x 16777216 (subst (λ (k : ℕ). x < 2 ^ k) e l), refl)
 
-or-left : (a b : Bool) → (a || b) ≡ false → a ≡ false
-or-left true b h = absurd (let z : _≡_ {A = ℕ} 0 1 = cc in omega arith)
-or-left false b h = refl
-
-or-right : (a b : Bool) → (a || b) ≡ false → b ≡ false
-or-right true b h = absurd (let z : _≡_ {A = ℕ} 0 1 = cc in omega arith)
-or-right false b h = h
-
-pub list-forth : (step room : ℕ) (xs : List ℕ) → (0 < length xs → Entry step) → length xs ≤ room → Sound step xs
+pub list-forth : (step room : ℕ) (xs : List ℕ) → (0 < length xs → Entry step) → length xs ≤ room → InUse step xs
     → (listFits step (length xs) (entriesIn step room xs) ≡ true) × (entriesBits step (length xs) (entriesIn step room xs) ≡ xs)
 unfolding listFits entriesIn entriesBits anyUnused
 list-forth step zero [] e r f = (refl, refl)
 list-forth step zero (x ∷ xs) e r f = absurd (omega arith)
 list-forth step (suc room) [] e r f = (list-forth step room [] e zero-le f .0, refl)
 list-forth step (suc room) (x ∷ xs) e r f =
-    let y = entry-forth step x (e (omega arith)) (f .0 .0) (λ q. or-left (blockUnused x) (anyUnused xs) (f .1 q)) in
-    let m = list-forth step room xs (λ h. e (omega arith)) (omega arith) (f .0 .1, λ q. or-right (blockUnused x) (anyUnused xs) (f .1 q)) in
+    let y = entry-forth step x (e (omega arith)) (f .0 .0) (λ q. both-false (blockUnused x) (anyUnused xs) (f .1 q) .0) in
+    let m = list-forth step room xs (λ h. e (omega arith)) (omega arith) (f .0 .1, λ q. both-false (blockUnused x) (anyUnused xs) (f .1 q) .1) in
     (rw (y .0) (m .0), rw (y .1, m .1) refl)
 
 pub entries-length : (step room : ℕ) (xs : List ℕ) → length (entriesIn step room xs) ≡ room
@@ -175,24 +161,15 @@ opens-told s n w h =
 
 relayed-told : (t : ℕ) → notRelayed t 16 ≡ false → eqb t 0x62 ≡ false
 unfolding notRelayed
-relayed-told t h = or-right (eqb t 0x03) (eqb t 0x62) h
+relayed-told t h = both-false (eqb t 0x03) (eqb t 0x62) h .1
 
 relays-true : (s : List ℕ) (i : ℕ) → fromSensor (rowAt i .way) ≡ true → eqb (rowAt i .code) 0x62 ≡ false → relaysAt i (bitsOf s 8 8) ≡ true
 unfolding relaysAt
 relays-true s i f c = rw (lt-ltb (bitsOf s 8 8) 256 (bitsOf-lt s 8 8), f, c) refl
 
--- what comes from the sensor lists nothing
-none-listed : (i : ℕ) (vs : List ℕ) → i < 22 → length vs ≡ 11 → fromSensor (rowAt i .way) ≡ true → listed i vs ≡ 0
-unfolding listedBy
-none-listed i vs h n f = go (from-no-list i h f)
-  where
-    go : (rowAt i .step ≡ 80) ⊎ (rowAt i .step ≡ 0) → listed i vs ≡ 0
-    go (inl e) = rw (eq-eqb (rowAt i .step) 80 e) refl
-    go (inr e) = rw (ne-eqb (rowAt i .step) 80 (λ u. omega arith)) (no-steps i vs h n e)
-
 -- ---- a field that is accepted
 
-module _ (s : List ℕ) (n : ℕ) (w : Direction) (bytes : Bytes s) (none : NoneGiven (readTests s n w)) where
+module _ (s : List ℕ) (n : ℕ) (w : Direction) (bytes : Bytes s) (none : NoneHolds (readRows s n w)) where
   abbrev a : ℕ
   a = startOf s n w
 
@@ -204,7 +181,7 @@ module _ (s : List ℕ) (n : ℕ) (w : Direction) (bytes : Bytes s) (none : None
   unfolding bitAfterCount
   no-more = eqb-true _ _ (not-false _ (none .1 .1 .0))
 
-  abbrev field : NoneGiven (fieldTests s n a w)
+  abbrev field : NoneHolds (fieldRows s n a w)
   field = none .1 .1 .1
 
   -- the type has a row
@@ -246,8 +223,7 @@ module _ (s : List ℕ) (n : ℕ) (w : Direction) (bytes : Bytes s) (none : None
     used-is : (hasFault 2 (rulesAt i) vals ≡ false) × (anyUnused (blocksIn s a i) ≡ false)
     unfolding valueNotInUse
     used-is =
-        let q : (hasFault 2 (rulesAt i) vals || anyUnused (blocksIn s a i)) ≡ false = rw here at (field .1 .1 .1 .1 .1 .1 .0) in
-        (or-left (hasFault 2 (rulesAt i) vals) (anyUnused (blocksIn s a i)) q, or-right (hasFault 2 (rulesAt i) vals) (anyUnused (blocksIn s a i)) q)
+        both-false (hasFault 2 (rulesAt i) vals) (anyUnused (blocksIn s a i)) (rw here at (field .1 .1 .1 .1 .1 .1 .0))
 
     low : i < 21
     low = below-relay i in22 (sized-is .0)
@@ -278,7 +254,7 @@ module _ (s : List ℕ) (n : ℕ) (w : Direction) (bytes : Bytes s) (none : None
     numbers = ap numbersOf (head-is .0) ∙ back
 
     pub place-is : placeOf (getD (numbersIn r) 0 0) ≡ At i
-    place-is = ap (λ (x : List ℕ). placeOf (getD x 0 0)) numbers ∙ ap placeOf (first-eight s a i low .0) ∙ here
+    place-is = ap (λ (x : List ℕ). placeOf (getD x 0 0)) numbers ∙ ap placeOf (first-eight s a i low) ∙ here
 
     abbrev row : ℕ
     row = rowAt i .step
@@ -301,15 +277,6 @@ module _ (s : List ℕ) (n : ℕ) (w : Direction) (bytes : Bytes s) (none : None
     xs-length : length xs ≡ m
     xs-length = valuesOf-length s (a + rowAt i .base) (replicate m row) ∙ length-replicate m row
 
-    entry : 0 < m → Entry row
-    unfolding listedBy
-    entry h = go (step-told i in22)
-      where
-        go : (row ≡ 80) ⊎ ((row ≡ 0) ⊎ ((row ≡ 8) ⊎ (row ≡ 24))) → Entry row
-        go (inl e) = absurd (let q = ap (λ (b : Bool). cond b 0 (countIn (rowAt i) vals)) (eq-eqb row 80 e) in omega arith)
-        go (inr (inl e)) = absurd (let c = no-steps i vals in22 (valuesOf-length s a (widthsAt i) ∙ widths-length i in22) e in let q = ap (λ (b : Bool). cond b 0 (countIn (rowAt i) vals)) (ne-eqb row 80 (λ u. omega arith)) in omega arith)
-        go (inr (inr e)) = e
-
     blocks : row ≡ 8 → anyUnused xs ≡ false
     unfolding listedBy blockCount
     blocks e =
@@ -319,7 +286,7 @@ module _ (s : List ℕ) (n : ℕ) (w : Direction) (bytes : Bytes s) (none : None
 
     list-both : (listFits row m l ≡ true) × (entriesBits row m l ≡ xs)
     list-both =
-        let f = list-forth row 30 xs (λ h. entry (omega (arith, xs-length))) (omega (arith, xs-length, listed-most i vals in22 fits)) (rw xs-length (values-fit s (a + rowAt i .base) (replicate m row)), blocks) in
+        let f = list-forth row 30 xs (λ h. entry-listed i vals in22 (valuesOf-length s a (widthsAt i) ∙ widths-length i in22) (omega (arith, xs-length))) (omega (arith, xs-length, listed-most i vals in22 fits)) (rw xs-length (values-fit s (a + rowAt i .base) (replicate m row)), blocks) in
         rw (head-is .4) (rw xs-length at f)
 
     -- ---- the text
@@ -386,19 +353,12 @@ module _ (s : List ℕ) (n : ℕ) (w : Direction) (bytes : Bytes s) (none : None
         ap (λ (v : List ℕ). headValues r ++ (v ++ (entriesBits row (listed i v) l ++ t))) numbers
         ∙ ap (λ (e : List ℕ). headValues r ++ (vals ++ (e ++ t))) (list-both .1)
 
-    head-sum : sumOf (headWidths r) ≡ a
-    head-sum = go r ∙ head-is .1
-      where
-        go : (x : Record) → sumOf (headWidths x) ≡ headBits x
-        go (Single f) = refl
-        go (Relay x f) = refl
-
     read-all : valuesOf s 0 widths-all ≡ vals-all
     read-all =
         let rest2 = replicate m row ++ replicate (length t) 8 in
         valuesOf-join s 0 (headWidths r) (widthsAt i ++ rest2)
         ∙ ap (λ (x : List ℕ). x ++ valuesOf s (0 + sumOf (headWidths r)) (widthsAt i ++ rest2)) (head-is .3)
-        ∙ ap (λ (x : ℕ). headValues r ++ valuesOf s x (widthsAt i ++ rest2)) (let q : 0 + sumOf (headWidths r) ≡ a = omega (arith, head-sum) in q)
+        ∙ ap (λ (x : ℕ). headValues r ++ valuesOf s x (widthsAt i ++ rest2)) (let q : 0 + sumOf (headWidths r) ≡ a = omega (arith, head-sum r, head-is .1) in q)
         ∙ ap (λ (x : List ℕ). headValues r ++ x) (valuesOf-join s a (widthsAt i) rest2)
         ∙ ap (λ (x : ℕ). headValues r ++ (vals ++ valuesOf s (a + x) rest2)) (widths-sum i in22)
         ∙ ap (λ (x : List ℕ). headValues r ++ (vals ++ x)) (valuesOf-join s (a + rowAt i .base) (replicate m row) (replicate (length t) 8))
@@ -406,12 +366,7 @@ module _ (s : List ℕ) (n : ℕ) (w : Direction) (bytes : Bytes s) (none : None
         ∙ ap (λ (x : List ℕ). headValues r ++ (vals ++ (xs ++ x))) (text-both .1)
 
     sum-all : sumOf widths-all ≡ n
-    unfolding sizeIn
-    sum-all =
-        sum-join (headWidths r) (widthsAt i ++ (replicate m row ++ replicate (length t) 8))
-        ∙ ap (λ (x : ℕ). sumOf (headWidths r) + x) (sum-join (widthsAt i) (replicate m row ++ replicate (length t) 8))
-        ∙ ap (λ (x : ℕ). sumOf (headWidths r) + (sumOf (widthsAt i) + x)) (sum-join (replicate m row) (replicate (length t) 8))
-        ∙ omega (arith, head-sum, widths-sum i in22, sum-same m row, sum-same (length t) 8, text-both .0, steps-told (rowAt i) vals, sized-is .1)
+    sum-all = parts-sum i r vals t in22 (text-both .0) ∙ omega (arith, head-is .1, sized-is .1)
 
     pub bytes-is : putField i r l t (replicate ((bitsAt i r + 7) / 8) 0) ≡ s
     unfolding putField putAll

@@ -2,7 +2,7 @@
 -- Assumes nothing.
 use mathlib.Core.Path.{_≡_, refl, ap, _∙_}
 use mathlib.Core.List.{List, [], _∷_, _++_}
-use mathlib.Core.Bool.{Bool, true, false, _&&_}
+use mathlib.Core.Bool.{Bool, true, false, _&&_, _||_}
 use Prim.Native.Nat.{ℕ, zero, suc, _+_, _≤_, _^_}
 use native.Mathlib.Nat.{not-suc-le-zero, le-of-suc-le-suc, add-zero, add-assoc}
 use native.Mathlib.Omega.{arith}
@@ -50,11 +50,16 @@ entriesBits-length step zero l h = refl
 entriesBits-length step (suc n) [] h = absurd (not-suc-le-zero h)
 entriesBits-length step (suc n) (z ∷ l) h = ap suc (entriesBits-length step n l (le-of-suc-le-suc h))
 
--- a list that fits has room for its entries
+-- both sides of a test
 pub both-true : (a b : Bool) → (a && b) ≡ true → (a ≡ true) × (b ≡ true)
 both-true true b h = (refl, h)
 both-true false b h = absurd (let z : _≡_ {A = ℕ} 0 1 = cc in omega arith)
 
+pub both-false : (a b : Bool) → (a || b) ≡ false → (a ≡ false) × (b ≡ false)
+both-false true b h = absurd (let z : _≡_ {A = ℕ} 0 1 = cc in omega arith)
+both-false false b h = (refl, h)
+
+-- a list that fits has room for its entries
 pub listFits-room : (step n : ℕ) (l : List ℤ) → listFits step n l ≡ true → n ≤ length l
 unfolding listFits
 listFits-room step n [] h = omega (arith, eqb-true n 0 h)

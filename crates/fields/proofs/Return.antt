@@ -2,71 +2,40 @@
 -- Assumes nothing.
 use mathlib.Core.Path.{_≡_, refl, sym, ap, _∙_, subst}
 use mathlib.Core.List.{List, [], _∷_, _++_}
-use mathlib.Core.Logic.{_⊎_, inl, inr, ⊎-elim}
-use mathlib.Core.Bool.{Bool, true, false, cond, not, _&&_, _||_}
-use Prim.Native.Nat.{ℕ, zero, suc, _+_, _-_, _*_, _/_, _%_, _≤_, _<_, _^_, zero-le}
+use mathlib.Core.Bool.{Bool, true, false, cond, not, _&&_}
+use Prim.Native.Nat.{ℕ, _+_, _-_, _*_, _/_, _%_, _≤_, _<_}
 use native.Mathlib.Nat.{zero-add, mul-zero, add-zero}
 use native.Mathlib.Omega.{arith}
-use lib.IntN.{ℤ, pos}
-use lib.Dec.{eqb, ltb, leb, lit<}
-use lib.ListN.{length, getD, take, drop, replicate, length-replicate, length-drop, length-append, drop-of-length-le}
+use lib.IntN.{ℤ}
+use lib.Dec.{eqb, ltb, leb}
+use lib.ListN.{length, getD, drop, replicate, length-replicate, length-drop}
 use lib.Pow.{pow-pos}
 use lib.Seq.{take-all, drop-length}
-use borrow.Author.Tests.{eqb-true, ltb-true, eq-eqb, ne-eqb, le-ltb, le-leb, not-true}
+use borrow.Author.Tests.{ltb-true, eq-eqb, ne-eqb, le-ltb, le-leb, not-true}
 use native.Mathlib.Decide.{ℕ-discrete}
 use Rattle.fields.specs.declared.Answer.{Answer}
 use Rattle.fields.specs.declared.Answer.the-variants.{Accepted}
-use Rattle.bits.specs.Bits.{bitsOf, bits, putBits, Bytes}
+use Rattle.rows.specs.Claims.{NoneHolds}
+use Rattle.bits.specs.Bits.{bitsOf, Bytes}
 use Rattle.bits.proofs.Laws.{bitsOf-putBits, length-putBits, putBits-bytes}
 use Rattle.fields.specs.declared.Direction.{Direction}
 use Rattle.fields.specs.declared.Direction.the-variants.{ToSensor, FromSensor}
 use Rattle.fields.specs.declared.Place.the-variants.{At}
 use Rattle.fields.specs.declared.Field.{Field}
-use Rattle.fields.specs.declared.Field.the-variants as F
 use Rattle.fields.specs.declared.Record.{Record}
 use Rattle.fields.specs.declared.Record.the-variants.{Single, Relay}
-use Rattle.fields.specs.Table.{table, rules, placeOf, rowAt, widthsAt, rulesAt, valuesOf, faultOf, hasFault, countIn, sizeIn}
+use Rattle.fields.specs.Table.{placeOf, rowAt, widthsAt, rulesAt, valuesOf, faultOf, hasFault, countIn, sizeIn}
 use Rattle.fields.specs.Records.{fieldOf, numbersOf}
 use Rattle.fields.specs.Lists.{anyUnused, entriesIn, listFits, entriesBits}
-use Rattle.fields.specs.Reading.{fromSensor, sameWay, typeOf, valuesAt, opens, startOf, recordIn, recordOf, notRelayed, listed, listedBy, listIn, listOf, textIn, textPlace, textOf, readField, answerOf, blockCount, blocksIn, fieldTests, readTests, countOutOfRange, wrongByteCount, bitAfterCount, unknownType, wrongDirection, wrongBitCount, spareBitSet, valueNotInUse, sizedBy}
-use Rattle.fields.specs.Claims.{NoneGiven}
+use Rattle.fields.specs.Reading.{fromSensor, sameWay, typeOf, valuesAt, opens, startOf, recordIn, recordOf, notRelayed, listed, listedBy, listIn, listOf, textIn, textPlace, textOf, readField, answerOf, blockCount, blocksIn, fieldRows, readRows, countOutOfRange, wrongByteCount, bitAfterCount, unknownType, wrongDirection, wrongBitCount, spareBitSet, valueNotInUse, sizedBy}
 use Rattle.fields.specs.Writing.{fieldIn, numbersIn, headBits, headWidths, headValues, headFits, relaysAt, textLengthBy, bitsAt, widthsIn, valuesIn, putAll, fillOf, putField, sumOf}
 use Rattle.fields.proofs.Rows.{Fit, found-code, carried}
 use Rattle.fields.proofs.Puts.{length-putAll, listFits-room, entriesBits-length, both-true, head-small}
-use Rattle.fields.proofs.Taking.{Taken, widths-length, widths-sum, sum-same, numbers-length, fit-numbers}
-use Rattle.fields.proofs.Back.{parts-read, placeIn, record-back, place-back, first-eight, zeros-bytes, putAll-bytes}
-use Rattle.fields.proofs.Facts.{no-relay, base-least, from-no-list, no-steps, step-told, size-most, steps-told, text-whole}
+use Rattle.fields.proofs.Taking.{Taken, head-sum, head-lengths, parts-sum, widths-length, widths-sum, sum-same, numbers-length, fit-numbers}
+use Rattle.fields.proofs.Back.{parts-read, placeIn, record-back, place-back, sparesZero, spares-zero, first-eight, zeros-bytes, putAll-bytes}
+use Rattle.fields.proofs.Facts.{no-relay, base-least, entry-listed, none-listed, size-most, text-whole}
 use Rattle.fields.proofs.Exactly.{accepted-exactly}
-use Rattle.fields.proofs.Rounds.{append-inj, valuesOf-join, valuesOf-length, sum-join, fit-join, values-stay, bytes-fit, entries-fit, list-back, used-back, values-bytes}
-
-pub place-low : (f : Field) → placeIn f < 21
-place-low (F.TacticalUplink a b c d e) = lit< tt
-place-low (F.ElmUplink a b c d f) = lit< tt
-place-low (F.DownlinkRequest a b c d e) = lit< tt
-place-low (F.IdRequest a b) = lit< tt
-place-low (F.CapabilityRequest a b) = lit< tt
-place-low (F.Cancellation a b c d) = lit< tt
-place-low (F.Test a) = lit< tt
-place-low (F.AltimeterCorrection b) = lit< tt
-place-low (F.AtcFailure a) = lit< tt
-place-low (F.SensorFailure a c) = lit< tt
-place-low (F.DabsControlState a b c) = lit< tt
-place-low (F.AtcrbsControlState a b) = lit< tt
-place-low (F.RejectionNotice a b c) = lit< tt
-place-low (F.DeliveryNotice a b c) = lit< tt
-place-low (F.TacticalDownlink a b) = lit< tt
-place-low (F.ElmDownlink a c) = lit< tt
-place-low (F.Utility a c) = lit< tt
-place-low (F.Capability a b c d) = lit< tt
-place-low (F.IdCode a c) = lit< tt
-place-low (F.TestResponse a) = lit< tt
-place-low (F.ControllerAlert a b c d e f g h i j) = lit< tt
-
--- a record's spares are zero
-abbrev sparesZero : List ℕ → List ℕ → Bool
-sparesZero [] vs = true
-sparesZero (r ∷ rs) [] = true
-sparesZero (r ∷ rs) (v ∷ vs) = cond (eqb r 1) (eqb v 0) true && sparesZero rs vs
+use Rattle.fields.proofs.Rounds.{append-inj, valuesOf-join, valuesOf-length, fit-join, values-stay, bytes-fit, entries-fit, list-back, used-back, values-bytes}
 
 fault-one : (r v : ℕ) → cond (eqb r 1) (eqb v 0) true ≡ true → eqb (faultOf r v) 1 ≡ false
 fault-one r v h = go (eqb r 1) refl
@@ -95,30 +64,6 @@ no-spare (r ∷ rs) [] h = refl
 no-spare (r ∷ rs) (v ∷ vs) h =
     let b = both-true (cond (eqb r 1) (eqb v 0) true) (sparesZero rs vs) h in
     rw (fault-one r v (b .0)) (no-spare rs vs (b .1))
-
-spares-zero : (f : Field) → sparesZero (rulesAt (placeIn f)) (numbersOf f) ≡ true
-unfolding table rules rulesAt
-spares-zero (F.TacticalUplink a b c d e) = refl
-spares-zero (F.ElmUplink a b c d f) = refl
-spares-zero (F.DownlinkRequest a b c d e) = refl
-spares-zero (F.IdRequest a b) = refl
-spares-zero (F.CapabilityRequest a b) = refl
-spares-zero (F.Cancellation a b c d) = refl
-spares-zero (F.Test a) = refl
-spares-zero (F.AltimeterCorrection b) = refl
-spares-zero (F.AtcFailure a) = refl
-spares-zero (F.SensorFailure a c) = refl
-spares-zero (F.DabsControlState a b c) = refl
-spares-zero (F.AtcrbsControlState a b) = refl
-spares-zero (F.RejectionNotice a b c) = refl
-spares-zero (F.DeliveryNotice a b c) = refl
-spares-zero (F.TacticalDownlink a b) = refl
-spares-zero (F.ElmDownlink a c) = refl
-spares-zero (F.Utility a c) = refl
-spares-zero (F.Capability a b c d) = refl
-spares-zero (F.IdCode a c) = refl
-spares-zero (F.TestResponse a) = refl
-spares-zero (F.ControllerAlert a b c d e f g h i j) = refl
 
 spares-out : (f : Field) (i : ℕ) → placeOf (getD (numbersOf f) 0 0) ≡ At i → hasFault 1 (rulesAt i) (numbersOf f) ≡ false
 spares-out f i h = let e = place-back f in let q : placeIn f ≡ i = cc in rw (← q) (no-spare (rulesAt (placeIn f)) (numbersOf f) (spares-zero f))
@@ -214,21 +159,6 @@ module _ (i : ℕ) (r : Record) (l : List ℤ) (t : List ℕ) (low : i < 21) (pl
   abbrev out : List ℕ
   out = putField i r l t (replicate size 0)
 
-  -- the head has its bits
-  head-sum : sumOf (headWidths r) ≡ headBits r
-  head-sum = go r
-    where
-      go : (x : Record) → sumOf (headWidths x) ≡ headBits x
-      go (Single f) = refl
-      go (Relay x f) = refl
-
-  head-length : length (headWidths r) ≡ length (headValues r)
-  head-length = go r
-    where
-      go : (x : Record) → length (headWidths x) ≡ length (headValues x)
-      go (Single f) = refl
-      go (Relay x f) = refl
-
   head-fit : Fit (headWidths r) (headValues r)
   unfolding headFits relaysAt
   head-fit = go r (k .head)
@@ -240,29 +170,14 @@ module _ (i : ℕ) (r : Record) (l : List ℤ) (t : List ℕ) (low : i < 21) (pl
   listed-room : m ≤ 30
   listed-room = omega (arith, listFits-room row m l (k .list))
 
-  -- the entries are entries
-  entry : 0 < m → (row ≡ 8) ⊎ (row ≡ 24)
-  unfolding listedBy
-  entry h = go (step-told i (omega arith))
-    where
-      go : (row ≡ 80) ⊎ ((row ≡ 0) ⊎ ((row ≡ 8) ⊎ (row ≡ 24))) → (row ≡ 8) ⊎ (row ≡ 24)
-      go (inl e) = absurd (let q = ap (λ (b : Bool). cond b 0 (countIn (rowAt i) vs)) (eq-eqb row 80 e) in omega arith)
-      go (inr (inl e)) = absurd (let c = no-steps i vs (omega arith) (numbers-length (fieldIn r)) e in let q = ap (λ (b : Bool). cond b 0 (countIn (rowAt i) vs)) (ne-eqb row 80 (λ u. omega arith)) in omega arith)
-      go (inr (inr e)) = e
-
   all-fit : Fit (widthsIn i r t) (valuesIn i r l t)
   all-fit =
       fit-join (headWidths r) (headValues r) _ _ head-fit
       (fit-join ws vs _ _ (fit-numbers i r (omega arith) (k .fits))
-      (fit-join (replicate m row) (entriesBits row m l) _ _ (entries-fit row m l entry (k .list)) (bytes-fit t bytes)))
+      (fit-join (replicate m row) (entriesBits row m l) _ _ (entries-fit row m l (entry-listed i vs (omega arith) (numbers-length (fieldIn r))) (k .list)) (bytes-fit t bytes)))
 
   all-sum : sumOf (widthsIn i r t) ≡ n
-  unfolding sizeIn
-  all-sum =
-      sum-join (headWidths r) (ws ++ (replicate m row ++ replicate (length t) 8))
-      ∙ ap (λ (x : ℕ). sumOf (headWidths r) + x) (sum-join ws (replicate m row ++ replicate (length t) 8))
-      ∙ ap (λ (x : ℕ). sumOf (headWidths r) + (sumOf ws + x)) (sum-join (replicate m row) (replicate (length t) 8))
-      ∙ (omega (arith, head-sum, widths-sum i (let h = low in omega arith), sum-same m row, sum-same (length t) 8, k .text, steps-told (rowAt i) vs))
+  all-sum = parts-sum i r vs t (omega arith) (k .text)
 
   out-length : length out ≡ size
   unfolding putField
@@ -293,8 +208,8 @@ module _ (i : ℕ) (r : Record) (l : List ℤ) (t : List ℕ) (low : i < 21) (pl
   parted =
       let rest2 = replicate m row ++ replicate (length t) 8 in
       let a = append-inj (valuesOf out 0 (headWidths r)) (headValues r) (valuesOf out (0 + sumOf (headWidths r)) (ws ++ rest2)) (vs ++ (entriesBits row m l ++ t))
-      (valuesOf-length out 0 (headWidths r) ∙ head-length) (sym (valuesOf-join out 0 (headWidths r) (ws ++ rest2)) ∙ all-back) in
-      let e1 : 0 + sumOf (headWidths r) ≡ headBits r = omega (arith, head-sum) in
+      (valuesOf-length out 0 (headWidths r) ∙ head-lengths r) (sym (valuesOf-join out 0 (headWidths r) (ws ++ rest2)) ∙ all-back) in
+      let e1 : 0 + sumOf (headWidths r) ≡ headBits r = omega (arith, head-sum r) in
       let a1 = ap (λ (x : ℕ). valuesOf out x (ws ++ rest2)) (sym e1) ∙ a .1 in
       let b = append-inj (valuesOf out (headBits r) ws) vs (valuesOf out (headBits r + sumOf ws) rest2) (entriesBits row m l ++ t)
       (valuesOf-length out (headBits r) ws ∙ widths-length i (omega arith) ∙ sym (numbers-length (fieldIn r))) (sym (valuesOf-join out (headBits r) ws rest2) ∙ a1) in
@@ -307,7 +222,7 @@ module _ (i : ℕ) (r : Record) (l : List ℤ) (t : List ℕ) (low : i < 21) (pl
       (a .0, b .0, c .0, ap (λ (x : ℕ). valuesOf out x (replicate (length t) 8)) (sym e3) ∙ c .1)
 
   type-back : typeOf out (headBits r) ≡ getD vs 0 0
-  type-back = sym (first-eight out (headBits r) i low .0) ∙ ap (λ (x : List ℕ). getD x 0 0) (parted .1)
+  type-back = sym (first-eight out (headBits r) i low) ∙ ap (λ (x : List ℕ). getD x 0 0) (parted .1)
 
   here : placeOf (typeOf out (headBits r)) ≡ At i
   here = ap placeOf type-back ∙ place
@@ -356,10 +271,10 @@ module _ (i : ℕ) (r : Record) (l : List ℤ) (t : List ℕ) (low : i < 21) (pl
   unfolding spareBitSet
   spare-is = rw (here, parted .1) (spares-out (fieldIn r) i place)
 
-  none : NoneGiven (readTests out n (rowAt i .way))
+  none : NoneHolds (readRows out n (rowAt i .way))
   unfolding countOutOfRange wrongByteCount bitAfterCount unknownType wrongDirection
   none =
-      let field : NoneGiven (fieldTests out n (headBits r) (rowAt i .way)) =
+      let field : NoneHolds (fieldRows out n (headBits r) (rowAt i .way)) =
       (rw here refl, (rw code-is (carried i (omega arith)), (rw (here, same-way (rowAt i .way)) refl, (told .2, (sized-is, (spare-is, (unused, tt))))))) in
       (rw (le-ltb n 8 (omega (arith, least)), le-ltb 2008 n (omega (arith, most))) refl, (rw (eq-eqb (length out) size out-length) refl, (rw no-more refl, rw (told .0) field)))
 
@@ -370,19 +285,12 @@ module _ (i : ℕ) (r : Record) (l : List ℤ) (t : List ℕ) (low : i < 21) (pl
 
   -- what is relayed has no list
   no-list : headBits r ≡ 16 → m ≡ 0
-  unfolding headFits relaysAt listedBy
+  unfolding headFits relaysAt
   no-list h = go r (k .head) h
     where
-      here-none : fromSensor (rowAt i .way) ≡ true → m ≡ 0
-      here-none f = sides (from-no-list i (omega arith) f)
-        where
-          sides : (row ≡ 80) ⊎ (row ≡ 0) → m ≡ 0
-          sides (inl e) = ap (λ (b : Bool). cond b 0 (countIn (rowAt i) vs)) (eq-eqb row 80 e)
-          sides (inr e) = ap (λ (b : Bool). cond b 0 (countIn (rowAt i) vs)) (ne-eqb row 80 (λ u. omega arith)) ∙ no-steps i vs (omega arith) (numbers-length (fieldIn r)) e
-
       go : (x : Record) → headFits i x ≡ true → headBits x ≡ 16 → m ≡ 0
       go (Single f) q e = absurd (omega arith)
-      go (Relay y f) q e = here-none (both-true (fromSensor (rowAt i .way)) _ (both-true (ltb y 256) _ q .1) .0)
+      go (Relay y f) q e = none-listed i vs (omega arith) (numbers-length (fieldIn r)) (both-true (fromSensor (rowAt i .way)) _ (both-true (ltb y 256) _ q .1) .0)
 
   list-is : listOf out (Accepted r) ≡ l
   list-is = listed-by out i r l here (parted .1) (parted .2) (k .list) room no-list

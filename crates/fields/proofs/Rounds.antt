@@ -1,24 +1,23 @@
 -- A record that the writer takes, written and read, gives the same record, list and text.
 -- Assumes nothing.
-use mathlib.Core.Path.{_≡_, refl, sym, ap, _∙_, subst}
+use mathlib.Core.Path.{_≡_, refl, sym, ap, _∙_}
 use mathlib.Core.List.{List, [], _∷_, _++_}
 use mathlib.Core.Logic.{_⊎_, inl, inr}
-use mathlib.Core.Bool.{Bool, true, false, cond, not, _&&_, _||_}
-use Prim.Native.Nat.{ℕ, zero, suc, _+_, _-_, _*_, _/_, _%_, _≤_, _<_, _^_, zero-le}
-use native.Mathlib.Nat.{add-zero, zero-add, add-assoc, not-suc-le-zero, le-of-suc-le-suc, lt-of-lt-of-le}
+use mathlib.Core.Bool.{Bool, true, false, not}
+use Prim.Native.Nat.{ℕ, zero, suc, _+_, _-_, _*_, _/_, _%_, _≤_, _<_, _^_}
+use native.Mathlib.Nat.{add-zero, add-assoc}
 use native.Mathlib.Omega.{arith}
-use lib.IntN.{ℤ, pos, negsuc, negℤ, natAbs}
-use lib.Dec.{T, eqb, ltb, leb, leb→le, eqb→eq, lit<}
-use lib.ListN.{length, getD, take, drop, replicate, length-replicate, length-append, length-drop, drop-of-length-le}
-use lib.Pow.{pow-pos}
-use lib.Seq.{take-at, drop-at, take-all, drop-cons, drop-length}
-use borrow.Author.Tests.{eqb-true, ltb-true, eq-eqb, ne-eqb, lt-ltb, le-ltb, le-leb, not-true}
-use Rattle.bits.specs.Bits.{bitsOf, bits, putBits, Bytes}
-use Rattle.bits.proofs.Laws.{bitsOf-putBits, bitsOf-putBits-other, length-putBits, putBits-bytes, byte-bits}
-use Rattle.fields.specs.Table.{table, rows, rowAt, widths, widthsAt, valuesOf, countIn, RowSmall}
+use lib.IntN.{ℤ, pos, negsuc, natAbs}
+use lib.Dec.{eqb, ltb}
+use lib.ListN.{length, take, drop, replicate}
+use lib.Seq.{take-at, drop-at, drop-cons}
+use borrow.Author.Tests.{eqb-true, ltb-true, eq-eqb, ne-eqb, le-ltb}
+use Rattle.bits.specs.Bits.{bitsOf, putBits, Bytes}
+use Rattle.bits.proofs.Laws.{bitsOf-putBits-other, byte-bits}
+use Rattle.fields.specs.Table.{valuesOf}
 use Rattle.fields.specs.Lists.{negative, blockOf, blockBits, blockUnused, entryOf, entryBits, entryFits, anyUnused, entriesIn, listFits, entriesBits}
 use Rattle.fields.specs.Writing.{sumOf}
-use Rattle.fields.proofs.Rows.{Fit, below-at}
+use Rattle.fields.proofs.Rows.{Fit}
 use Rattle.fields.proofs.Puts.{both-true}
 
 -- ---- lists
@@ -33,6 +32,10 @@ pub valuesOf-join : (s : List ℕ) (a : ℕ) (ws xs : List ℕ) → valuesOf s a
 unfolding valuesOf
 valuesOf-join s a [] xs = rw add-zero refl
 valuesOf-join s a (w ∷ ws) xs = ap (λ (l : List ℕ). bitsOf s a w ∷ l) (valuesOf-join s (a + w) ws xs ∙ rw add-assoc refl)
+
+pub valuesOf-snoc : (s : List ℕ) (a : ℕ) (ws : List ℕ) (w : ℕ) → valuesOf s a (ws ++ (w ∷ [])) ≡ valuesOf s a ws ++ (bitsOf s (a + sumOf ws) w ∷ [])
+unfolding valuesOf
+valuesOf-snoc s a ws w = valuesOf-join s a ws (w ∷ [])
 
 pub valuesOf-length : (s : List ℕ) (a : ℕ) (ws : List ℕ) → length (valuesOf s a ws) ≡ length ws
 unfolding valuesOf

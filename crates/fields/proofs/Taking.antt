@@ -1,28 +1,29 @@
 -- What it says of a record that the writer takes it; and how a field's parts are written one group after the other.
 -- Assumes nothing.
 use mathlib.Core.Path.{_≡_, refl, sym, ap, _∙_}
-use mathlib.Core.List.{List, [], _∷_, _++_}
-use mathlib.Core.Bool.{Bool, true, false, cond, not, _&&_}
-use Prim.Native.Nat.{ℕ, zero, suc, _+_, _-_, _*_, _≤_, _<_, _^_, zero-le}
-use native.Mathlib.Nat.{mul-suc, mul-zero, add-assoc}
+use mathlib.Core.List.{List, _++_}
+use mathlib.Core.Bool.{Bool, true, false, cond, not}
+use Prim.Native.Nat.{ℕ, zero, suc, _+_, _-_, _*_, _≤_, _<_, zero-le}
+use native.Mathlib.Nat.{mul-suc, mul-zero}
 use native.Mathlib.Omega.{arith}
 use lib.IntN.{ℤ}
-use lib.Dec.{eqb, ltb, eqb→eq}
-use lib.ListN.{length, getD, replicate, length-replicate}
+use lib.Dec.{eqb, eqb→eq}
+use lib.ListN.{length, replicate, length-replicate}
 use borrow.Author.Tests.{eqb-true, not-true}
 use Rattle.fields.specs.declared.Row.{Row}
 use Rattle.fields.specs.declared.Field.{Field}
 use Rattle.fields.specs.declared.Field.the-variants as F
 use Rattle.fields.specs.declared.Record.{Record}
 use Rattle.fields.specs.declared.Record.the-variants.{Single, Relay}
-use Rattle.fields.specs.Table.{table, rows, rowAt, widths, widthsAt, rulesAt, hasFault, countIn, RowSmall}
+use Rattle.fields.specs.Table.{table, rows, rowAt, widths, widthsAt, rulesAt, hasFault, countIn, sizeIn, RowSmall}
 use Rattle.fields.specs.Records.{numbersOf}
 use Rattle.fields.specs.Lists.{listFits, entriesBits}
 use Rattle.fields.specs.Reading.{listed, listedBy}
-use Rattle.fields.specs.Writing.{numbersIn, fieldIn, headBits, headWidths, headValues, headFits, fitAll, textLength, textLengthBy, takesAt, widthsIn, valuesIn, putAll}
+use Rattle.fields.specs.Writing.{numbersIn, fieldIn, headBits, headWidths, headValues, headFits, fitAll, textLength, textLengthBy, takesAt, widthsIn, valuesIn, putAll, sumOf}
 use Rattle.fields.proofs.Rows.{below-at, Fit, row-small, count-small}
-use Rattle.fields.specs.Writing.{sumOf}
-use Rattle.fields.proofs.Puts.{both-true, fit-of, listFits-room, putAll-join, entriesBits-length}
+use Rattle.fields.proofs.Facts.{steps-told}
+use Rattle.fields.proofs.Rounds.{sum-join}
+use Rattle.fields.proofs.Puts.{both-true, fit-of, putAll-join, entriesBits-length}
 
 -- ---- lengths
 
@@ -104,13 +105,21 @@ listed-small r vs s = go (eqb (r .step) 80)
 
 -- ---- the groups of a field's parts
 
-head-lengths : (r : Record) → length (headWidths r) ≡ length (headValues r)
+pub head-lengths : (r : Record) → length (headWidths r) ≡ length (headValues r)
 head-lengths (Single f) = refl
 head-lengths (Relay x f) = refl
 
-head-sum : (r : Record) → sumOf (headWidths r) ≡ headBits r
+pub head-sum : (r : Record) → sumOf (headWidths r) ≡ headBits r
 head-sum (Single f) = refl
 head-sum (Relay x f) = refl
+
+-- all its parts have the bits of the type and of its steps
+pub parts-sum : (i : ℕ) (r : Record) (vs t : List ℕ) → i < 22 → length t ≡ textLengthBy (rowAt i) vs
+    → sumOf (headWidths r ++ (widthsAt i ++ (replicate (listed i vs) (rowAt i .step) ++ replicate (length t) 8))) ≡ headBits r + sizeIn (rowAt i) vs
+unfolding sizeIn
+parts-sum i r vs t h n =
+    simp sum-join
+    (omega (arith, head-sum r, widths-sum i h, sum-same (listed i vs) (rowAt i .step), sum-same (length t) 8, steps-told (rowAt i) vs))
 
 pub groups : (i : ℕ) (r : Record) (l : List ℤ) (t : List ℕ) (s : List ℕ) → i < 22 → listed i (numbersIn r) ≤ length l →
     putAll s 0 (widthsIn i r t) (valuesIn i r l t)

@@ -1,29 +1,18 @@
--- Laws of a layout's parts: their values one by one, and in which of them a fault is found.
+-- Laws of the faults of a layout's parts, up to the first part of no bits.
 -- Assumes nothing.
-use mathlib.Core.Path.{_≡_, refl, sym, ap, _∙_}
-use mathlib.Core.List.{List, [], _∷_, _++_}
+use mathlib.Core.Path.{_≡_, refl, sym}
+use mathlib.Core.List.{List}
 use mathlib.Core.Bool.{Bool, true, false, _||_, or-assoc, or-false}
 use Prim.Native.Nat.{ℕ, zero, suc, _+_}
 use native.Mathlib.Omega.{arith}
 use borrow.Author.Tests.{eqb-true, eq-eqb, ne-eqb}
 use native.Mathlib.Numerals.{add-one}
-use native.Mathlib.Nat.{add-zero, add-assoc}
 use lib.Dec.{eqb}
 use lib.ListN.{length, drop, getD, drop-of-length-le}
 use lib.Seq.{drop-cons}
-use Rattle.bits.specs.Bits.{bitsOf}
 use Rattle.fields.specs.declared.Faults.{Faults}
-use Rattle.fields.specs.Table.{valuesOf, hasFault, faultOf, Quiet}
+use Rattle.fields.specs.Table.{hasFault, faultOf, Quiet}
 use Rattle.fields.specs.Steps.{faultWithin}
-use Rattle.fields.specs.Writing.{sumOf}
-
-pub valuesOf-snoc : (s : List ℕ) (a : ℕ) (ws : List ℕ) (w : ℕ) →
-    valuesOf s a (ws ++ (w ∷ [])) ≡ valuesOf s a ws ++ (bitsOf s (a + sumOf ws) w ∷ [])
-unfolding valuesOf
-valuesOf-snoc s a [] w = rw add-zero refl
-valuesOf-snoc s a (x ∷ ws) w = ap (λ (l : List ℕ). bitsOf s a x ∷ l) (valuesOf-snoc s (a + x) ws w ∙ rw add-assoc refl)
-
--- ---- faults, up to the first part of no bits
 
 -- a fault seen before i or found from i on: the part at i, which has bits, passes from the one to the other
 pub within-next : (k : ℕ) (ws rs vs : List ℕ) (n m i : ℕ) (a b : Bool) (f : ℕ) → n ≡ suc m → (getD ws i 0 ≡ 0 → ⊥) →

@@ -2,13 +2,13 @@
 use Prim.Native.Nat.{ℕ, _+_, _*_, _/_, _≤_, _<_}
 use mathlib.Core.Path.{_≡_}
 use mathlib.Core.Bool.{true, false}
-use mathlib.Core.List.{List, [], _∷_}
-use mathlib.Core.Logic.{_↔_, _⊎_}
+use mathlib.Core.List.{List}
+use mathlib.Core.Logic.{_↔_}
 use lib.IntN.{ℤ}
 use lib.ListN.{length, getD, replicate}
+use Rattle.rows.specs.Claims.{FirstIs, NoneHolds}
 use Rattle.bits.specs.Bits.{bitsOf, Bytes}
 use Rattle.refusals.specs.declared.FieldRefusal.{FieldRefusal}
-use Rattle.refusals.specs.declared.FieldRefusal.the-variants.{NotWritable, NoRoom}
 use Rattle.fields.specs.declared.Direction.{Direction}
 use Rattle.fields.specs.declared.Place.the-variants.{At, Nowhere}
 use Rattle.fields.specs.declared.Field.{Field}
@@ -17,43 +17,29 @@ use Rattle.fields.specs.declared.Answer.the-variants.{Accepted, Refused}
 use Rattle.fields.specs.declared.Written.the-variants as W
 use Rattle.fields.specs.Table.{placeOf, rowAt, rulesAt, valuesOf, hasFault}
 use Rattle.fields.specs.Records.{fieldOf, numbersOf}
-use Rattle.fields.specs.Reading.{valuesAt, Test, readTests, recordOf, answerOf, readField, textOf}
-use Rattle.fields.specs.Writing.{fitAll, sumOf, putAll, takes, bitsIn, wayIn, bytesIn, writtenOf, leftOf}
+use Rattle.fields.specs.Reading.{valuesAt, readRows, recordOf, answerOf, readField, textOf}
+use Rattle.fields.specs.Writing.{fitAll, sumOf, putAll, takes, bitsIn, wayIn, bytesIn, writerRows, writtenOf, leftOf}
 
 -- ---- each refusal exactly under its condition
 
--- a refusal's condition holds, and none before it in the document's order
-abbrev pub Given : FieldRefusal → List Test → Type 0
-Given r [] = ⊥
-Given r (t ∷ ts) = ((t .holds ≡ true) × (t .refusal ≡ r)) ⊎ ((t .holds ≡ false) × Given r ts)
-
--- no condition holds
-abbrev pub NoneGiven : List Test → Type 0
-NoneGiven [] = Unit {0}
-NoneGiven (t ∷ ts) = (t .holds ≡ false) × NoneGiven ts
-
--- 20 to 29, over the bytes, the count and the direction
+-- 20 to 29, over the bytes, the count and the direction: given exactly where its row is the first that holds
 abbrev pub RefusedExactly : Type 0
-RefusedExactly = (s : List ℕ) (n : ℕ) (w : Direction) (r : FieldRefusal) → (answerOf s n w ≡ Refused r) ↔ Given r (readTests s n w)
+RefusedExactly = (s : List ℕ) (n : ℕ) (w : Direction) (r : FieldRefusal) → (answerOf s n w ≡ Refused r) ↔ FirstIs (readRows s n w) (Refused r)
 
--- a field is accepted exactly where none is given, as the record that its bits make
+-- a field is accepted exactly where no row holds, as the record that its bits make
 abbrev pub AcceptedExactly : Type 0
 AcceptedExactly =
-    (s : List ℕ) (n : ℕ) (w : Direction) (x : Record) → (answerOf s n w ≡ Accepted x) ↔ (NoneGiven (readTests s n w) × (recordOf s n w ≡ x))
+    (s : List ℕ) (n : ℕ) (w : Direction) (x : Record) → (answerOf s n w ≡ Accepted x) ↔ (NoneHolds (readRows s n w) × (recordOf s n w ≡ x))
 
--- 30: the writer does not take the record, its list and its text
-abbrev pub NotWritableExactly : Type 0
-NotWritableExactly = (r : Record) (l : List ℤ) (t s : List ℕ) → (writtenOf r l t s ≡ W.Refused NotWritable) ↔ (takes r l t ≡ false)
+-- 30 and 31, over the record, its list, its text and the lent bytes
+abbrev pub WriterRefuses : Type 0
+WriterRefuses =
+    (r : Record) (l : List ℤ) (t s : List ℕ) (q : FieldRefusal) → (writtenOf r l t s ≡ W.Refused q) ↔ FirstIs (writerRows r l t s) (W.Refused q)
 
--- 31: it takes them, and there are fewer bytes than the field's bits need
-abbrev pub NoRoomExactly : Type 0
-NoRoomExactly =
-    (r : Record) (l : List ℤ) (t s : List ℕ) → (writtenOf r l t s ≡ W.Refused NoRoom) ↔ ((takes r l t ≡ true) × (length s < (bitsIn r + 7) / 8))
-
--- else it answers the bit count
+-- a bit count is answered exactly where neither holds, and it is the record's
 abbrev pub WrittenExactly : Type 0
 WrittenExactly =
-    (r : Record) (l : List ℤ) (t s : List ℕ) → takes r l t ≡ true → ((bitsIn r + 7) / 8 < length s + 1) → writtenOf r l t s ≡ W.Bits (bitsIn r)
+    (r : Record) (l : List ℤ) (t s : List ℕ) (n : ℕ) → (writtenOf r l t s ≡ W.Bits n) ↔ (NoneHolds (writerRows r l t s) × (bitsIn r ≡ n))
 
 -- a refused write leaves the bytes as they were
 abbrev pub RefusedUntouched : Type 0

@@ -1,18 +1,18 @@
 -- What reading a field answers (document 01, "Link data fields"): each refusal's condition over the bytes, the count and the direction; the
--- first that holds, in the document's order, answers. Definitions only.
-use Prim.Native.Nat.{ℕ, _+_, _-_, _*_, _/_, _%_}
-use mathlib.Core.List.{List, [], _∷_}
+-- first row that holds, in the document's order, answers. Definitions only.
+use Prim.Native.Nat.{ℕ, _+_, _-_, _/_, _%_}
+use mathlib.Core.List.{List, [], _∷_, _++_}
 use mathlib.Core.Bool.{Bool, true, false, not, cond, _&&_, _||_}
 use lib.Dec.{eqb, leb, ltb}
 use lib.IntN.{ℤ}
-use lib.ListN.{length, getD, drop, replicate}
+use lib.ListN.{length, drop, replicate}
+use Rattle.rows.specs.Rows.{Row, row, firstOf}
 use Rattle.bits.specs.Bits.{bitsOf, bits}
-use Rattle.refusals.specs.declared.FieldRefusal.{FieldRefusal}
 use Rattle.refusals.specs.declared.FieldRefusal.the-variants.{CountOutOfRange, WrongByteCount, BitAfterCount, UnknownType, TypeNotCarried, WrongDirection, NotRelayed, WrongBitCount, SpareBitSet, ValueNotInUse}
 use Rattle.refusals.specs.Numbers.{fieldNumber}
 use Rattle.fields.specs.declared.Direction.{Direction}
 use Rattle.fields.specs.declared.Direction.the-variants.{ToSensor, FromSensor}
-use Rattle.fields.specs.declared.Row.{Row}
+use Rattle.fields.specs.declared.Row as table
 use Rattle.fields.specs.declared.Field.{Field}
 use Rattle.fields.specs.declared.Record.{Record}
 use Rattle.fields.specs.declared.Record.the-variants.{Single, Relay}
@@ -74,7 +74,7 @@ unfoldable pub notRelayed : ℕ → ℕ → Bool
 notRelayed t a = eqb a 16 && (eqb t 0x03 || eqb t 0x62)
 
 -- the count is the layout's. A relay that can be opened is told by its inner field; one that is too short has no layout
-unfoldable pub sizedBy : ℕ → ℕ → Row → List ℕ → Bool
+unfoldable pub sizedBy : ℕ → ℕ → table.Row → List ℕ → Bool
 sizedBy n a r vs = not (eqb (r .code) 0x03) && eqb n (a + sizeIn r vs)
 
 abbrev pub sized : List ℕ → ℕ → ℕ → ℕ → Bool
@@ -89,10 +89,10 @@ unfoldable pub spareBitSet : List ℕ → ℕ → Bool
 spareBitSet s a = byPlace false (λ i. hasFault 1 (rulesAt i) (valuesAt s a i)) (placeOf (typeOf s a))
 
 -- the blocks of an altimeter field
-unfoldable pub blockCount : Row → List ℕ → ℕ
+unfoldable pub blockCount : table.Row → List ℕ → ℕ
 blockCount r vs = cond (eqb (r .step) 8) (countIn r vs) 0
 
-abbrev pub blocksBy : List ℕ → ℕ → Row → List ℕ → List ℕ
+abbrev pub blocksBy : List ℕ → ℕ → table.Row → List ℕ → List ℕ
 blocksBy s a r vs = valuesOf s (a + r .base) (replicate (blockCount r vs) 8)
 
 abbrev pub blocksIn : List ℕ → ℕ → ℕ → List ℕ
@@ -112,38 +112,29 @@ opens s n w = eqb (typeOf s 0) 0x03 && (fromSensor w && leb 24 n)
 abbrev pub startOf : List ℕ → ℕ → Direction → ℕ
 startOf s n w = cond (opens s n w) 16 0
 
--- a condition and its refusal
-pub record Test : Type 0 where
-  pub holds : Bool
-  pub refusal : FieldRefusal
-
-abbrev test : Bool → FieldRefusal → Test
-test b r = record { holds = b; refusal = r }
+-- the rows of the count and the bytes
+abbrev pub countRows : List ℕ → ℕ → List (Row Answer)
+countRows s n =
+    row (countOutOfRange n) (Refused CountOutOfRange)
+    ∷ row (wrongByteCount s n) (Refused WrongByteCount)
+    ∷ row (bitAfterCount s n) (Refused BitAfterCount)
+    ∷ []
 
 -- those of a field that begins behind the first a bits
-abbrev pub fieldTests : List ℕ → ℕ → ℕ → Direction → List Test
-fieldTests s n a w =
-    test (unknownType (typeOf s a)) UnknownType
-    ∷ test (typeNotCarried (typeOf s a)) TypeNotCarried
-    ∷ test (wrongDirection (typeOf s a) w) WrongDirection
-    ∷ test (notRelayed (typeOf s a) a) NotRelayed
-    ∷ test (wrongBitCount s n a) WrongBitCount
-    ∷ test (spareBitSet s a) SpareBitSet
-    ∷ test (valueNotInUse s a) ValueNotInUse
+abbrev pub fieldRows : List ℕ → ℕ → ℕ → Direction → List (Row Answer)
+fieldRows s n a w =
+    row (unknownType (typeOf s a)) (Refused UnknownType)
+    ∷ row (typeNotCarried (typeOf s a)) (Refused TypeNotCarried)
+    ∷ row (wrongDirection (typeOf s a) w) (Refused WrongDirection)
+    ∷ row (notRelayed (typeOf s a) a) (Refused NotRelayed)
+    ∷ row (wrongBitCount s n a) (Refused WrongBitCount)
+    ∷ row (spareBitSet s a) (Refused SpareBitSet)
+    ∷ row (valueNotInUse s a) (Refused ValueNotInUse)
     ∷ []
 
 -- "In that order."
-abbrev pub readTests : List ℕ → ℕ → Direction → List Test
-readTests s n w =
-    test (countOutOfRange n) CountOutOfRange
-    ∷ test (wrongByteCount s n) WrongByteCount
-    ∷ test (bitAfterCount s n) BitAfterCount
-    ∷ fieldTests s n (startOf s n w) w
-
--- the first that holds, else x
-abbrev pub firstOf : {X : Type 0} → (FieldRefusal → X) → X → List Test → X
-firstOf refused x [] = x
-firstOf refused x (t ∷ ts) = cond (t .holds) (refused (t .refusal)) (firstOf refused x ts)
+abbrev pub readRows : List ℕ → ℕ → Direction → List (Row Answer)
+readRows s n w = countRows s n ++ fieldRows s n (startOf s n w) w
 
 -- the record of a field that begins behind the first a bits, which has a row; where it has none, 23 or 24 answers, and this is not asked
 abbrev pub recordIn : List ℕ → ℕ → Field
@@ -154,12 +145,12 @@ abbrev pub recordOf : List ℕ → ℕ → Direction → Record
 recordOf s n w = cond (opens s n w) (Relay (bits s 9 16) (recordIn s 16)) (Single (recordIn s 0))
 
 unfoldable pub answerOf : List ℕ → ℕ → Direction → Answer
-answerOf s n w = firstOf Refused (Accepted (recordOf s n w)) (readTests s n w)
+answerOf s n w = firstOf (readRows s n w) (Accepted (recordOf s n w))
 
 -- ---- the list beside the record
 
 -- how many entries a list has: an ELM's steps are text and no entries
-unfoldable pub listedBy : Row → List ℕ → ℕ
+unfoldable pub listedBy : table.Row → List ℕ → ℕ
 listedBy r vs = cond (eqb (r .step) 80) 0 (countIn r vs)
 
 abbrev pub listed : ℕ → List ℕ → ℕ

@@ -1,17 +1,19 @@
--- What writing a field does (document 01, "Link data fields"): when it is refused, how many bits it answers, and what the lent bytes then
--- hold. The writer is given no direction: the type tells it. Definitions only.
+-- What writing a field does (document 01, "Link data fields"): each refusal's condition over the record, its list, its text and the lent bytes,
+-- of which the first row that holds answers, else how many bits; and what the lent bytes then hold. The writer is given no direction: the type
+-- tells it. Definitions only.
 use Prim.Native.Nat.{ℕ, _+_, _-_, _*_, _/_, _%_, _^_}
 use mathlib.Core.List.{List, [], _∷_, _++_}
 use mathlib.Core.Bool.{Bool, true, false, not, cond, _&&_}
 use lib.Dec.{eqb, ltb}
 use lib.IntN.{ℤ}
 use lib.ListN.{length, getD, replicate}
+use Rattle.rows.specs.Rows.{Row, row, firstOf}
 use Rattle.bits.specs.Bits.{putBits}
 use Rattle.refusals.specs.declared.FieldRefusal.the-variants.{NotWritable, NoRoom}
 use Rattle.refusals.specs.Numbers.{fieldNumber}
 use Rattle.fields.specs.declared.Direction.{Direction}
 use Rattle.fields.specs.declared.Direction.the-variants.{ToSensor}
-use Rattle.fields.specs.declared.Row.{Row}
+use Rattle.fields.specs.declared.Row as table
 use Rattle.fields.specs.declared.Field.{Field}
 use Rattle.fields.specs.declared.Record.{Record}
 use Rattle.fields.specs.declared.Record.the-variants.{Single, Relay}
@@ -55,7 +57,7 @@ fitAll (w ∷ ws) [] = true
 fitAll (w ∷ ws) (v ∷ vs) = ltb v (2 ^ w) && fitAll ws vs
 
 -- how many bytes of text go with a record of the type at place i
-unfoldable pub textLengthBy : Row → List ℕ → ℕ
+unfoldable pub textLengthBy : table.Row → List ℕ → ℕ
 textLengthBy r vs = cond (eqb (r .step) 80) (10 * countIn r vs) 0
 
 abbrev pub textLength : ℕ → List ℕ → ℕ
@@ -119,23 +121,30 @@ fillOf n = (8 - n % 8) % 8
 unfoldable pub putField : ℕ → Record → List ℤ → List ℕ → List ℕ → List ℕ
 putField i r l t s = putBits (putAll s 0 (widthsIn i r t) (valuesIn i r l t)) (bitsAt i r) (fillOf (bitsAt i r)) 0
 
+-- a record's field in the lent bytes
+unfoldable pub putIn : Record → List ℤ → List ℕ → List ℕ → List ℕ
+putIn r l t s = byPlace s (λ i. putField i r l t s) (placeOf (getD (numbersIn r) 0 0))
+
+-- ---- the writer
+
 -- 31: no room
-abbrev pub noRoom : ℕ → Record → ℕ → Bool
-noRoom i r room = ltb room ((bitsAt i r + 7) / 8)
+abbrev pub noRoom : Record → List ℕ → Bool
+noRoom r s = ltb (length s) ((bitsIn r + 7) / 8)
 
--- the answer, for a lent buffer of so many bytes
-unfoldable pub writtenAt : ℕ → Record → List ℤ → ℕ → ℕ → Written
-writtenAt i r l t room = cond (takesAt i r l t) (cond (noRoom i r room) (Refused NoRoom) (Bits (bitsAt i r))) (Refused NotWritable)
+abbrev pub writerRows : Record → List ℤ → List ℕ → List ℕ → List (Row Written)
+writerRows r l t s = row (not (takes r l t)) (Refused NotWritable) ∷ row (noRoom r s) (Refused NoRoom) ∷ []
 
+-- else the bit count
 unfoldable pub writtenOf : Record → List ℤ → List ℕ → List ℕ → Written
-writtenOf r l t s = byPlace (Refused NotWritable) (λ i. writtenAt i r l (length t) (length s)) (placeOf (getD (numbersIn r) 0 0))
+writtenOf r l t s = firstOf (writerRows r l t s) (Bits (bitsIn r))
 
--- the lent bytes afterwards: untouched where it is refused
-unfoldable pub leftAt : ℕ → Record → List ℤ → List ℕ → List ℕ → List ℕ
-leftAt i r l t s = cond (takesAt i r l (length t)) (cond (noRoom i r (length s)) s (putField i r l t s)) s
+-- the lent bytes after an answer: `put`, which has the field in them, or untouched where it is refused
+abbrev pub leftBy : Written → List ℕ → List ℕ → List ℕ
+leftBy (Bits n) s put = put
+leftBy (Refused q) s put = s
 
 unfoldable pub leftOf : Record → List ℤ → List ℕ → List ℕ → List ℕ
-leftOf r l t s = byPlace s (λ i. leftAt i r l t s) (placeOf (getD (numbersIn r) 0 0))
+leftOf r l t s = leftBy (writtenOf r l t s) s (putIn r l t s)
 
 -- ---- a record's field: its direction, and its bytes, as they are written over zeros that are just long enough
 
@@ -143,7 +152,7 @@ unfoldable pub wayIn : Record → Direction
 wayIn r = byPlace ToSensor (λ i. rowAt i .way) (placeOf (getD (numbersIn r) 0 0))
 
 unfoldable pub bytesIn : Record → List ℤ → List ℕ → List ℕ
-bytesIn r l t = byPlace [] (λ i. putField i r l t (replicate ((bitsAt i r + 7) / 8) 0)) (placeOf (getD (numbersIn r) 0 0))
+bytesIn r l t = putIn r l t (replicate ((bitsIn r + 7) / 8) 0)
 
 -- ---- the number of an answer: 0, or the refusal's
 

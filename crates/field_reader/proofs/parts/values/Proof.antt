@@ -1,17 +1,16 @@
 -- `field_reader::parts::values` meets its contract: after i turns the first i values are those of the first i parts. Assumes nothing.
 use borrow.Author.Needs.{needs}
-use mathlib.Core.Path.{_≡_, refl, ap, _∙_}
+use mathlib.Core.Path.{_≡_, refl, _∙_}
 use mathlib.Core.List.{[], _∷_, _++_}
 use Prim.Native.Nat.{ℕ, _+_, _-_, _*_, _≤_}
 use native.Mathlib.Numerals.{add-one}
-use native.Mathlib.Nat.{add-zero, add-assoc}
 use native.Mathlib.Omega.{arith}
 use lib.ListN.{length, take, getD, replicate, length-set}
 use lib.Seq.{take-suc, take-suc-set, take-all, getD-set-other}
 use Rattle.bits.proofs.Laws.{whole}
 use Rattle.fields.specs.Table.{valuesOf}
-use Rattle.fields.proofs.Values.{valuesOf-snoc}
-use Rattle.field_reader.proofs.Values.{sumOf-snoc, values-are, zeros-at}
+use Rattle.fields.proofs.Rounds.{valuesOf-snoc, sum-join}
+use Rattle.field_reader.proofs.Values.{values-are, zeros-at}
 use Rattle.fields.specs.Writing.{sumOf}
 use Rattle.field_reader.proofs.parts.values.Statement.{statement}
 use Rattle.field_reader.proofs.parts.values.Tie as tie
@@ -93,7 +92,7 @@ loop-again c =
       omega arith,
       simp length-set (l .inv .1),
       omega (arith, s .pre .2 (l .i)),
-      rw (t, sumOf-snoc) (omega (arith, l .inv .3)),
+      rw (t, sum-join) (omega (arith, l .inv .3)),
       rw (t, valuesOf-snoc, ← l .inv .3, ← l .inv .4, ← whole (a .b .now) (l .at) w (omega (arith, s .pre .2 (l .i))), ← c .read .ensures, add-one) (take-suc-set (l .v) (l .i) _ (omega arith)),
       λ k h. getD-set-other (l .v) (l .i) k _ 0 (λ e. omega arith) ∙ l .inv .5 k (omega arith),
     )

@@ -1,15 +1,15 @@
--- `field_reader::reading::judge` meets its contract: the tests by steps are the document's, in its order. Assumes nothing.
+-- `field_reader::reading::judge` meets its contract: the rows by steps are the document's, in its order. Assumes nothing.
 use borrow.Author.Needs.{needs}
-use mathlib.Core.Path.{_≡_, sym, ap, _∙_}
-use Rattle.field_reader.proofs.Order.{sound-opened, outer-refused}
+use mathlib.Core.Path.{refl, sym, _∙_}
+use Rattle.field_reader.proofs.Order.{outer-first}
 use Rattle.field_reader.proofs.reading.judge.Statement.{statement}
 use Rattle.field_reader.proofs.reading.judge.Tie as tie
 
 returns : tie.Need-returns
-returns c = c .opened .ensures ∙ sym (sound-opened _ _ _ (sym (c .before .before .before .outer .ensures) ∙ c .before .enum-told .given .1))
+returns c = rw (outer-first, sym (c .before .before .before .outer .ensures) ∙ c .before .enum-told .given .1) (c .opened .ensures)
 
 returns-2 : tie.Need-returns-2
-returns-2 c = sym (outer-refused _ _ _ _ (sym (c .before .before .before .outer .ensures) ∙ c .before .o .given .1))
+returns-2 c = rw (outer-first, sym (c .before .before .before .outer .ensures) ∙ c .before .o .given .1) refl
 
 pub judge-spec : {M : Type 1} → statement M
 judge-spec =

@@ -1,9 +1,9 @@
 -- `field_reader::reading::opened` meets its contract: the type is read once. Assumes nothing.
 use borrow.Author.Needs.{needs}
-use mathlib.Core.Path.{_≡_, sym, ap, _∙_}
+use mathlib.Core.Path.{_≡_, sym, _∙_}
 use native.Mathlib.Omega.{arith}
 use Rattle.fields.specs.Reading.{opens}
-use Rattle.field_reader.specs.Steps.{openedOf}
+use Rattle.field_reader.proofs.Order.{opened-relay, opened-field}
 use Rattle.field_reader.proofs.reading.opened.Statement.{statement}
 use Rattle.field_reader.proofs.reading.opened.Tie as tie
 
@@ -15,17 +15,15 @@ unfolding opens
 opens-is c = rw (← c .before .type-at .ensures) (sym (c .opens .ensures))
 
 returns : tie.Need-returns
-unfolding openedOf
-returns c = rw (opens-is (c .before .before) ∙ c .before .if1 .taken) (c .relay .ensures)
+returns c = rw (opened-relay _ _ _ (opens-is (c .before .before) ∙ c .before .if1 .taken)) (c .relay .ensures)
 
 plain-requires : tie.Need-plain-requires
 plain-requires c κs = (omega arith, c .before .before .type-at .ensures)
 
 returns-2 : tie.Need-returns-2
-unfolding openedOf
 returns-2 c =
     let e = c .before .before in
-    rw (opens-is (e .before) ∙ e .if1 .left, c .answer .ensures, c .before .plain .ensures)
+    rw (opened-field _ _ _ (opens-is (e .before) ∙ e .if1 .left), c .answer .ensures, c .before .plain .ensures)
 
 pub opened-spec : {M : Type 1} → statement M
 opened-spec = tie.close (tie.spec (λ c κs. search needs) (λ c κs. search needs) (λ c κs. search needs) returns plain-requires (λ c κs. search needs) returns-2)

@@ -1,11 +1,11 @@
 -- `field_reader::reading::plain` meets its contract: a place that is found stands in the table. Assumes nothing.
 use borrow.Author.Needs.{needs}
-use mathlib.Core.Path.{_≡_, sym, ap, _∙_}
+use mathlib.Core.Path.{_≡_, sym, _∙_}
 use native.Mathlib.Omega.{arith}
 use Rattle.fields.specs.Table.{placeOf}
 use Rattle.fields.specs.Reading.{typeOf}
-use Rattle.field_reader.specs.Steps.{plainOf}
 use Rattle.fields.proofs.Rows.{found-within}
+use Rattle.field_reader.proofs.Order.{unplaced, placed}
 use Rattle.field_reader.proofs.reading.plain.Statement.{statement}
 use Rattle.field_reader.proofs.reading.plain.Tie as tie
 
@@ -14,11 +14,10 @@ place-is : (c : tie.After-find) → let a = c .before .before .args in placeOf (
 place-is c = rw (← c .before .before .pre .1) (sym (c .find .ensures))
 
 returns : tie.Need-returns
-unfolding plainOf
 returns c =
     let e = c .before in
     let f = e .before .before in
-    rw (c .unknown .ensures, f .before .before .pre .1, place-is f ∙ e .enum-told .given .1)
+    rw (unplaced _ _ _ _ (place-is f ∙ e .enum-told .given .1), c .unknown .ensures, f .before .before .pre .1)
 
 row-read-requires : tie.Need-row-read-requires
 row-read-requires c κs =
@@ -26,10 +25,9 @@ row-read-requires c κs =
     (omega arith, found-within _ _ (place-is f ∙ c .before .i .given .1), f .before .before .pre .1)
 
 returns-2 : tie.Need-returns-2
-unfolding plainOf
 returns-2 c =
     let k = c .before in
-    rw (c .row-read .ensures, place-is (k .before .before .before) ∙ k .before .i .given .1)
+    c .row-read .ensures ∙ sym (placed _ _ _ _ _ (place-is (k .before .before .before) ∙ k .before .i .given .1))
 
 pub plain-spec : {M : Type 1} → statement M
 plain-spec = tie.close (tie.spec (λ c κs. search needs) (λ c. search needs) (λ c. search needs) (λ c κs. search needs) returns row-read-requires returns-2)

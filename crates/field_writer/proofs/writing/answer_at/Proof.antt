@@ -3,8 +3,9 @@ use borrow.Author.Needs.{needs}
 use borrow.Author.Tests.{not-true, not-false, lt-ltb, le-ltb}
 use mathlib.Core.Path.{_≡_, refl, sym, _∙_}
 use mathlib.Core.Bool.{true}
-use Rattle.fields.specs.Writing.{takesAt, writtenAt}
+use Rattle.fields.specs.Writing.{takesAt}
 use Rattle.fields.proofs.Taking.{taken, taken-small}
+use Rattle.field_writer.specs.Steps.{writtenAt}
 use Rattle.field_writer.proofs.writing.answer_at.Statement.{statement}
 use Rattle.field_writer.proofs.writing.answer_at.Tie as tie
 

@@ -1,28 +1,28 @@
 -- `field_writer::writing::write_at` meets its contract: a refusal leaves the bytes as they were. Assumes nothing.
 use borrow.Author.Needs.{needs}
-use mathlib.Core.Path.{_≡_, refl, sym, ap, _∙_}
-use Rattle.field_writer.proofs.Left.{bits-left, refused-left}
+use mathlib.Core.Path.{sym, _∙_}
+use Rattle.field_writer.proofs.Left.{bits-taken, left-by}
 use Rattle.field_writer.proofs.writing.write_at.Statement.{statement}
 use Rattle.field_writer.proofs.writing.write_at.Tie as tie
 
 returns : tie.Need-returns
 returns c =
     let e = c .before .before .answer-at .ensures in
-    (e, sym (refused-left _ _ _ _ _ _ (sym e ∙ c .enum-told2 .given .1)))
+    (e, sym (left-by _ _ _ _ _ _ (sym e ∙ c .enum-told2 .given .1)))
 
 put-field-requires : tie.Need-put-field-requires
 put-field-requires c κs =
     let t = c .before in
     let a = t .before .before in
     let s = a .before .before .before in
-    (s .pre, bits-left _ _ _ (s .args .text .now) (s .args .s .now) _ (sym (a .answer-at .ensures) ∙ t .enum-told .given .1) .0)
+    (s .pre, bits-taken _ _ _ _ _ _ (sym (a .answer-at .ensures) ∙ t .enum-told .given .1))
 
 returns-2 : tie.Need-returns-2
 returns-2 c =
     let p = c .before .before in
     let t = p .before .before in
     let e = t .before .before .answer-at .ensures in
-    (e, p .put-field .ensures ∙ sym (bits-left _ _ _ _ _ _ (sym e ∙ t .enum-told .given .1) .1))
+    (e, p .put-field .ensures ∙ sym (left-by _ _ _ _ _ _ (sym e ∙ t .enum-told .given .1)))
 
 pub write-at-spec : {M : Type 1} → statement M
 write-at-spec =
