@@ -2,7 +2,7 @@
 -- were. Shown bit by bit. Assumes nothing.
 use Prim.Native.Nat.{ℕ, zero, suc, _+_, _-_, _*_, _/_, _%_, _≤_, _<_}
 use mathlib.Core.Path.{_≡_, refl, sym, ap, _∙_}
-use mathlib.Core.Bool.{true}
+use mathlib.Core.Bool.{true, not}
 use mathlib.Core.List.{List, [], _∷_, _++_}
 use mathlib.Core.Logic.{inl, inr}
 use native.Mathlib.Omega.{arith}
@@ -15,17 +15,18 @@ use Rattle.bits.specs.Bits.{bitAt, putBit, putBits, Bytes}
 use Rattle.bits.proofs.Laws.{putBit-same, putBits-other, length-putBit, length-putBits, putBits-bytes, bitsOf-same, byte-bits}
 use Rattle.words.proofs.Tests.{by-test}
 use Rattle.fields.specs.declared.Place.the-variants.{At}
+use Rattle.fields.specs.declared.Written.{Written}
 use Rattle.fields.specs.declared.Record.{Record}
 use Rattle.fields.specs.declared.Record.the-variants.{Single, Relay}
 use Rattle.fields.specs.Table.{placeOf, rowAt, widthsAt, sizeIn}
 use Rattle.fields.specs.Reading.{listed}
-use Rattle.fields.specs.Writing.{fieldIn, numbersIn, headBits, headWidths, headValues, bitsAt, bitsIn, widthsIn, valuesIn, putAll, sumOf, fillOf, putField, takesAt, takes, leftAt, leftOf, bytesIn}
+use Rattle.fields.specs.Writing.{fieldIn, numbersIn, headBits, headWidths, headValues, bitsAt, bitsIn, widthsIn, valuesIn, putAll, sumOf, fillOf, putField, takesAt, takes, putIn, leftBy, leftOf, bytesIn}
+use Rattle.fields.proofs.Exactly.{written-exactly}
 use Rattle.fields.proofs.Puts.{length-putAll, listFits-room, entriesBits-length}
 use Rattle.fields.proofs.Taking.{Taken, taken, widths-length, widths-sum, sum-same, numbers-length}
 use Rattle.fields.proofs.Rounds.{sum-join}
 use Rattle.fields.proofs.Facts.{steps-told}
-use Rattle.fields.proofs.Back.{zeros-bytes, putAll-bytes, placeIn, place-back}
-use Rattle.fields.proofs.Return.{place-low}
+use Rattle.fields.proofs.Back.{zeros-bytes, putAll-bytes, placeIn, place-back, place-low}
 
 -- ---- bits that were put, whatever stood there
 
@@ -173,16 +174,18 @@ module _ (i : ℕ) (r : Record) (l : List ℤ) (t : List ℕ) (low : i < 21) (k 
 
 -- what a call that is not refused leaves: the field's bytes, and those behind as they were
 pub left-anywhere : (r : Record) (l : List ℤ) (t b : List ℕ) → takes r l t ≡ true → Bytes b → (bitsIn r + 7) / 8 ≤ length b → leftOf r l t b ≡ bytesIn r l t ++ drop ((bitsIn r + 7) / 8) b
-unfolding takes leftOf leftAt bytesIn bitsIn
+unfolding takes leftOf putIn bytesIn bitsIn
 left-anywhere r l t b h c m =
     let i = placeIn (fieldIn r) in
     let at : placeOf (getD (numbersIn r) 0 0) ≡ At i = place-back (fieldIn r) in
     let k : takesAt i r l (length t) ≡ true = rw at at h in
     let n : (bitsAt i r + 7) / 8 ≤ length b = rw at at m in
-    rw (at, k, le-ltb (length b) ((bitsAt i r + 7) / 8) n) (put-anywhere i r l t (place-low (fieldIn r)) (taken i r l (length t) k) b c n)
+    let written = written-exactly r l t b (bitsIn r) .1 ((ap not h, (le-ltb (length b) ((bitsIn r + 7) / 8) m, tt)), refl) in
+    ap (λ (w : Written). leftBy w b (putIn r l t b)) written
+    ∙ rw at (put-anywhere i r l t (place-low (fieldIn r)) (taken i r l (length t) k) b c n)
 
 pub bytes-length : (r : Record) (l : List ℤ) (t : List ℕ) → length (bytesIn r l t) ≡ (bitsIn r + 7) / 8
-unfolding bytesIn bitsIn putField
+unfolding bytesIn putIn bitsIn putField
 bytes-length r l t =
     let i = placeIn (fieldIn r) in
     let at : placeOf (getD (numbersIn r) 0 0) ≡ At i = place-back (fieldIn r) in

@@ -28,6 +28,7 @@ use Rattle.lines.proofs.Totals as totals
 use Rattle.lines.proofs.Back as lists
 use Rattle.lines.proofs.Written as written
 use Rattle.fields.proofs.Claims as fields
+use Rattle.fields.proofs.Exactly as exactly
 use Rattle.claims.specs.Demands.{TakeEveryInputAndEnd, OneNumberedRefusal, NoSkipWithoutAName, GivenExactly, LeavesUntouched, MeanWhatIsPrinted, AcceptedExactly, WrittenAgain, ReadAgain, EqualLinesEqualLists, ReadingGivesTheList, OneOutcomeEach, Doubles, reportsIn, Demands}
 use Rattle.claims.proofs.Numbers.{numbers-differ, no-number-is-zero}
 use Rattle.claims.proofs.Twelve.{twelve}
@@ -63,8 +64,8 @@ given-exactly = record {
   reading-bytes = refused.byte-reader-refuses;
   writing-words = refused.writer-refuses;
   writing-bytes = refused.byte-writer-refuses;
-  reading-fields = fields.refused-exactly;
-  writing-fields = fields.writer-refuses;
+  reading-fields = exactly.refused-exactly;
+  writing-fields = exactly.writer-refuses;
 }
 
 untouched : LeavesUntouched
@@ -73,7 +74,7 @@ untouched = record {
       w .leaves ∙ ap (λ (x : Wrote). leftBy x line place (wordsOf form r)) (sym (w .answers));
   bytes = λ form bytes place r q p exit w.
       w .leaves ∙ ap (λ (x : Wrote). bytesLeft x bytes place (wordsOf form r)) (sym (w .answers));
-  fields = λ r l t s q exit w. w .leaves ∙ fields.refused-untouched r l t s q (sym (w .answers));
+  fields = λ r l t s q exit w. w .leaves ∙ exactly.refused-untouched r l t s q (sym (w .answers));
 }
 
 -- ---- demand 2
@@ -112,7 +113,7 @@ accepted : AcceptedExactly
 accepted = record {
   runs = runs.accepted-exactly;
   runs-by-words = demand2.layout-is-words;
-  fields = fields.accepted-exactly;
+  fields = exactly.accepted-exactly;
   fields-by-bytes = has-layout;
 }
 

@@ -1,15 +1,15 @@
 -- Link data fields: what it is to have a layout, and a record written out again into any lent bytes. Assumes nothing.
 use Prim.Native.Nat.{ℕ, _+_, _/_, _≤_}
 use mathlib.Core.Path.{_≡_, refl, sym, ap, _∙_}
-use mathlib.Core.Bool.{Bool, true, false}
+use mathlib.Core.Bool.{true, not}
 use mathlib.Core.List.{List, _++_}
-use mathlib.Core.Logic.{_↔_, inl, inr, ⊎-elim}
+use mathlib.Core.Logic.{_↔_}
 use native.Mathlib.Omega.{arith}
-use lib.Dec.{ltb}
 use lib.IntN.{ℤ}
 use lib.ListN.{length, take, drop}
 use lib.Seq.{take-at}
-use borrow.Author.Tests.{ltb-true, ltb-false}
+use borrow.Author.Tests.{ltb-false, le-ltb}
+use Rattle.words.proofs.Tests.{holds}
 use Rattle.bits.specs.Bits.{Bytes}
 use Rattle.fields.specs.declared.Direction.{Direction}
 use Rattle.fields.specs.declared.Record.{Record}
@@ -18,7 +18,8 @@ use Rattle.fields.specs.declared.Answer.the-variants.{Accepted}
 use Rattle.fields.specs.declared.Written.the-variants as F
 use Rattle.fields.specs.Reading.{answerOf, listOf, readField, textOf}
 use Rattle.fields.specs.Writing.{takes, bitsIn, wayIn, bytesIn, writtenOf}
-use Rattle.fields.proofs.Claims.{written-exactly, written-reads, fields-mean}
+use Rattle.fields.proofs.Exactly.{written-exactly}
+use Rattle.fields.proofs.Claims.{written-reads, fields-mean}
 use Rattle.claims.proofs.Anywhere.{left-anywhere, bytes-length}
 use Rattle.claims.specs.Demands.{WritesField, HasFieldLayout}
 
@@ -49,7 +50,7 @@ again s n w r b e x c m =
     let size : length s ≡ (bitsIn r + 7) / 8 = ap length (k .0) ∙ bytes-length r l t in
     let room : (bitsIn r + 7) / 8 ≤ length x = omega arith in
     record {
-      answers = ap F.Bits (k .1) ∙ sym (written-exactly r l t x (k .3) (omega arith));
+      answers = sym (written-exactly r l t x n .1 ((ap not (k .3), (le-ltb _ _ room, tt)), sym (k .1)));
       leaves =
           (λ j. k .0 j ++ drop (size j) x)
           ∙ sym (left-anywhere r l t x (k .3) c room);
@@ -59,15 +60,7 @@ again s n w r b e x c m =
 
 -- a call that answers a bit count was given a record that the writer takes, and room; the count is the record's
 written-so : (r : Record) (l : List ℤ) (t b : List ℕ) (n : ℕ) → writtenOf r l t b ≡ F.Bits n → (takes r l t ≡ true) × ((bitsIn r + 7) / 8 ≤ length b) × (n ≡ bitsIn r)
-written-so r l t b n e = go (takes r l t) (ltb (length b) ((bitsIn r + 7) / 8)) refl refl
-  where
-    go : (x y : Bool) → takes r l t ≡ x → ltb (length b) ((bitsIn r + 7) / 8) ≡ y → (takes r l t ≡ true) × ((bitsIn r + 7) / 8 ≤ length b) × (n ≡ bitsIn r)
-    go false y h k = let w = not-writable-exactly r l t b .1 h in let z : _≡_ {A = ℕ} 0 1 = cc in absurd (omega arith)
-    go true true h k = let w = no-room-exactly r l t b .1 (h, ltb-true _ _ k) in let z : _≡_ {A = ℕ} 0 1 = cc in absurd (omega arith)
-    go true false h k =
-        let m : (bitsIn r + 7) / 8 ≤ length b = ltb-false _ _ k in
-        let w = written-exactly r l t b h (omega arith) in
-        (h, m, (cc))
+written-so r l t b n e = let k = written-exactly r l t b n .0 e in (holds (takes r l t) (k .0 .0), ltb-false _ _ (k .0 .1 .0), sym (k .1))
 
 pub read-left : (r : Record) (l : List ℤ) (t b : List ℕ) (n : ℕ) (exit : List ℕ) → length l ≡ 30 → Bytes t → Bytes b → WritesField r l t b (F.Bits n) exit
     → (readField (take ((n + 7) / 8) exit) n (wayIn r) ≡ record { answer = Accepted r; list = l }) × (textOf (take ((n + 7) / 8) exit) n (wayIn r) ≡ t)

@@ -22,7 +22,7 @@ use Rattle.lines.specs.Bytes.{mostBytes, wordsIn}
 use Rattle.lines.specs.Writing.{placeRows, placeAfter, writeAt}
 use Rattle.lines.specs.ByteWriting.{writeBytes}
 use Rattle.lines.specs.Claims.{put}
-use Rattle.words.proofs.Tests.{picked, passed, by-test}
+use Rattle.words.proofs.Tests.{picked, passed, by-test, holds}
 
 -- ---- words and then others right behind them
 
@@ -50,10 +50,6 @@ Cases form n place r w =
     ((q : LineRefusal) × (w ≡ W.Refused q place))
     ⊎ (Takes form r × (place ≤ n) × (length (wordsOf form r) < n - place) × (w ≡ placeAfter form place r))
 
-is-taken : (b : Bool) → not b ≡ false → b ≡ true
-is-taken true e = sym (ap not e)
-is-taken false e = sym e
-
 pub place-cases : (form : AltitudeForm) (n place : ℕ) (r : Report) → Cases form n place r (firstOf (placeRows form n place r) (placeAfter form place r))
 place-cases form n place r =
     let k = length (wordsOf form r) in
@@ -61,7 +57,7 @@ place-cases form n place r =
     (λ b. by-test (not (takes form r)) (λ c. inl (ValueTooLarge, passed _ _ b ∙ picked _ _ c))
     (λ c. by-test (ltb (n - place) (k + 1)) (λ d. inl (NoRoom, passed _ _ b ∙ passed _ _ c ∙ picked _ _ d))
     (λ d. inr (
-      is-taken (takes form r) c,
+      holds (takes form r) c,
       ltb-false n place b,
       let z = ltb-false (n - place) (k + 1) d in omega arith,
       passed _ _ b ∙ passed _ _ c ∙ passed _ _ d,
