@@ -121,7 +121,7 @@ fillOf n = (8 - n % 8) % 8
 unfoldable pub putField : ℕ → Record → List ℤ → List ℕ → List ℕ → List ℕ
 putField i r l t s = putBits (putAll s 0 (widthsIn i r t) (valuesIn i r l t)) (bitsAt i r) (fillOf (bitsAt i r)) 0
 
--- a record's field in the lent bytes
+-- the lent bytes with a record's field in them
 unfoldable pub putIn : Record → List ℤ → List ℕ → List ℕ → List ℕ
 putIn r l t s = byPlace s (λ i. putField i r l t s) (placeOf (getD (numbersIn r) 0 0))
 
