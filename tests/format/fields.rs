@@ -252,5 +252,14 @@ fn field_examples(page: &[Table], types: &BTreeMap<String, Type>, found: &mut Fi
         found.same(&format!("the example of {name}: its bytes"), bytes.len() as u32, "the count", (count + 7) / 8);
         let there = of.parts.iter().filter(|part| !part.1.is_empty()).map(|part| (part.1.clone(), value(&[part.0], &bit))).collect();
         found.both_ways(&format!("the example of {name},"), &values(table.cell(row, "parts")), "its bytes", &there);
+        // a block is a sign, thousands and hundreds; an entry of 24 bits is a number; a text has no entries
+        let entry = |from: u32| match of.size.step {
+            8 => (1 - 2 * bit(from) as i64) * (10 * value(&[(from + 1, from + 3)], &bit) + value(&[(from + 4, from + 7)], &bit)),
+            step => value(&[(from, from + step - 1)], &bit),
+        };
+        let end = if of.behind == "text" { of.size.base } else { size };
+        let starts = (of.size.base + 1..=end).step_by(of.size.step.max(1) as usize);
+        let there: Vec<String> = starts.map(|from| entry(from).to_string()).collect();
+        found.same(&format!("the example of {name}: its entries"), table.cell(row, "entries"), "its bytes", &there.join(", "));
     }
 }

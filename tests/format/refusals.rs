@@ -46,6 +46,7 @@ pub fn refusals(page: &[Table], specs: &[File], header: &Numbers, found: &mut Fi
         let number = |case: &String| *defined.get(case).unwrap_or_else(|| panic!("{NUMBERS} has no number for {case}"));
         ordered.push(cases.iter().map(|case| (case.clone(), number(case))).collect::<Vec<(String, u32)>>());
     }
+    conditions(page, found);
     let there = orders(&ordered[0], &ordered[1]);
     let table = table(page, "The order of refusals", "order");
     let number = |one: &str| one.parse::<u32>().unwrap_or_else(|_| panic!("{PAGE}: '{one}' is no refusal's number"));
@@ -59,6 +60,36 @@ pub fn refusals(page: &[Table], specs: &[File], header: &Numbers, found: &mut Fi
         found.that(text.contains(&format!("the first of {said} that")), || format!("the order of {call}: {HEADER} does not say '{said}'"));
     }
     places(page, &there["reading a line of bytes"], found);
+}
+
+// Words with a digit, as conditions have them: 8191, 88-90, 9C.
+fn figures(text: &str) -> Vec<String> {
+    let parts = text.split(|c: char| !c.is_ascii_alphanumeric() && c != '-').map(|word| word.trim_matches('-').to_string());
+    parts.filter(|word| word.contains(|c: char| c.is_ascii_digit())).collect()
+}
+
+// Numbers.antt has document 01's sentence above each number: every figure in it stands in the page's condition too.
+fn conditions(page: &[Table], found: &mut Findings) {
+    let (mut sentence, mut compared) = (String::new(), 0);
+    for line in read_to_string(NUMBERS).unwrap().lines() {
+        if let Some(text) = line.strip_prefix("-- ") {
+            sentence = sentence + " " + text;
+            continue;
+        }
+        for (head, heading) in [("lineNumber L.", "Refusals of lines"), ("fieldNumber F.", "Refusals of link data fields")] {
+            let table = table(page, heading, "given when");
+            let name = line.strip_prefix(head).and_then(|rest| rest.split(' ').next());
+            if let Some(row) = name.and_then(|name| table.rows.iter().find(|row| plain(table.cell(row, "name")) == name)) {
+                let said = figures(&plain(table.cell(row, "given when")));
+                for figure in figures(&plain(&sentence)) {
+                    compared += 1;
+                    found.that(said.contains(&figure), || format!("refusal {}: its condition does not say {figure}; {NUMBERS} does", name.unwrap()));
+                }
+            }
+        }
+        sentence.clear();
+    }
+    assert!(compared > 0, "{NUMBERS} says no condition");
 }
 
 // The place that a refusal names stands on the page twice, beside its condition and among the reader's answers.

@@ -1,7 +1,7 @@
 // The seventeen layouts of reports: the bits that tell them, their fields, their kinds, their examples.
 use crate::definitions::{kinds, upper, File, Numbers};
 use crate::page::{bits, plain, shown, spans, table, value, values, width, Findings, Span, Table, PAGE};
-use crate::sources::{body, code, members, reads, words, FORMS, HEADER, RECORDS, REPORTS};
+use crate::sources::{body, code, members, reads, words, ALTITUDE, FORMS, HEADER, RECORDS, REPORTS};
 use std::collections::{BTreeMap, BTreeSet};
 
 struct Row {
@@ -261,6 +261,19 @@ fn apart(layouts: &[Layout], page: &[Table], found: &mut Findings) {
     found.that(wrong.is_none(), || wrong.unwrap());
 }
 
+// An altitude has a sign and a magnitude: what twelve bits reach stands in its row, in the condition of refusal 11 and in Altitude.antt.
+fn altitude(layouts: &[Layout], page: &[Table], found: &mut Findings) {
+    let row = layouts.iter().flat_map(|layout| &layout.rows).find(|row| row.name == "altitude").unwrap_or_else(|| panic!("{PAGE}: no altitude"));
+    let most = (1 << (bits(&row.bits).count() - 1)) - 1;
+    let said = format!("-{most} to {most}");
+    let fields = page.iter().find(|table| table.heading.contains("word 7")).unwrap_or_else(|| panic!("{PAGE}: no table of word 7"));
+    let refusals = table(page, "Refusals of lines", "given when");
+    for text in [fields.at("field", "altitude", "meaning"), refusals.at("name", "ValueTooLarge", "given when")] {
+        found.that(text.contains(&said), || format!("altitude: '{text}' does not say {said}"));
+    }
+    found.that(words(&code(ALTITUDE)).contains(&&most.to_string()[..]), || format!("altitude: {ALTITUDE} does not say {most}"));
+}
+
 fn report_examples(layouts: &[Layout], page: &[Table], found: &mut Findings) {
     let table = table(page, "The seventeen layouts", "fields");
     for row in &table.rows {
@@ -309,6 +322,7 @@ pub fn reports(page: &[Table], specs: &[File], header: &Numbers, found: &mut Fin
     let here = layouts.iter().flat_map(|layout| &layout.told).filter(|(span, _)| span.0 != span.1).map(|(_, digits)| (digits.clone(), ())).collect();
     found.both_ways("pattern", &here, "crates/reports/specs", &there);
     apart(&layouts, page, found);
+    altitude(&layouts, page, found);
     report_examples(&layouts, page, found);
 
     // kinds: those of the layouts, of which two may have the same, and those of no report

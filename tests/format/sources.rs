@@ -7,6 +7,7 @@ pub const WORD: &str = "crates/words/specs/Word.antt";
 pub const LINE: &str = "crates/lines/src/lib.rt";
 pub const FORMS: &str = "crates/reports/specs/Forms.antt";
 pub const RECORDS: &str = "crates/reports/specs/Records.antt";
+pub const ALTITUDE: &str = "crates/reports/specs/Altitude.antt";
 pub const REPORTS: &str = "crates/reports/src/lib.rt";
 pub const WEIGHTS: &str = "crates/measures/specs/Weight.antt";
 pub const NUMBERS: &str = "crates/refusals/specs/Numbers.antt";
