@@ -3,64 +3,19 @@
 // of a kind is a refusal's, and no two items have the same number.
 // Calls: every `extern "C"` function stands in the header with the same arguments, in order and by name and type, and the same answer, and the
 // header has no other.
+mod definitions;
+use definitions::{defines, files, kinds, number, numbered, upper, File, Numbers};
 use std::collections::BTreeMap;
-use std::fs::{read_dir, read_to_string};
-
-// A file of the crates: its crate, its name, its text.
-type File = (String, String, String);
-
-// Every file of that folder of every crate.
-fn files(folder: &str, suffix: &str) -> Vec<File> {
-    let mut found = Vec::new();
-    let text = |name: std::ffi::OsString| name.into_string().unwrap();
-    for krate in read_dir("crates").unwrap().map(|entry| entry.unwrap()) {
-        let Ok(folder) = read_dir(krate.path().join(folder)) else { continue };
-        for file in folder.map(|entry| entry.unwrap()).filter(|file| text(file.file_name()).ends_with(suffix)) {
-            found.push((text(krate.file_name()), text(file.file_name()), read_to_string(file.path()).unwrap()));
-        }
-    }
-    found.sort();
-    found
-}
+use std::fs::read_to_string;
 
 // ---- numbers
 
-// LineTooLong and aimsCode as LINE_TOO_LONG and AIMS_CODE.
-fn upper(name: &str) -> String {
-    let mut out = String::new();
-    for (i, c) in name.chars().enumerate() {
-        if c.is_uppercase() && i > 0 {
-            out.push('_');
-        }
-        out.push(c.to_ascii_uppercase());
+// Adds numbers by the header's names; no name comes twice.
+fn add(to: &mut Numbers, from: Vec<(String, u32)>, prefix: &str) {
+    for (name, number) in from {
+        let name = format!("{prefix}_{}", upper(&name));
+        assert!(to.insert(name.clone(), number).is_none(), "{name} is defined twice");
     }
-    out
-}
-
-// A number as the definitions and the header write it: decimal, or hexadecimal with 0x.
-fn number(text: &str) -> Option<u32> {
-    match text.strip_prefix("0x") {
-        Some(digits) => u32::from_str_radix(digits, 16).ok(),
-        None => text.parse().ok(),
-    }
-}
-
-type Numbers = BTreeMap<String, u32>;
-
-// Adds the numbers of the lines "HEAD NAME = NUMBER"; there is one at least.
-fn add<'a>(to: &mut Numbers, from: impl Iterator<Item = &'a File>, head: &str, prefix: &str) {
-    let before = to.len();
-    for line in from.flat_map(|file| file.2.lines()) {
-        if let Some((left, right)) = line.split_once(" = ") {
-            if let (Some(name), Some(number)) = (left.strip_prefix(head), number(right)) {
-                if !name.contains(' ') {
-                    let name = format!("{prefix}_{}", upper(name));
-                    assert!(to.insert(name.clone(), number).is_none(), "{name} is defined twice");
-                }
-            }
-        }
-    }
-    assert!(to.len() > before, "no definition numbers a {prefix}");
 }
 
 // Adds the types of the lines "numbersOf (F.NAME ..) = eleven CODE ..", and the relay's, which is no record's first number.
@@ -81,25 +36,14 @@ fn numbers(header: &str) {
     // the items of a line and of a field stand in a file each, a field's in a crate for fields
     let items = |fields: bool| specs.iter().filter(move |file| file.1 == "Items.antt" && file.0.starts_with("field") == fields);
     let mut expected = BTreeMap::new();
-    add(&mut expected, specs.iter(), "kindNumber K.", "KIND");
-    add(&mut expected, specs.iter(), "lineNumber L.", "REFUSAL");
-    add(&mut expected, specs.iter(), "fieldNumber F.", "FIELD_REFUSAL");
-    add(&mut expected, items(false), "", "ITEM");
-    add(&mut expected, items(true), "", "FIELD_ITEM");
+    add(&mut expected, kinds(&specs), "KIND");
+    add(&mut expected, numbered(specs.iter(), "lineNumber L."), "REFUSAL");
+    add(&mut expected, numbered(specs.iter(), "fieldNumber F."), "FIELD_REFUSAL");
+    add(&mut expected, numbered(items(false), ""), "ITEM");
+    add(&mut expected, numbered(items(true), ""), "FIELD_ITEM");
     add_types(&mut expected, &specs);
-    for (name, definition) in [("KIND_REFUSED", "refusedKind = "), ("KIND_END", "endKind = ")] {
-        let line = specs.iter().flat_map(|file| file.2.lines()).find_map(|line| line.strip_prefix(definition));
-        expected.insert(name.into(), number(line.expect(definition)).unwrap());
-    }
     expected.insert("REFUSAL_NONE".into(), 0);
-    let mut found = BTreeMap::new();
-    for text in header.lines() {
-        let words: Vec<&str> = text.split_whitespace().collect();
-        if let ["#define", name, number] = words[..] {
-            let name = name.strip_prefix("SIAMRUNG_").expect("a name without the prefix");
-            assert!(found.insert(name.to_string(), self::number(number).unwrap()).is_none(), "{name} stands twice");
-        }
-    }
+    let found = defines(header);
     for (name, number) in &expected {
         assert_eq!(found.get(name), Some(number), "{name}");
     }
