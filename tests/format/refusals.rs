@@ -54,10 +54,10 @@ pub fn refusals(page: &[Table], specs: &[File], header: &Numbers, found: &mut Fi
     let here = found.once("the order of", table.rows.iter().map(|row| (table.cell(row, "call").to_string(), numbers(table.cell(row, "order")))));
     found.both_ways("the order of", &here, REFUSALS, &there);
     // the calls of C go by bytes, and the header says these orders in full
-    let text = read_to_string(HEADER).unwrap();
+    let text = read_to_string(HEADER).unwrap().split_whitespace().filter(|word| *word != "*").collect::<Vec<&str>>().join(" ");
     for call in ["writing into a line of bytes", "reading a link data field", "writing a link data field"] {
         let said = there[call].iter().map(|number| number.to_string()).collect::<Vec<String>>().join(", ");
-        found.that(text.contains(&format!("the first of {said} that")), || format!("the order of {call}: {HEADER} does not say '{said}'"));
+        found.that(text.contains(&format!("the first of {said} whose condition holds")), || format!("the order of {call}: {HEADER} does not say '{said}'"));
     }
     places(page, &there["reading a line of bytes"], found);
 }
