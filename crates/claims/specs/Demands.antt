@@ -120,7 +120,7 @@ Doubles Y.Nothing = Unit {0}
 -- "Reports and link data fields mean what FAA-RD-80-14, with its errata and the readings written in document 01, says they mean." What they
 -- mean is defined twice, by bit numbers as the tables print it and by the widths of what is written, and the two are one: a run is read as a
 -- report exactly when its words are the report's, and a field as a record exactly when its bytes are the record's. The bit numbers of reports
--- stand in reports/specs/Records.antt, the patterns that cond the form in Forms.antt, those of fields in Printed.antt. The weights of counts are the printed ones, a report's counts
+-- stand in reports/specs/Records.antt, the patterns that tell the form in Forms.antt, those of fields in Printed.antt. The weights of counts are the printed ones, a report's counts
 -- have one range, azimuth and time in doubles, and the worked cases hold
 pub record MeanWhatIsPrinted : Type 0 where
   pub runs : reports.Demand2
