@@ -7,7 +7,8 @@ ghost use Rattle.reports.specs.Forms.{told, wordCount};
 ghost use Rattle.reports.specs.Conditions.{unknownForm, unassigned, minusZero};
 ghost use Rattle.report_reader.specs.Found.{four, height, seven, found};
 ghost use Rattle.reports.specs.Records.{reportOf};
-ghost use Rattle.reports.specs.Runs.{firstHit, lastRows, judged};
+ghost use Rattle.reports.specs.Runs.{lastRows, judged};
+ghost use Rattle.rows.specs.Rows.{firstOf};
 use measures::RunLength;
 use refusals::LineRefusal;
 use reports::Height;
@@ -252,7 +253,7 @@ fn is_minus_zero(a: u16, g: u16) -> bool
 
 // The answer to words of a known form, as many as it has.
 fn judge_words(a: u16, b: u16, c: u16, d: u16, e: u16, f: u16, g: u16) -> RunAnswer
-    ensures { λ r. ⌜ r ≡ firstHit (lastRows signMagnitude (a ∷ b ∷ c ∷ d ∷ e ∷ f ∷ g ∷ [])) (RunAnswer.Accepted (reportOf signMagnitude (a ∷ b ∷ c ∷ d ∷ e ∷ f ∷ g ∷ []))) ⌝ }
+    ensures { λ r. ⌜ r ≡ firstOf (lastRows signMagnitude (a ∷ b ∷ c ∷ d ∷ e ∷ f ∷ g ∷ [])) (RunAnswer.Accepted (reportOf signMagnitude (a ∷ b ∷ c ∷ d ∷ e ∷ f ∷ g ∷ []))) ⌝ }
 {
     if is_unassigned(a, g) {
         return RunAnswer::Refused(LineRefusal::UnassignedRadar, 0);

@@ -10,7 +10,8 @@ use Rattle.report_reader.specs.declared.Found.{Found}
 use Rattle.reports.specs.Altitude.{signMagnitude}
 use Rattle.reports.specs.Records.{reportOf}
 use Rattle.reports.specs.Conditions.{unassigned, zeros, minusZero}
-use Rattle.reports.specs.Runs.{firstHit, lastRows}
+use Rattle.reports.specs.Runs.{lastRows}
+use Rattle.rows.specs.Rows.{firstOf}
 use Rattle.report_reader.specs.Found.{found}
 use borrow.Author.Needs.{needs}
 use borrow.Author.Tests.{ne-eqb}
@@ -18,7 +19,7 @@ use Rattle.report_reader.proofs.judge_words.Statement.{statement}
 use Rattle.report_reader.proofs.judge_words.Tie as tie
 
 abbrev answered : List ℕ → RunAnswer
-answered ws = firstHit (lastRows signMagnitude ws) (Accepted (reportOf signMagnitude ws))
+answered ws = firstOf (lastRows signMagnitude ws) (Accepted (reportOf signMagnitude ws))
 
 minus : (ws : List ℕ) → unassigned ws ≡ false → zeros ws ≡ 0 → minusZero signMagnitude ws ≡ true → Refused MinusZero 0 ≡ answered ws
 minus ws h7 h8 h9 = simp (h7, h8, h9)
