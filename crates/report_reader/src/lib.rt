@@ -14,6 +14,7 @@ use refusals::LineRefusal;
 use reports::Height;
 use reports::Report;
 use reports::RunAnswer;
+use reports::forms;
 
 pub mod altitude; // altitude.rt: the altitude of twelve bits
 mod content; // content.rt: what words hold, field by field
@@ -37,25 +38,25 @@ fn four_of(a: u16, b: u16, c: u16, d: u16) -> Found
 {
     let pattern = a / 8 % 128;
     let bit25 = b / 2 % 2;
-    if pattern == 0b1101100 {
+    if pattern == forms::SEARCH_PATTERN {
         return Found {
             report: Report::Search(content::search_of(a, b, c, d)),
             spare: bit25,
         };
     }
-    if pattern == 0b1100000 {
+    if pattern == forms::STROBE_PATTERN {
         return Found {
             report: Report::Strobe(content::strobe_of(a, b, c, d)),
             spare: bit25,
         };
     }
-    if pattern == 0b0110000 {
+    if pattern == forms::STATUS_PATTERN {
         return Found {
             report: Report::Status(content::status_of(a, b, c, d)),
             spare: 0,
         };
     }
-    if pattern == 0b1001000 {
+    if pattern == forms::RTQC_PATTERN {
         return Found {
             report: Report::Rtqc(content::rtqc_of(a, b, c, d)),
             spare: bit25,
@@ -81,21 +82,21 @@ fn height_of(a: u16, g: u16) -> FoundHeight
 {
     let kind = told_by(a, g);
     let mode_c = a / 128 % 2 == 1;
-    if kind == 0b100 {
+    if kind == forms::CD_CODE {
         let run = RunLength((g / 1024 % 8) as u8);
         return FoundHeight {
             height: Height::Cd { mode_c, run },
             spare: g / 16 % 64,
         };
     }
-    if kind == 0b110 {
+    if kind == forms::MTD_CODE {
         let quality = (g / 2048 % 4) as u8;
         return FoundHeight {
             height: Height::Mtd { mode_c, quality },
             spare: g / 16 % 128,
         };
     }
-    if kind == 0b101 {
+    if kind == forms::RDAS_CODE {
         let quality = (g / 512 % 16) as u8;
         return FoundHeight {
             height: Height::Rdas { mode_c, quality },
@@ -127,14 +128,14 @@ fn seven_of(a: u16, b: u16, c: u16, d: u16, e: u16, f: u16, g: u16) -> Found
             spare: d / 64 % 4 + last.spare,
         };
     }
-    if kind == 0b010 {
+    if kind == forms::MTD_SEARCH_CODE {
         let spare = a / 8 % 64 + d / 128 % 2 + g / 16 % 2;
         return Found {
             report: Report::Mtd(content::mtd_of(a, b, c, d, e, f, g)),
             spare,
         };
     }
-    if kind == 0b001 {
+    if kind == forms::RDAS_SEARCH_CODE {
         let spare = a / 8 % 64 + d / 128 % 2 + e / 2 % 4096 + g / 128 % 4 + g / 16 % 4;
         return Found {
             report: Report::Rdas(content::rdas_of(a, b, c, d, f, g)),
@@ -151,7 +152,7 @@ fn seven_of(a: u16, b: u16, c: u16, d: u16, e: u16, f: u16, g: u16) -> Found
 fn found_of(a: u16, b: u16, c: u16, d: u16, e: u16, f: u16, g: u16) -> Found
     ensures { λ r. ⌜ r ≡ found (a ∷ b ∷ c ∷ d ∷ e ∷ f ∷ g ∷ []) ⌝ }
 {
-    if a / 1024 % 4 == 0b11 {
+    if a / 1024 % 4 == forms::SEVEN_WORDS {
         seven_of(a, b, c, d, e, f, g)
     } else {
         four_of(a, b, c, d)
@@ -164,20 +165,20 @@ fn is_unknown_form(a: u16) -> bool
     ensures { λ r. ⌜ r ≡ unknownForm (a ∷ []) ⌝ }
 {
     let pattern = a / 8 % 128;
-    if a / 1024 % 4 == 0b00 {
-        if pattern == 0b1101100 {
+    if a / 1024 % 4 == forms::FOUR_WORDS {
+        if pattern == forms::SEARCH_PATTERN {
             return false;
         }
-        if pattern == 0b1100000 {
+        if pattern == forms::STROBE_PATTERN {
             return false;
         }
-        if pattern == 0b0110000 {
+        if pattern == forms::STATUS_PATTERN {
             return false;
         }
-        if a / 32 % 32 == 0b00000 {
+        if a / 32 % 32 == forms::MAP_PATTERN {
             return false;
         }
-        if pattern == 0b1001000 {
+        if pattern == forms::RTQC_PATTERN {
             if a / 4096 % 2 == 1 {
                 return false;
             }
@@ -185,7 +186,7 @@ fn is_unknown_form(a: u16) -> bool
         }
         return true;
     }
-    if a / 1024 % 4 == 0b11 {
+    if a / 1024 % 4 == forms::SEVEN_WORDS {
         return false;
     }
     true
@@ -194,31 +195,35 @@ fn is_unknown_form(a: u16) -> bool
 fn word_count(a: u16) -> usize
     ensures { λ r. ⌜ r ≡ wordCount (a ∷ []) ⌝ }
 {
-    if a / 1024 % 4 == 0b11 { 7 } else { 4 }
+    if a / 1024 % 4 == forms::SEVEN_WORDS {
+        7
+    } else {
+        4
+    }
 }
 
 fn is_unassigned(a: u16, g: u16) -> bool
     ensures { λ r. ⌜ r ≡ unassigned (a ∷ 0 ∷ 0 ∷ 0 ∷ 0 ∷ 0 ∷ g ∷ []) ⌝ }
 {
     let kind = g / 2 % 8;
-    if a / 1024 % 4 == 0b11 {
+    if a / 1024 % 4 == forms::SEVEN_WORDS {
         if a / 2 % 2 == 1 {
-            if kind == 0b100 {
+            if kind == forms::CD_CODE {
                 return false;
             }
-            if kind == 0b110 {
+            if kind == forms::MTD_CODE {
                 return false;
             }
-            if kind == 0b101 {
+            if kind == forms::RDAS_CODE {
                 return false;
             }
             if a / 512 % 2 == 1 {
                 return true;
             }
-            if kind == 0b010 {
+            if kind == forms::MTD_SEARCH_CODE {
                 return false;
             }
-            if kind == 0b001 {
+            if kind == forms::RDAS_SEARCH_CODE {
                 return false;
             }
             return true;
@@ -231,7 +236,7 @@ fn is_unassigned(a: u16, g: u16) -> bool
 fn is_minus_zero(a: u16, g: u16) -> bool
     ensures { λ r. ⌜ r ≡ minusZero signMagnitude (a ∷ 0 ∷ 0 ∷ 0 ∷ 0 ∷ 0 ∷ g ∷ []) ⌝ }
 {
-    if a / 1024 % 4 == 0b11 {
+    if a / 1024 % 4 == forms::SEVEN_WORDS {
         if a / 2 % 2 == 1 {
             return false;
         }

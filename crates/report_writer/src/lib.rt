@@ -9,6 +9,7 @@ ghost use lib.ListN.{getD};
 ghost use Rattle.words.specs.Word.{wordOf};
 ghost use Rattle.words.specs.Layout.{joined, dataOrMore, flag, count, rest, fixed, spare};
 ghost use Rattle.reports.specs.Altitude.{signMagnitude};
+ghost use Rattle.reports.specs.Forms.{fourWords, sevenWords, mapPattern, cdCode, mtdCode, rdasCode, mtdSearchCode, rdasSearchCode};
 ghost use Rattle.reports.specs.Layouts.{lastWord, modeC, radar, layoutOf, written};
 ghost use Rattle.report_writer.specs.Data.{dataBy, fromData};
 use refusals::LineRefusal;
@@ -24,6 +25,7 @@ use reports::Search;
 use reports::Status;
 use reports::Strobe;
 use reports::Written;
+use reports::forms;
 
 pub mod altitude; // altitude.rt: the twelve bits of an altitude
 
@@ -34,6 +36,11 @@ enum Data {
 }
 
 const TOO_LARGE: u32 = 4096;
+
+// The fixed bits that a first word of seven begins with, in their places: bits 2-3, and bit 4, which only DABS has one.
+const SEVEN: u32 = forms::SEVEN_WORDS as u32 * 512;
+
+const SEVEN_DABS: u32 = SEVEN + 256;
 
 fn bit(b: bool) -> u32
     ensures { λ r. ⌜ (r ≡ cond b 1 0) × (r < 2) ⌝ }
@@ -58,15 +65,15 @@ fn lower_twelve(n: u32) -> u32
 
 // ---- the words of four
 
-fn first_of_four(test: bool, pattern: u32, faa: bool, af: bool) -> u32
+fn first_of_four(test: bool, pattern: u16, faa: bool, af: bool) -> u32
     requires { ⌜ pattern < 128 ⌝ }
-    ensures { λ r. ⌜ r ≡ dataOrMore (flag test ∷ fixed 2 0b00 ∷ fixed 7 pattern ∷ flag faa ∷ flag af ∷ []) ⌝ }
+    ensures { λ r. ⌜ r ≡ dataOrMore (flag test ∷ fixed 2 fourWords ∷ fixed 7 pattern ∷ flag faa ∷ flag af ∷ []) ⌝ }
 {
-    bit(test) * 2048 + pattern * 4 + bit(faa) * 2 + bit(af)
+    bit(test) * 2048 + pattern as u32 * 4 + bit(faa) * 2 + bit(af)
 }
 
 fn map_first(test: bool, variation: u8, faa: bool, af: bool) -> u32
-    ensures { λ r. ⌜ r ≡ dataOrMore (flag test ∷ fixed 2 0b00 ∷ fixed 5 0b00000 ∷ count 2 variation ∷ flag faa ∷ flag af ∷ []) ⌝ }
+    ensures { λ r. ⌜ r ≡ dataOrMore (flag test ∷ fixed 2 fourWords ∷ fixed 5 mapPattern ∷ count 2 variation ∷ flag faa ∷ flag af ∷ []) ⌝ }
 {
     let variation = variation as u32;
     bit(test) * 2048 + variation * 4 + bit(faa) * 2 + bit(af) + TOO_LARGE * (variation / 4)
@@ -102,9 +109,9 @@ fn strobe_last(run: u8, time: u8) -> u32
 
 // The first word of MTD and RDAS search.
 fn radar_first(test: bool, faa: bool) -> u32
-    ensures { λ r. ⌜ r ≡ dataOrMore (flag test ∷ fixed 2 0b11 ∷ fixed 1 0 ∷ spare 6 ∷ flag faa ∷ fixed 1 1 ∷ []) ⌝ }
+    ensures { λ r. ⌜ r ≡ dataOrMore (flag test ∷ fixed 2 sevenWords ∷ fixed 1 0 ∷ spare 6 ∷ flag faa ∷ fixed 1 1 ∷ []) ⌝ }
 {
-    bit(test) * 2048 + 0b11 * 512 + bit(faa) * 2 + 1
+    bit(test) * 2048 + SEVEN + bit(faa) * 2 + 1
 }
 
 // The end of a range of fifteen bits, and the start of an azimuth of thirteen.
@@ -157,7 +164,7 @@ fn dopplers(first: u8, second: u8) -> u32
 }
 
 fn mtd_last(quality: u8, confidence: u8, target: bool, ground: bool) -> u32
-    ensures { λ r. ⌜ r ≡ dataOrMore (count 2 quality ∷ count 4 confidence ∷ flag target ∷ flag ground ∷ spare 1 ∷ fixed 3 0b010 ∷ []) ⌝ }
+    ensures { λ r. ⌜ r ≡ dataOrMore (count 2 quality ∷ count 4 confidence ∷ flag target ∷ flag ground ∷ spare 1 ∷ fixed 3 mtdSearchCode ∷ []) ⌝ }
 {
     let quality = quality as u32;
     let confidence = confidence as u32;
@@ -166,15 +173,15 @@ fn mtd_last(quality: u8, confidence: u8, target: bool, ground: bool) -> u32
         + confidence * 64
         + bit(target) * 32
         + bit(ground) * 16
-        + 0b010
+        + forms::MTD_SEARCH_CODE as u32
         + TOO_LARGE * over
 }
 
 fn rdas_last(quality: u8, target: bool) -> u32
-    ensures { λ r. ⌜ r ≡ dataOrMore (count 4 quality ∷ spare 2 ∷ flag target ∷ spare 2 ∷ fixed 3 0b001 ∷ []) ⌝ }
+    ensures { λ r. ⌜ r ≡ dataOrMore (count 4 quality ∷ spare 2 ∷ flag target ∷ spare 2 ∷ fixed 3 rdasSearchCode ∷ []) ⌝ }
 {
     let quality = quality as u32;
-    quality * 256 + bit(target) * 32 + 0b001 + TOO_LARGE * (quality / 16)
+    quality * 256 + bit(target) * 32 + forms::RDAS_SEARCH_CODE as u32 + TOO_LARGE * (quality / 16)
 }
 
 // ---- bits 6, 12 and 79 to 90 of DABS and ATCRBS
@@ -211,24 +218,24 @@ fn radar_of(h: Height) -> bool
 
 // The last word where a CD, an MTD or an RDAS stands in for the height.
 fn cd_last(run: u8) -> u32
-    ensures { λ r. ⌜ r ≡ dataOrMore (count 3 run ∷ spare 6 ∷ fixed 3 0b100 ∷ []) ⌝ }
+    ensures { λ r. ⌜ r ≡ dataOrMore (count 3 run ∷ spare 6 ∷ fixed 3 cdCode ∷ []) ⌝ }
 {
     let run = run as u32;
-    run * 512 + 0b100 + TOO_LARGE * (run / 8)
+    run * 512 + forms::CD_CODE as u32 + TOO_LARGE * (run / 8)
 }
 
 fn mtd_quality_last(quality: u8) -> u32
-    ensures { λ r. ⌜ r ≡ dataOrMore (count 2 quality ∷ spare 7 ∷ fixed 3 0b110 ∷ []) ⌝ }
+    ensures { λ r. ⌜ r ≡ dataOrMore (count 2 quality ∷ spare 7 ∷ fixed 3 mtdCode ∷ []) ⌝ }
 {
     let quality = quality as u32;
-    quality * 1024 + 0b110 + TOO_LARGE * (quality / 4)
+    quality * 1024 + forms::MTD_CODE as u32 + TOO_LARGE * (quality / 4)
 }
 
 fn rdas_quality_last(quality: u8) -> u32
-    ensures { λ r. ⌜ r ≡ dataOrMore (count 4 quality ∷ spare 5 ∷ fixed 3 0b101 ∷ []) ⌝ }
+    ensures { λ r. ⌜ r ≡ dataOrMore (count 4 quality ∷ spare 5 ∷ fixed 3 rdasCode ∷ []) ⌝ }
 {
     let quality = quality as u32;
-    quality * 256 + 0b101 + TOO_LARGE * (quality / 16)
+    quality * 256 + forms::RDAS_CODE as u32 + TOO_LARGE * (quality / 16)
 }
 
 fn height_last(h: Height) -> u32
@@ -262,7 +269,7 @@ fn dabs_first(d: Dabs) -> u32
         d.code7700,
         d.code7600,
     );
-    bit(d.test) * 2048 + 0b111 * 256 + flags * 4 + bit(d.faa) * 2 + bit(radar_of(height))
+    bit(d.test) * 2048 + SEVEN_DABS + flags * 4 + bit(d.faa) * 2 + bit(radar_of(height))
 }
 
 fn atcrbs_first(a: Atcrbs) -> u32
@@ -277,7 +284,7 @@ fn atcrbs_first(a: Atcrbs) -> u32
         a.code7700,
         a.code7600,
     );
-    bit(a.test) * 2048 + 0b110 * 256 + flags * 4 + bit(a.faa) * 2 + bit(radar_of(height))
+    bit(a.test) * 2048 + SEVEN + flags * 4 + bit(a.faa) * 2 + bit(radar_of(height))
 }
 
 // ---- the data of each report
@@ -286,7 +293,7 @@ fn search_data(s: Search) -> Data
     ensures { λ r. ⌜ r ≡ dataBy (layoutOf signMagnitude (Report.Search s)) ⌝ }
 {
     Data::Four(
-        first_of_four(s.test, 0b1101100, s.faa, s.af),
+        first_of_four(s.test, forms::SEARCH_PATTERN, s.faa, s.af),
         coarse_range(s.range.0),
         whole(s.azimuth.0 as u32),
         search_last(s.aims, s.code, s.run.0, s.time.0),
@@ -297,7 +304,7 @@ fn strobe_data(s: Strobe) -> Data
     ensures { λ r. ⌜ r ≡ dataBy (layoutOf signMagnitude (Report.Strobe s)) ⌝ }
 {
     Data::Four(
-        first_of_four(s.test, 0b1100000, s.faa, s.af),
+        first_of_four(s.test, forms::STROBE_PATTERN, s.faa, s.af),
         coarse_range(s.range.0),
         whole(s.azimuth.0 as u32),
         strobe_last(s.run.0, s.time.0),
@@ -319,7 +326,7 @@ fn status_data(s: Status) -> Data
     ensures { λ r. ⌜ r ≡ dataBy (layoutOf signMagnitude (Report.Status s)) ⌝ }
 {
     Data::Four(
-        first_of_four(s.test, 0b0110000, s.faa, s.af),
+        first_of_four(s.test, forms::STATUS_PATTERN, s.faa, s.af),
         whole(s.second as u32),
         whole(s.third as u32),
         whole(s.fourth as u32),
@@ -330,7 +337,7 @@ fn rtqc_data(s: Rtqc) -> Data
     ensures { λ r. ⌜ r ≡ dataBy (layoutOf signMagnitude (Report.Rtqc s)) ⌝ }
 {
     Data::Four(
-        first_of_four(true, 0b1001000, s.faa, s.af),
+        first_of_four(true, forms::RTQC_PATTERN, s.faa, s.af),
         coarse_range(s.range.0),
         whole(s.azimuth.0 as u32),
         strobe_last(s.run.0, s.time.0),

@@ -19,20 +19,20 @@ use Rattle.reports.specs.declared.Rtqc.{Rtqc}
 use Rattle.reports.specs.declared.Report.{Report}
 use Rattle.reports.specs.declared.Report.the-variants as R
 use Rattle.reports.specs.Altitude.{AltitudeForm}
-use Rattle.reports.specs.Forms.{isSearch, isStrobe, isStatus, isMap, hasRtqcPattern}
+use Rattle.reports.specs.Forms.{fourWords, searchPattern, strobePattern, statusPattern, rtqcPattern, mapPattern, isSearch, isStrobe, isStatus, isMap, hasRtqcPattern}
 use Rattle.reports.specs.Records.{searchOf, strobeOf, mapOf, statusOf, rtqcOf, fourOf}
 use Rattle.reports.specs.Layouts.{layoutOf}
 use Rattle.reports.specs.Conditions.{unknownForm, fourZeros}
 use Rattle.reports.proofs.Tests.{by-conds, last-holds, _&_}
 
 -- an RTQC's pattern is no Map's
-rtqc-no-map : (ws : List ℕ) → bits ws 4 10 ≡ 0b1001000 → isMap ws ≡ false
-rtqc-no-map ws k = ne-eqb (bits ws 4 8) 0 (λ e. omega arith)
+rtqc-no-map : (ws : List ℕ) → bits ws 4 10 ≡ rtqcPattern → isMap ws ≡ false
+rtqc-no-map ws k = ne-eqb (bits ws 4 8) mapPattern (λ e. omega arith)
 
 -- ---- from words to fields: a flag is its bit, a fixed field is what a test found, any other is read as it stands
 
-module _ (form : AltitudeForm) (ws : List ℕ) (two : bits ws 2 3 ≡ 0b00) where
-  search-laid : bits ws 4 10 ≡ 0b1101100 → bits ws 25 25 ≡ 0 → LaidFrom 1 (layoutOf form (R.Search (searchOf ws))) ws
+module _ (form : AltitudeForm) (ws : List ℕ) (two : bits ws 2 3 ≡ fourWords) where
+  search-laid : bits ws 4 10 ≡ searchPattern → bits ws 25 25 ≡ 0 → LaidFrom 1 (layoutOf form (R.Search (searchOf ws))) ws
   search-laid k z =
       (flagged _ & two & k & flagged _ & flagged _ & tt)
       & (refl & z & tt)
@@ -40,7 +40,7 @@ module _ (form : AltitudeForm) (ws : List ℕ) (two : bits ws 2 3 ≡ 0b00) wher
       & (flagged _ & refl & refl & refl & tt)
       & tt
 
-  strobe-laid : bits ws 4 10 ≡ 0b1100000 → bits ws 25 25 ≡ 0 → LaidFrom 1 (layoutOf form (R.Strobe (strobeOf ws))) ws
+  strobe-laid : bits ws 4 10 ≡ strobePattern → bits ws 25 25 ≡ 0 → LaidFrom 1 (layoutOf form (R.Strobe (strobeOf ws))) ws
   strobe-laid k z =
       (flagged _ & two & k & flagged _ & flagged _ & tt)
       & (refl & z & tt)
@@ -48,7 +48,7 @@ module _ (form : AltitudeForm) (ws : List ℕ) (two : bits ws 2 3 ≡ 0b00) wher
       & (refl & refl & tt)
       & tt
 
-  status-laid : bits ws 4 10 ≡ 0b0110000 → LaidFrom 1 (layoutOf form (R.Status (statusOf ws))) ws
+  status-laid : bits ws 4 10 ≡ statusPattern → LaidFrom 1 (layoutOf form (R.Status (statusOf ws))) ws
   status-laid k =
       (flagged _ & two & k & flagged _ & flagged _ & tt)
       & (refl & tt)
@@ -56,7 +56,7 @@ module _ (form : AltitudeForm) (ws : List ℕ) (two : bits ws 2 3 ≡ 0b00) wher
       & (refl & tt)
       & tt
 
-  rtqc-laid : bits ws 1 1 ≡ 1 → bits ws 4 10 ≡ 0b1001000 → bits ws 25 25 ≡ 0 → LaidFrom 1 (layoutOf form (R.Rtqc (rtqcOf ws))) ws
+  rtqc-laid : bits ws 1 1 ≡ 1 → bits ws 4 10 ≡ rtqcPattern → bits ws 25 25 ≡ 0 → LaidFrom 1 (layoutOf form (R.Rtqc (rtqcOf ws))) ws
   rtqc-laid one k z =
       (one & two & k & flagged _ & flagged _ & tt)
       & (refl & z & tt)
@@ -64,7 +64,7 @@ module _ (form : AltitudeForm) (ws : List ℕ) (two : bits ws 2 3 ≡ 0b00) wher
       & (refl & refl & tt)
       & tt
 
-  map-laid : bits ws 4 8 ≡ 0b00000 → bits ws 25 25 ≡ 0 → bits ws 51 51 ≡ 0 → LaidFrom 1 (layoutOf form (R.Map (mapOf ws))) ws
+  map-laid : bits ws 4 8 ≡ mapPattern → bits ws 25 25 ≡ 0 → bits ws 51 51 ≡ 0 → LaidFrom 1 (layoutOf form (R.Map (mapOf ws))) ws
   map-laid k z y =
       (flagged _ & two & k & refl & flagged _ & flagged _ & tt)
       & (refl & z & tt)
@@ -77,7 +77,7 @@ module _ (form : AltitudeForm) (ws : List ℕ) (two : bits ws 2 3 ≡ 0b00) wher
     one : hasRtqcPattern ws ≡ true → bits ws 1 1 ≡ 1
     one k = eqb-true _ _ (both (bit ws 1) true (last-holds (cond (bit ws 1) true false) (simp (two, n1, n2, n3, rtqc-no-map ws (eqb-true _ _ k), k) at known)) .0)
 
-    none : hasRtqcPattern ws ≡ false → bits ws 4 8 ≡ 0b00000
+    none : hasRtqcPattern ws ≡ false → bits ws 4 8 ≡ mapPattern
     none n4 = eqb-true _ _ (last-holds (isMap ws) (simp (two, n1, n2, n3, n4) at known))
 
   abbrev Laid4 : Report → ℕ → Type 0
@@ -96,13 +96,13 @@ module _ (form : AltitudeForm) (ws : List ℕ) (two : bits ws 2 3 ≡ 0b00) wher
 
 -- four words that pass as r
 pub record Held (ws : List ℕ) (r : Report) : Type 0 where
-  pub two : bits ws 2 3 ≡ 0b00
+  pub two : bits ws 2 3 ≡ fourWords
   pub known : unknownForm ws ≡ false
   pub spare : fourZeros ws ≡ 0
   pub report : fourOf ws ≡ r
 
 -- bits 4 to 8 of a Map are zero, so bits 4 to 10 are no other kind's
-not-map : (ws : List ℕ) (n : ℕ) → bits ws 4 8 ≡ 0 → 4 ≤ n → eqb (bits ws 4 10) n ≡ false
+not-map : (ws : List ℕ) (n : ℕ) → bits ws 4 8 ≡ mapPattern → 4 ≤ n → eqb (bits ws 4 10) n ≡ false
 not-map ws n z l = ne-eqb (bits ws 4 10) n (λ e. omega arith)
 
 module _ (form : AltitudeForm) (ws : List ℕ) where
@@ -159,10 +159,10 @@ module _ (form : AltitudeForm) (ws : List ℕ) where
   map-held m h =
       let two = h .0 .1 .0 in
       let k = h .0 .1 .1 .0 in
-      let n1 = not-map ws 0b1101100 k (lit≤ tt) in
-      let n2 = not-map ws 0b1100000 k (lit≤ tt) in
-      let n3 = not-map ws 0b0110000 k (lit≤ tt) in
-      let n4 = not-map ws 0b1001000 k (lit≤ tt) in
+      let n1 = not-map ws searchPattern k (lit≤ tt) in
+      let n2 = not-map ws strobePattern k (lit≤ tt) in
+      let n3 = not-map ws statusPattern k (lit≤ tt) in
+      let n4 = not-map ws rtqcPattern k (lit≤ tt) in
       record {
         two = two;
         known = simp (two, n1, n2, n3, n4, k);

@@ -15,7 +15,7 @@ use Rattle.words.proofs.Fields.{flagged, unflagged}
 use Rattle.reports.specs.declared.Height.{Height}
 use Rattle.reports.specs.declared.Height.the-variants as H
 use Rattle.reports.specs.Altitude.{AltitudeForm, Sound}
-use Rattle.reports.specs.Forms.{told, isCd, isMtd, isRdas, isMtdSearch, isRdasSearch}
+use Rattle.reports.specs.Forms.{sevenWords, cdCode, mtdCode, rdasCode, told, isCd, isMtd, isRdas, isMtdSearch, isRdasSearch}
 use Rattle.reports.specs.Records.{heightOf}
 use Rattle.reports.specs.Layouts.{lastWord, modeC, radar}
 use Rattle.reports.specs.Conditions.{unassigned, heightSpares, minusZero}
@@ -41,7 +41,7 @@ holds-not false h = refl
 abbrev pub Stands : AltitudeForm → List ℕ → Height → Type 0
 Stands form ws h = (bits ws 6 6 ≡ cond (modeC h) 1 0) × (bits ws 12 12 ≡ cond (radar h) 1 0) × StandFrom 79 (lastWord form h) ws
 
-module _ (form : AltitudeForm) (sound : Sound form) (ws : List ℕ) (two : bits ws 2 3 ≡ 0b11) where
+module _ (form : AltitudeForm) (sound : Sound form) (ws : List ℕ) (two : bits ws 2 3 ≡ sevenWords) where
   abbrev Laid79 : Height → ℕ → Type 0
   Laid79 h n = n ≡ 0 → Stands form ws h
 
@@ -49,9 +49,9 @@ module _ (form : AltitudeForm) (sound : Sound form) (ws : List ℕ) (two : bits 
   pub height-laid : (isCd ws ≡ false → isMtd ws ≡ false → isRdas ws ≡ false → bit ws 12 ≡ false) → minusZero form ws ≡ false → Laid79 (heightOf form ws) (heightSpares ws)
   unfolding heightOf heightSpares
   height-laid other sign =
-      by-conds Laid79 (isCd ws) (λ k z. let t = tells ws 0b100 (lit< tt) k in (flagged _, t .0, refl & z & t .1 & tt))
-      (λ n1. by-conds Laid79 (isMtd ws) (λ k z. let t = tells ws 0b110 (lit< tt) k in (flagged _, t .0, refl & z & t .1 & tt))
-      (λ n2. by-conds Laid79 (isRdas ws) (λ k z. let t = tells ws 0b101 (lit< tt) k in (flagged _, t .0, refl & z & t .1 & tt))
+      by-conds Laid79 (isCd ws) (λ k z. let t = tells ws cdCode (lit< tt) k in (flagged _, t .0, refl & z & t .1 & tt))
+      (λ n1. by-conds Laid79 (isMtd ws) (λ k z. let t = tells ws mtdCode (lit< tt) k in (flagged _, t .0, refl & z & t .1 & tt))
+      (λ n2. by-conds Laid79 (isRdas ws) (λ k z. let t = tells ws rdasCode (lit< tt) k in (flagged _, t .0, refl & z & t .1 & tt))
       (λ n3. plain (other n1 n2 n3) (bit ws 6) refl)))
     where
       plain : bit ws 12 ≡ false → (b : Bool) → bit ws 6 ≡ b → Laid79 (cond b (H.Altitude (form .altitude (bits ws 79 90))) (H.Carried (bits ws 79 90))) 0

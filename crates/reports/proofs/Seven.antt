@@ -19,7 +19,7 @@ use Rattle.reports.specs.declared.Rdas.{Rdas}
 use Rattle.reports.specs.declared.Report.{Report}
 use Rattle.reports.specs.declared.Report.the-variants as R
 use Rattle.reports.specs.Altitude.{AltitudeForm, Sound}
-use Rattle.reports.specs.Forms.{isDabs, isCd, isMtd, isRdas, isMtdSearch, isRdasSearch}
+use Rattle.reports.specs.Forms.{sevenWords, mtdSearchCode, rdasSearchCode, isDabs, isCd, isMtd, isRdas, isMtdSearch, isRdasSearch}
 use Rattle.reports.specs.Records.{heightOf, dabsOf, atcrbsOf, mtdOf, rdasOf, sevenOf}
 use Rattle.reports.specs.Layouts.{layoutOf}
 use Rattle.reports.specs.Conditions.{unassigned, sevenSpares, minusZero}
@@ -29,7 +29,7 @@ use Rattle.reports.proofs.Heights.{Stands, tells, height-laid, height-h
 -- ---- from words to fields: a flag is its bit, a fixed field is what a test found, a number in two parts is its parts, any other is read
 -- as it stands
 
-module _ (form : AltitudeForm) (sound : Sound form) (ws : List ℕ) (two : bits ws 2 3 ≡ 0b11) where
+module _ (form : AltitudeForm) (sound : Sound form) (ws : List ℕ) (two : bits ws 2 3 ≡ sevenWords) where
   dabs-laid : (h : Height) → Stands form ws h → bits ws 4 4 ≡ 1 → bits ws 45 46 ≡ 0 → LaidFrom 1 (layoutOf form (R.Dabs (dabsOf ws h))) ws
   dabs-laid h s one z =
       (flagged _ & two & one & flagged _ & (s .0) & flagged _ & flagged _ & flagged _ & flagged _ & flagged _ & (s .1) & tt)
@@ -54,7 +54,7 @@ module _ (form : AltitudeForm) (sound : Sound form) (ws : List ℕ) (two : bits 
 
   mtd-laid : bits ws 4 4 ≡ 0 → isMtdSearch ws ≡ true → bits ws 5 10 + bits ws 45 45 + bits ws 87 87 ≡ 0 → LaidFrom 1 (layoutOf form (R.Mtd (mtdOf ws))) ws
   mtd-laid none k z =
-      let t = tells ws 0b010 (lit< tt) k in
+      let t = tells ws mtdSearchCode (lit< tt) k in
       (flagged _ & two & none & (omega arith) & flagged _ & (t .0) & tt)
       & (upper 3 _ _ & tt)
       & (lower 3 _ _ & upper 4 _ _ & tt)
@@ -67,7 +67,7 @@ module _ (form : AltitudeForm) (sound : Sound form) (ws : List ℕ) (two : bits 
   rdas-laid : bits ws 4 4 ≡ 0 → isRdasSearch ws ≡ true → bits ws 5 10 + bits ws 45 45 + bits ws 53 64 + bits ws 83 84 + bits ws 86 87 ≡ 0
       → LaidFrom 1 (layoutOf form (R.Rdas (rdasOf ws))) ws
   rdas-laid none k z =
-      let t = tells ws 0b001 (lit< tt) k in
+      let t = tells ws rdasSearchCode (lit< tt) k in
       (flagged _ & two & none & (omega arith) & flagged _ & (t .0) & tt)
       & (upper 3 _ _ & tt)
       & (lower 3 _ _ & upper 4 _ _ & tt)
@@ -108,7 +108,7 @@ module _ (form : AltitudeForm) (sound : Sound form) (ws : List ℕ) (two : bits 
 
 -- seven words that pass as r
 pub record Held (form : AltitudeForm) (ws : List ℕ) (r : Report) : Type 0 where
-  pub two : bits ws 2 3 ≡ 0b11
+  pub two : bits ws 2 3 ≡ sevenWords
   pub assigned : unassigned ws ≡ false
   pub spare : sevenSpares ws ≡ 0
   pub altitude : minusZero form ws ≡ false

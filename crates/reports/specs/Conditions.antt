@@ -9,7 +9,7 @@ use lib.ListN.{length}
 use Rattle.words.specs.Tests.{all, any}
 use Rattle.words.specs.Word.{bits, bit, wide, even, first, AllGood}
 use Rattle.reports.specs.Altitude.{AltitudeForm}
-use Rattle.reports.specs.Forms.{isFour, isSeven, wordCount, isSearch, isStrobe, isMap, isStatus, hasRtqcPattern, isRtqc, isDabs, isCd, isMtd, isRdas, isMtdSearch, isRdasSearch}
+use Rattle.reports.specs.Forms.{cdCode, mtdCode, rdasCode, mtdSearchCode, rdasSearchCode, isFour, isSeven, wordCount, isSearch, isStrobe, isMap, isStatus, hasRtqcPattern, isRtqc, isDabs, isCd, isMtd, isRdas, isMtdSearch, isRdasSearch}
 
 -- 3: a word of the run above 8191
 abbrev pub wideWord : List ℕ → Bool
@@ -32,7 +32,8 @@ abbrev pub unassigned : List ℕ → Bool
 unassigned ws = all (isSeven ws ∷ bit ws 12 ∷ not (assigned (bits ws 88 90)) ∷ [])
   where
     assigned : ℕ → Bool
-    assigned n = any (eqb n 0b100 ∷ eqb n 0b110 ∷ eqb n 0b101 ∷ all (not (bit ws 4) ∷ any (eqb n 0b010 ∷ eqb n 0b001 ∷ []) ∷ []) ∷ [])
+    assigned n =
+        any (eqb n cdCode ∷ eqb n mtdCode ∷ eqb n rdasCode ∷ all (not (bit ws 4) ∷ any (eqb n mtdSearchCode ∷ eqb n rdasSearchCode ∷ []) ∷ []) ∷ [])
 
 -- ---- 8: a zero or spare bit is one. Each sum is 0 exactly when all of its bits are
 

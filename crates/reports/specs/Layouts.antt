@@ -14,14 +14,15 @@ use Rattle.reports.specs.declared.Report.the-variants as R
 use Rattle.reports.specs.declared.Written.{Written}
 use Rattle.reports.specs.declared.Written.the-variants as W
 use Rattle.reports.specs.Altitude.{AltitudeForm}
+use Rattle.reports.specs.Forms.{fourWords, sevenWords, searchPattern, strobePattern, statusPattern, rtqcPattern, mapPattern, cdCode, mtdCode, rdasCode, mtdSearchCode, rdasSearchCode}
 
 -- bits 79 to 90
 abbrev pub lastWord : AltitudeForm → Height → List Field
 lastWord form (H.Altitude z) = count 12 (form .bitsOf z) ∷ []
 lastWord form (H.Carried n) = count 12 n ∷ []
-lastWord form (H.Cd c n) = count 3 (n .0) ∷ spare 6 ∷ fixed 3 0b100 ∷ []
-lastWord form (H.Mtd c n) = count 2 n ∷ spare 7 ∷ fixed 3 0b110 ∷ []
-lastWord form (H.Rdas c n) = count 4 n ∷ spare 5 ∷ fixed 3 0b101 ∷ []
+lastWord form (H.Cd c n) = count 3 (n .0) ∷ spare 6 ∷ fixed 3 cdCode ∷ []
+lastWord form (H.Mtd c n) = count 2 n ∷ spare 7 ∷ fixed 3 mtdCode ∷ []
+lastWord form (H.Rdas c n) = count 4 n ∷ spare 5 ∷ fixed 3 rdasCode ∷ []
 
 -- bit 6, Mode C
 abbrev pub modeC : Height → Bool
@@ -41,37 +42,37 @@ radar (H.Rdas c n) = true
 
 abbrev pub layoutOf : AltitudeForm → Report → List (List Field)
 layoutOf form (R.Search s) =
-    (flag (s .test) ∷ fixed 2 0b00 ∷ fixed 7 0b1101100 ∷ flag (s .faa) ∷ flag (s .af) ∷ [])
+    (flag (s .test) ∷ fixed 2 fourWords ∷ fixed 7 searchPattern ∷ flag (s .faa) ∷ flag (s .af) ∷ [])
     ∷ (count 11 (s .range .0) ∷ spare 1 ∷ [])
     ∷ (count 12 (s .azimuth .0) ∷ [])
     ∷ (flag (s .aims) ∷ count 2 (s .code) ∷ count 3 (s .run .0) ∷ count 6 (s .time .0) ∷ [])
     ∷ []
 layoutOf form (R.Strobe s) =
-    (flag (s .test) ∷ fixed 2 0b00 ∷ fixed 7 0b1100000 ∷ flag (s .faa) ∷ flag (s .af) ∷ [])
+    (flag (s .test) ∷ fixed 2 fourWords ∷ fixed 7 strobePattern ∷ flag (s .faa) ∷ flag (s .af) ∷ [])
     ∷ (count 11 (s .range .0) ∷ spare 1 ∷ [])
     ∷ (count 12 (s .azimuth .0) ∷ [])
     ∷ (count 7 (s .run .0) ∷ count 5 (s .time .0) ∷ [])
     ∷ []
 layoutOf form (R.Map m) =
-    (flag (m .test) ∷ fixed 2 0b00 ∷ fixed 5 0b00000 ∷ count 2 (m .variation) ∷ flag (m .faa) ∷ flag (m .af) ∷ [])
+    (flag (m .test) ∷ fixed 2 fourWords ∷ fixed 5 mapPattern ∷ count 2 (m .variation) ∷ flag (m .faa) ∷ flag (m .af) ∷ [])
     ∷ (count 11 (m .start .0) ∷ spare 1 ∷ [])
     ∷ (count 12 (m .azimuth .0) ∷ [])
     ∷ (count 11 (m .stop .0) ∷ spare 1 ∷ [])
     ∷ []
 layoutOf form (R.Status s) =
-    (flag (s .test) ∷ fixed 2 0b00 ∷ fixed 7 0b0110000 ∷ flag (s .faa) ∷ flag (s .af) ∷ [])
+    (flag (s .test) ∷ fixed 2 fourWords ∷ fixed 7 statusPattern ∷ flag (s .faa) ∷ flag (s .af) ∷ [])
     ∷ (count 12 (s .second) ∷ [])
     ∷ (count 12 (s .third) ∷ [])
     ∷ (count 12 (s .fourth) ∷ [])
     ∷ []
 layoutOf form (R.Rtqc s) =
-    (fixed 1 1 ∷ fixed 2 0b00 ∷ fixed 7 0b1001000 ∷ flag (s .faa) ∷ flag (s .af) ∷ [])
+    (fixed 1 1 ∷ fixed 2 fourWords ∷ fixed 7 rtqcPattern ∷ flag (s .faa) ∷ flag (s .af) ∷ [])
     ∷ (count 11 (s .range .0) ∷ spare 1 ∷ [])
     ∷ (count 12 (s .azimuth .0) ∷ [])
     ∷ (count 7 (s .run .0) ∷ count 5 (s .time .0) ∷ [])
     ∷ []
 layoutOf form (R.Dabs d) =
-    (flag (d .test) ∷ fixed 2 0b11 ∷ fixed 1 1 ∷ flag (d .primary) ∷ flag (modeC (d .height)) ∷ flag (d .spi) ∷ flag (d .reinforced)
+    (flag (d .test) ∷ fixed 2 sevenWords ∷ fixed 1 1 ∷ flag (d .primary) ∷ flag (modeC (d .height)) ∷ flag (d .spi) ∷ flag (d .reinforced)
     ∷ flag (d .code7700) ∷ flag (d .code7600) ∷ flag (d .faa) ∷ flag (radar (d .height)) ∷ [])
     ∷ (count 12 (d .range .0 / 2 ^ 3) ∷ [])
     ∷ (rest 3 (d .range .0) ∷ count 9 (d .azimuth .0 / 2 ^ 4) ∷ [])
@@ -81,7 +82,7 @@ layoutOf form (R.Dabs d) =
     ∷ lastWord form (d .height)
     ∷ []
 layoutOf form (R.Atcrbs a) =
-    (flag (a .test) ∷ fixed 2 0b11 ∷ fixed 1 0 ∷ flag (a .mode3a) ∷ flag (modeC (a .height)) ∷ flag (a .spi) ∷ flag (a .reinforced)
+    (flag (a .test) ∷ fixed 2 sevenWords ∷ fixed 1 0 ∷ flag (a .mode3a) ∷ flag (modeC (a .height)) ∷ flag (a .spi) ∷ flag (a .reinforced)
     ∷ flag (a .code7700) ∷ flag (a .code7600) ∷ flag (a .faa) ∷ flag (radar (a .height)) ∷ [])
     ∷ (count 12 (a .range .0 / 2 ^ 3) ∷ [])
     ∷ (rest 3 (a .range .0) ∷ count 9 (a .azimuth .0 / 2 ^ 4) ∷ [])
@@ -91,22 +92,22 @@ layoutOf form (R.Atcrbs a) =
     ∷ lastWord form (a .height)
     ∷ []
 layoutOf form (R.Mtd m) =
-    (flag (m .test) ∷ fixed 2 0b11 ∷ fixed 1 0 ∷ spare 6 ∷ flag (m .faa) ∷ fixed 1 1 ∷ [])
+    (flag (m .test) ∷ fixed 2 sevenWords ∷ fixed 1 0 ∷ spare 6 ∷ flag (m .faa) ∷ fixed 1 1 ∷ [])
     ∷ (count 12 (m .range .0 / 2 ^ 3) ∷ [])
     ∷ (rest 3 (m .range .0) ∷ count 9 (m .azimuth .0 / 2 ^ 4) ∷ [])
     ∷ (rest 4 (m .azimuth .0) ∷ flag (m .aims) ∷ spare 1 ∷ count 6 (m .time .0) ∷ [])
     ∷ (count 6 (m .doppler1) ∷ count 6 (m .doppler2) ∷ [])
     ∷ (count 12 (m .file) ∷ [])
-    ∷ (count 2 (m .quality) ∷ count 4 (m .confidence) ∷ flag (m .«false_target») ∷ flag (m .ground) ∷ spare 1 ∷ fixed 3 0b010 ∷ [])
+    ∷ (count 2 (m .quality) ∷ count 4 (m .confidence) ∷ flag (m .«false_target») ∷ flag (m .ground) ∷ spare 1 ∷ fixed 3 mtdSearchCode ∷ [])
     ∷ []
 layoutOf form (R.Rdas r) =
-    (flag (r .test) ∷ fixed 2 0b11 ∷ fixed 1 0 ∷ spare 6 ∷ flag (r .faa) ∷ fixed 1 1 ∷ [])
+    (flag (r .test) ∷ fixed 2 sevenWords ∷ fixed 1 0 ∷ spare 6 ∷ flag (r .faa) ∷ fixed 1 1 ∷ [])
     ∷ (count 12 (r .range .0 / 2 ^ 3) ∷ [])
     ∷ (rest 3 (r .range .0) ∷ count 9 (r .azimuth .0 / 2 ^ 4) ∷ [])
     ∷ (rest 4 (r .azimuth .0) ∷ flag (r .aims) ∷ spare 1 ∷ count 6 (r .time .0) ∷ [])
     ∷ (spare 12 ∷ [])
     ∷ (count 12 (r .file) ∷ [])
-    ∷ (count 4 (r .quality) ∷ spare 2 ∷ flag (r .«false_target») ∷ spare 2 ∷ fixed 3 0b001 ∷ [])
+    ∷ (count 4 (r .quality) ∷ spare 2 ∷ flag (r .«false_target») ∷ spare 2 ∷ fixed 3 rdasSearchCode ∷ [])
     ∷ []
 
 -- the words of a record
