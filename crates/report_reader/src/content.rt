@@ -1,5 +1,6 @@
-// What words hold, field by field: bit k of a word is `/` and `%` by powers of two, as the definition's `bits` computes it.
-// Private to the crate. Relies on the records and on measures.
+// What words hold, field by field, with the document's bit numbers behind each. A field is where it ends in its word and how many bits it has:
+// `d / BIT_6 % THREE_BITS` ends at bit 6 of the fourth word, which is bit 45 of the report. Words are a to g, first to seventh.
+// Private to the crate. Relies on words for the bits, on the records and on measures.
 ghost use mathlib.Core.Path.{_≡_};
 ghost use mathlib.Core.List.{[], _∷_};
 ghost use Rattle.reports.specs.Records.{searchOf, strobeOf, mapOf, statusOf, rtqcOf, dabsOf, atcrbsOf, mtdOf, rdasOf};
@@ -19,6 +20,10 @@ use reports::Rtqc;
 use reports::Search;
 use reports::Status;
 use reports::Strobe;
+use words::weights::*;
+
+// An address is the only number of more than sixteen bits.
+const ADDRESS_LOWER: u32 = TWELVE_BITS as u32;
 
 // ---- four words
 
@@ -26,15 +31,15 @@ pub fn search_of(a: u16, b: u16, c: u16, d: u16) -> Search
     ensures { λ r. ⌜ r ≡ searchOf (a ∷ b ∷ c ∷ d ∷ []) ⌝ }
 {
     Search {
-        test: a / 4096 % 2 == 1,
-        faa: a / 4 % 2 == 1,
-        af: a / 2 % 2 == 1,
-        range: CoarseRange(b / 4 % 2048),
-        azimuth: CoarseAzimuth(c / 2 % 4096),
-        aims: d / 4096 % 2 == 1,
-        code: (d / 1024 % 4) as u8,
-        run: RunLength((d / 128 % 8) as u8),
-        time: Time((d / 2 % 64) as u8),
+        test: a / BIT_1 % ONE_BIT == 1, // 1
+        faa: a / BIT_11 % ONE_BIT == 1, // 11
+        af: a / BIT_12 % ONE_BIT == 1, // 12
+        range: CoarseRange(b / BIT_11 % ELEVEN_BITS), // 14-24
+        azimuth: CoarseAzimuth(c / BIT_12 % TWELVE_BITS), // 27-38
+        aims: d / BIT_1 % ONE_BIT == 1, // 40
+        code: (d / BIT_3 % TWO_BITS) as u8, // 41-42
+        run: RunLength((d / BIT_6 % THREE_BITS) as u8), // 43-45
+        time: Time((d / BIT_12 % SIX_BITS) as u8), // 46-51
     }
 }
 
@@ -42,13 +47,13 @@ pub fn strobe_of(a: u16, b: u16, c: u16, d: u16) -> Strobe
     ensures { λ r. ⌜ r ≡ strobeOf (a ∷ b ∷ c ∷ d ∷ []) ⌝ }
 {
     Strobe {
-        test: a / 4096 % 2 == 1,
-        faa: a / 4 % 2 == 1,
-        af: a / 2 % 2 == 1,
-        range: CoarseRange(b / 4 % 2048),
-        azimuth: CoarseAzimuth(c / 2 % 4096),
-        run: RunLength((d / 64 % 128) as u8),
-        time: Time((d / 2 % 32) as u8),
+        test: a / BIT_1 % ONE_BIT == 1, // 1
+        faa: a / BIT_11 % ONE_BIT == 1, // 11
+        af: a / BIT_12 % ONE_BIT == 1, // 12
+        range: CoarseRange(b / BIT_11 % ELEVEN_BITS), // 14-24
+        azimuth: CoarseAzimuth(c / BIT_12 % TWELVE_BITS), // 27-38
+        run: RunLength((d / BIT_7 % SEVEN_BITS) as u8), // 40-46
+        time: Time((d / BIT_12 % FIVE_BITS) as u8), // 47-51
     }
 }
 
@@ -56,13 +61,13 @@ pub fn map_of(a: u16, b: u16, c: u16, d: u16) -> Map
     ensures { λ r. ⌜ r ≡ mapOf (a ∷ b ∷ c ∷ d ∷ []) ⌝ }
 {
     Map {
-        test: a / 4096 % 2 == 1,
-        variation: (a / 8 % 4) as u8,
-        faa: a / 4 % 2 == 1,
-        af: a / 2 % 2 == 1,
-        start: CoarseRange(b / 4 % 2048),
-        azimuth: CoarseAzimuth(c / 2 % 4096),
-        stop: CoarseRange(d / 4 % 2048),
+        test: a / BIT_1 % ONE_BIT == 1, // 1
+        variation: (a / BIT_10 % TWO_BITS) as u8, // 9-10
+        faa: a / BIT_11 % ONE_BIT == 1, // 11
+        af: a / BIT_12 % ONE_BIT == 1, // 12
+        start: CoarseRange(b / BIT_11 % ELEVEN_BITS), // 14-24
+        azimuth: CoarseAzimuth(c / BIT_12 % TWELVE_BITS), // 27-38
+        stop: CoarseRange(d / BIT_11 % ELEVEN_BITS), // 40-50
     }
 }
 
@@ -70,12 +75,12 @@ pub fn status_of(a: u16, b: u16, c: u16, d: u16) -> Status
     ensures { λ r. ⌜ r ≡ statusOf (a ∷ b ∷ c ∷ d ∷ []) ⌝ }
 {
     Status {
-        test: a / 4096 % 2 == 1,
-        faa: a / 4 % 2 == 1,
-        af: a / 2 % 2 == 1,
-        second: b / 2 % 4096,
-        third: c / 2 % 4096,
-        fourth: d / 2 % 4096,
+        test: a / BIT_1 % ONE_BIT == 1, // 1
+        faa: a / BIT_11 % ONE_BIT == 1, // 11
+        af: a / BIT_12 % ONE_BIT == 1, // 12
+        second: b / BIT_12 % TWELVE_BITS, // 14-25
+        third: c / BIT_12 % TWELVE_BITS, // 27-38
+        fourth: d / BIT_12 % TWELVE_BITS, // 40-51
     }
 }
 
@@ -83,12 +88,12 @@ pub fn rtqc_of(a: u16, b: u16, c: u16, d: u16) -> Rtqc
     ensures { λ r. ⌜ r ≡ rtqcOf (a ∷ b ∷ c ∷ d ∷ []) ⌝ }
 {
     Rtqc {
-        faa: a / 4 % 2 == 1,
-        af: a / 2 % 2 == 1,
-        range: CoarseRange(b / 4 % 2048),
-        azimuth: CoarseAzimuth(c / 2 % 4096),
-        run: RunLength((d / 64 % 128) as u8),
-        time: Time((d / 2 % 32) as u8),
+        faa: a / BIT_11 % ONE_BIT == 1, // 11
+        af: a / BIT_12 % ONE_BIT == 1, // 12
+        range: CoarseRange(b / BIT_11 % ELEVEN_BITS), // 14-24
+        azimuth: CoarseAzimuth(c / BIT_12 % TWELVE_BITS), // 27-38
+        run: RunLength((d / BIT_7 % SEVEN_BITS) as u8), // 40-46
+        time: Time((d / BIT_12 % FIVE_BITS) as u8), // 47-51
     }
 }
 
@@ -98,19 +103,21 @@ pub fn dabs_of(a: u16, b: u16, c: u16, d: u16, e: u16, f: u16, height: Height) -
     ensures { λ r. ⌜ r ≡ dabsOf (a ∷ b ∷ c ∷ d ∷ e ∷ f ∷ []) height ⌝ }
 {
     Dabs {
-        test: a / 4096 % 2 == 1,
-        primary: a / 256 % 2 == 1,
-        spi: a / 64 % 2 == 1,
-        reinforced: a / 32 % 2 == 1,
-        code7700: a / 16 % 2 == 1,
-        code7600: a / 8 % 2 == 1,
-        faa: a / 4 % 2 == 1,
-        range: FineRange(b / 2 % 4096 * 8 + c / 1024 % 8),
-        azimuth: FineAzimuth(c / 2 % 512 * 16 + d / 512 % 16),
-        alert: d / 256 % 2 == 1,
-        relay: d / 32 % 2 == 1,
-        time: Time((d / 2 % 16) as u8),
-        address: (e / 2 % 4096) as u32 * 4096 + (f / 2 % 4096) as u32,
+        test: a / BIT_1 % ONE_BIT == 1, // 1
+        primary: a / BIT_5 % ONE_BIT == 1, // 5
+        spi: a / BIT_7 % ONE_BIT == 1, // 7
+        reinforced: a / BIT_8 % ONE_BIT == 1, // 8
+        code7700: a / BIT_9 % ONE_BIT == 1, // 9
+        code7600: a / BIT_10 % ONE_BIT == 1, // 10
+        faa: a / BIT_11 % ONE_BIT == 1, // 11
+        range: FineRange(b / BIT_12 % TWELVE_BITS * THREE_BITS + c / BIT_3 % THREE_BITS), // 14-25 and 27-29
+        azimuth: FineAzimuth(c / BIT_12 % NINE_BITS * FOUR_BITS + d / BIT_4 % FOUR_BITS), // 30-38 and 40-43
+        alert: d / BIT_5 % ONE_BIT == 1, // 44
+        relay: d / BIT_8 % ONE_BIT == 1, // 47
+        time: Time((d / BIT_12 % FOUR_BITS) as u8), // 48-51
+        // 53-64 and 66-77
+        address: (e / BIT_12 % TWELVE_BITS) as u32 * ADDRESS_LOWER
+            + (f / BIT_12 % TWELVE_BITS) as u32,
         height,
     }
 }
@@ -119,22 +126,22 @@ pub fn atcrbs_of(a: u16, b: u16, c: u16, d: u16, e: u16, f: u16, height: Height)
     ensures { λ r. ⌜ r ≡ atcrbsOf (a ∷ b ∷ c ∷ d ∷ e ∷ f ∷ []) height ⌝ }
 {
     Atcrbs {
-        test: a / 4096 % 2 == 1,
-        mode3a: a / 256 % 2 == 1,
-        spi: a / 64 % 2 == 1,
-        reinforced: a / 32 % 2 == 1,
-        code7700: a / 16 % 2 == 1,
-        code7600: a / 8 % 2 == 1,
-        faa: a / 4 % 2 == 1,
-        range: FineRange(b / 2 % 4096 * 8 + c / 1024 % 8),
-        azimuth: FineAzimuth(c / 2 % 512 * 16 + d / 512 % 16),
-        confidence: d / 256 % 2 == 1,
-        transition: d / 128 % 2 == 1,
-        false_target: d / 64 % 2 == 1,
-        relay: d / 32 % 2 == 1,
-        time: Time((d / 2 % 16) as u8),
-        code: e / 2 % 4096,
-        file: f / 2 % 4096,
+        test: a / BIT_1 % ONE_BIT == 1, // 1
+        mode3a: a / BIT_5 % ONE_BIT == 1, // 5
+        spi: a / BIT_7 % ONE_BIT == 1, // 7
+        reinforced: a / BIT_8 % ONE_BIT == 1, // 8
+        code7700: a / BIT_9 % ONE_BIT == 1, // 9
+        code7600: a / BIT_10 % ONE_BIT == 1, // 10
+        faa: a / BIT_11 % ONE_BIT == 1, // 11
+        range: FineRange(b / BIT_12 % TWELVE_BITS * THREE_BITS + c / BIT_3 % THREE_BITS), // 14-25 and 27-29
+        azimuth: FineAzimuth(c / BIT_12 % NINE_BITS * FOUR_BITS + d / BIT_4 % FOUR_BITS), // 30-38 and 40-43
+        confidence: d / BIT_5 % ONE_BIT == 1, // 44
+        transition: d / BIT_6 % ONE_BIT == 1, // 45
+        false_target: d / BIT_7 % ONE_BIT == 1, // 46
+        relay: d / BIT_8 % ONE_BIT == 1, // 47
+        time: Time((d / BIT_12 % FOUR_BITS) as u8), // 48-51
+        code: e / BIT_12 % TWELVE_BITS, // 53-64
+        file: f / BIT_12 % TWELVE_BITS, // 66-77
         height,
     }
 }
@@ -143,19 +150,19 @@ pub fn mtd_of(a: u16, b: u16, c: u16, d: u16, e: u16, f: u16, g: u16) -> Mtd
     ensures { λ r. ⌜ r ≡ mtdOf (a ∷ b ∷ c ∷ d ∷ e ∷ f ∷ g ∷ []) ⌝ }
 {
     Mtd {
-        test: a / 4096 % 2 == 1,
-        faa: a / 4 % 2 == 1,
-        range: FineRange(b / 2 % 4096 * 8 + c / 1024 % 8),
-        azimuth: FineAzimuth(c / 2 % 512 * 16 + d / 512 % 16),
-        aims: d / 256 % 2 == 1,
-        time: Time((d / 2 % 64) as u8),
-        doppler1: (e / 128 % 64) as u8,
-        doppler2: (e / 2 % 64) as u8,
-        file: f / 2 % 4096,
-        quality: (g / 2048 % 4) as u8,
-        confidence: (g / 128 % 16) as u8,
-        false_target: g / 64 % 2 == 1,
-        ground: g / 32 % 2 == 1,
+        test: a / BIT_1 % ONE_BIT == 1, // 1
+        faa: a / BIT_11 % ONE_BIT == 1, // 11
+        range: FineRange(b / BIT_12 % TWELVE_BITS * THREE_BITS + c / BIT_3 % THREE_BITS), // 14-25 and 27-29
+        azimuth: FineAzimuth(c / BIT_12 % NINE_BITS * FOUR_BITS + d / BIT_4 % FOUR_BITS), // 30-38 and 40-43
+        aims: d / BIT_5 % ONE_BIT == 1, // 44
+        time: Time((d / BIT_12 % SIX_BITS) as u8), // 46-51
+        doppler1: (e / BIT_6 % SIX_BITS) as u8, // 53-58
+        doppler2: (e / BIT_12 % SIX_BITS) as u8, // 59-64
+        file: f / BIT_12 % TWELVE_BITS, // 66-77
+        quality: (g / BIT_2 % TWO_BITS) as u8, // 79-80
+        confidence: (g / BIT_6 % FOUR_BITS) as u8, // 81-84
+        false_target: g / BIT_7 % ONE_BIT == 1, // 85
+        ground: g / BIT_8 % ONE_BIT == 1, // 86
     }
 }
 
@@ -163,14 +170,14 @@ pub fn rdas_of(a: u16, b: u16, c: u16, d: u16, f: u16, g: u16) -> Rdas
     ensures { λ r. ⌜ r ≡ rdasOf (a ∷ b ∷ c ∷ d ∷ 0 ∷ f ∷ g ∷ []) ⌝ }
 {
     Rdas {
-        test: a / 4096 % 2 == 1,
-        faa: a / 4 % 2 == 1,
-        range: FineRange(b / 2 % 4096 * 8 + c / 1024 % 8),
-        azimuth: FineAzimuth(c / 2 % 512 * 16 + d / 512 % 16),
-        aims: d / 256 % 2 == 1,
-        time: Time((d / 2 % 64) as u8),
-        file: f / 2 % 4096,
-        quality: (g / 512 % 16) as u8,
-        false_target: g / 64 % 2 == 1,
+        test: a / BIT_1 % ONE_BIT == 1, // 1
+        faa: a / BIT_11 % ONE_BIT == 1, // 11
+        range: FineRange(b / BIT_12 % TWELVE_BITS * THREE_BITS + c / BIT_3 % THREE_BITS), // 14-25 and 27-29
+        azimuth: FineAzimuth(c / BIT_12 % NINE_BITS * FOUR_BITS + d / BIT_4 % FOUR_BITS), // 30-38 and 40-43
+        aims: d / BIT_5 % ONE_BIT == 1, // 44
+        time: Time((d / BIT_12 % SIX_BITS) as u8), // 46-51
+        file: f / BIT_12 % TWELVE_BITS, // 66-77
+        quality: (g / BIT_4 % FOUR_BITS) as u8, // 79-82
+        false_target: g / BIT_7 % ONE_BIT == 1, // 85
     }
 }

@@ -15,6 +15,7 @@ use reports::Height;
 use reports::Report;
 use reports::RunAnswer;
 use reports::forms;
+use words::weights::*;
 
 pub mod altitude; // altitude.rt: the altitude of twelve bits
 mod content; // content.rt: what words hold, field by field
@@ -36,8 +37,8 @@ struct FoundHeight {
 fn four_of(a: u16, b: u16, c: u16, d: u16) -> Found
     ensures { λ r. ⌜ r ≡ four (a ∷ b ∷ c ∷ d ∷ []) ⌝ }
 {
-    let pattern = a / 8 % 128;
-    let bit25 = b / 2 % 2;
+    let pattern = a / BIT_10 % SEVEN_BITS; // 4-10
+    let bit25 = b / BIT_12 % ONE_BIT; // 25
     if pattern == forms::SEARCH_PATTERN {
         return Found {
             report: Report::Search(content::search_of(a, b, c, d)),
@@ -64,7 +65,7 @@ fn four_of(a: u16, b: u16, c: u16, d: u16) -> Found
     }
     Found {
         report: Report::Map(content::map_of(a, b, c, d)),
-        spare: bit25 + d / 2 % 2,
+        spare: bit25 + d / BIT_12 % ONE_BIT, // 51
     }
 }
 
@@ -74,43 +75,47 @@ fn four_of(a: u16, b: u16, c: u16, d: u16) -> Found
 fn told_by(a: u16, g: u16) -> u16
     ensures { λ r. ⌜ r ≡ told (a ∷ 0 ∷ 0 ∷ 0 ∷ 0 ∷ 0 ∷ g ∷ []) ⌝ }
 {
-    if a / 2 % 2 == 1 { g / 2 % 8 } else { 8 }
+    if a / BIT_12 % ONE_BIT == 1 {
+        g / BIT_12 % THREE_BITS
+    } else {
+        8
+    }
 }
 
 fn height_of(a: u16, g: u16) -> FoundHeight
     ensures { λ r. ⌜ r ≡ height (a ∷ 0 ∷ 0 ∷ 0 ∷ 0 ∷ 0 ∷ g ∷ []) ⌝ }
 {
     let kind = told_by(a, g);
-    let mode_c = a / 128 % 2 == 1;
+    let mode_c = a / BIT_6 % ONE_BIT == 1; // 6
     if kind == forms::CD_CODE {
-        let run = RunLength((g / 1024 % 8) as u8);
+        let run = RunLength((g / BIT_3 % THREE_BITS) as u8); // 79-81
         return FoundHeight {
             height: Height::Cd { mode_c, run },
-            spare: g / 16 % 64,
+            spare: g / BIT_9 % SIX_BITS, // 82-87
         };
     }
     if kind == forms::MTD_CODE {
-        let quality = (g / 2048 % 4) as u8;
+        let quality = (g / BIT_2 % TWO_BITS) as u8; // 79-80
         return FoundHeight {
             height: Height::Mtd { mode_c, quality },
-            spare: g / 16 % 128,
+            spare: g / BIT_9 % SEVEN_BITS, // 81-87
         };
     }
     if kind == forms::RDAS_CODE {
-        let quality = (g / 512 % 16) as u8;
+        let quality = (g / BIT_4 % FOUR_BITS) as u8; // 79-82
         return FoundHeight {
             height: Height::Rdas { mode_c, quality },
-            spare: g / 16 % 32,
+            spare: g / BIT_9 % FIVE_BITS, // 83-87
         };
     }
-    if a / 128 % 2 == 1 {
+    if a / BIT_6 % ONE_BIT == 1 {
         return FoundHeight {
-            height: Height::Altitude(altitude::altitude_of(g / 2 % 4096)),
+            height: Height::Altitude(altitude::altitude_of(g / BIT_12 % TWELVE_BITS)), // 79-90
             spare: 0,
         };
     }
     FoundHeight {
-        height: Height::Carried(g / 2 % 4096),
+        height: Height::Carried(g / BIT_12 % TWELVE_BITS), // 79-90
         spare: 0,
     }
 }
@@ -121,22 +126,28 @@ fn seven_of(a: u16, b: u16, c: u16, d: u16, e: u16, f: u16, g: u16) -> Found
     let last = height_of(a, g);
     let height = last.height;
     let kind = told_by(a, g);
-    if a / 512 % 2 == 1 {
+    if a / BIT_4 % ONE_BIT == 1 {
         let dabs = content::dabs_of(a, b, c, d, e, f, height);
         return Found {
             report: Report::Dabs(dabs),
-            spare: d / 64 % 4 + last.spare,
+            spare: d / BIT_7 % TWO_BITS + last.spare, // 45-46
         };
     }
     if kind == forms::MTD_SEARCH_CODE {
-        let spare = a / 8 % 64 + d / 128 % 2 + g / 16 % 2;
+        // 5-10, 45 and 87
+        let spare = a / BIT_10 % SIX_BITS + d / BIT_6 % ONE_BIT + g / BIT_9 % ONE_BIT;
         return Found {
             report: Report::Mtd(content::mtd_of(a, b, c, d, e, f, g)),
             spare,
         };
     }
     if kind == forms::RDAS_SEARCH_CODE {
-        let spare = a / 8 % 64 + d / 128 % 2 + e / 2 % 4096 + g / 128 % 4 + g / 16 % 4;
+        // 5-10, 45, 53-64, 83-84 and 86-87
+        let spare = a / BIT_10 % SIX_BITS
+            + d / BIT_6 % ONE_BIT
+            + e / BIT_12 % TWELVE_BITS
+            + g / BIT_6 % TWO_BITS
+            + g / BIT_9 % TWO_BITS;
         return Found {
             report: Report::Rdas(content::rdas_of(a, b, c, d, f, g)),
             spare,
@@ -152,7 +163,7 @@ fn seven_of(a: u16, b: u16, c: u16, d: u16, e: u16, f: u16, g: u16) -> Found
 fn found_of(a: u16, b: u16, c: u16, d: u16, e: u16, f: u16, g: u16) -> Found
     ensures { λ r. ⌜ r ≡ found (a ∷ b ∷ c ∷ d ∷ e ∷ f ∷ g ∷ []) ⌝ }
 {
-    if a / 1024 % 4 == forms::SEVEN_WORDS {
+    if a / BIT_3 % TWO_BITS == forms::SEVEN_WORDS {
         seven_of(a, b, c, d, e, f, g)
     } else {
         four_of(a, b, c, d)
@@ -164,8 +175,8 @@ fn found_of(a: u16, b: u16, c: u16, d: u16, e: u16, f: u16, g: u16) -> Found
 fn is_unknown_form(a: u16) -> bool
     ensures { λ r. ⌜ r ≡ unknownForm (a ∷ []) ⌝ }
 {
-    let pattern = a / 8 % 128;
-    if a / 1024 % 4 == forms::FOUR_WORDS {
+    let pattern = a / BIT_10 % SEVEN_BITS; // 4-10
+    if a / BIT_3 % TWO_BITS == forms::FOUR_WORDS {
         if pattern == forms::SEARCH_PATTERN {
             return false;
         }
@@ -175,18 +186,18 @@ fn is_unknown_form(a: u16) -> bool
         if pattern == forms::STATUS_PATTERN {
             return false;
         }
-        if a / 32 % 32 == forms::MAP_PATTERN {
+        if a / BIT_8 % FIVE_BITS == forms::MAP_PATTERN {
             return false;
         }
         if pattern == forms::RTQC_PATTERN {
-            if a / 4096 % 2 == 1 {
+            if a / BIT_1 % ONE_BIT == 1 {
                 return false;
             }
             return true;
         }
         return true;
     }
-    if a / 1024 % 4 == forms::SEVEN_WORDS {
+    if a / BIT_3 % TWO_BITS == forms::SEVEN_WORDS {
         return false;
     }
     true
@@ -195,7 +206,7 @@ fn is_unknown_form(a: u16) -> bool
 fn word_count(a: u16) -> usize
     ensures { λ r. ⌜ r ≡ wordCount (a ∷ []) ⌝ }
 {
-    if a / 1024 % 4 == forms::SEVEN_WORDS {
+    if a / BIT_3 % TWO_BITS == forms::SEVEN_WORDS {
         7
     } else {
         4
@@ -205,9 +216,9 @@ fn word_count(a: u16) -> usize
 fn is_unassigned(a: u16, g: u16) -> bool
     ensures { λ r. ⌜ r ≡ unassigned (a ∷ 0 ∷ 0 ∷ 0 ∷ 0 ∷ 0 ∷ g ∷ []) ⌝ }
 {
-    let kind = g / 2 % 8;
-    if a / 1024 % 4 == forms::SEVEN_WORDS {
-        if a / 2 % 2 == 1 {
+    let kind = g / BIT_12 % THREE_BITS; // 88-90
+    if a / BIT_3 % TWO_BITS == forms::SEVEN_WORDS {
+        if a / BIT_12 % ONE_BIT == 1 {
             if kind == forms::CD_CODE {
                 return false;
             }
@@ -217,7 +228,7 @@ fn is_unassigned(a: u16, g: u16) -> bool
             if kind == forms::RDAS_CODE {
                 return false;
             }
-            if a / 512 % 2 == 1 {
+            if a / BIT_4 % ONE_BIT == 1 {
                 return true;
             }
             if kind == forms::MTD_SEARCH_CODE {
@@ -236,13 +247,13 @@ fn is_unassigned(a: u16, g: u16) -> bool
 fn is_minus_zero(a: u16, g: u16) -> bool
     ensures { λ r. ⌜ r ≡ minusZero signMagnitude (a ∷ 0 ∷ 0 ∷ 0 ∷ 0 ∷ 0 ∷ g ∷ []) ⌝ }
 {
-    if a / 1024 % 4 == forms::SEVEN_WORDS {
-        if a / 2 % 2 == 1 {
+    if a / BIT_3 % TWO_BITS == forms::SEVEN_WORDS {
+        if a / BIT_12 % ONE_BIT == 1 {
             return false;
         }
-        if a / 128 % 2 == 1 {
-            if g / 2 % 4096 / 2048 == 1 {
-                if g / 2 % 4096 % 2048 == 0 {
+        if a / BIT_6 % ONE_BIT == 1 {
+            if g / BIT_12 % TWELVE_BITS / ELEVEN_BITS == 1 {
+                if g / BIT_12 % TWELVE_BITS % ELEVEN_BITS == 0 {
                     return true;
                 }
                 return false;

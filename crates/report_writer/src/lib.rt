@@ -26,8 +26,10 @@ use reports::Status;
 use reports::Strobe;
 use reports::Written;
 use reports::forms;
+use weights::*;
 
 pub mod altitude; // altitude.rt: the twelve bits of an altitude
+mod weights; // weights.rt: the data bits of a word by name
 
 // The data of a report's words, each 4096 or more where a value in it is too large.
 enum Data {
@@ -35,12 +37,13 @@ enum Data {
     Seven(u32, u32, u32, u32, u32, u32, u32),
 }
 
-const TOO_LARGE: u32 = 4096;
+// What a value that does not fit adds, for each of its field's spans that it overruns: it reaches above the twelve data bits.
+const TOO_LARGE: u32 = TWELVE_BITS;
 
 // The fixed bits that a first word of seven begins with, in their places: bits 2-3, and bit 4, which only DABS has one.
-const SEVEN: u32 = forms::SEVEN_WORDS as u32 * 512;
+const SEVEN: u32 = forms::SEVEN_WORDS as u32 * DATA_3;
 
-const SEVEN_DABS: u32 = SEVEN + 256;
+const SEVEN_DABS: u32 = SEVEN + DATA_4;
 
 fn bit(b: bool) -> u32
     ensures { λ r. ⌜ (r ≡ cond b 1 0) × (r < 2) ⌝ }
@@ -53,14 +56,14 @@ fn whole(n: u32) -> u32
     requires { ⌜ n < 1048577 ⌝ }
     ensures { λ r. ⌜ r ≡ dataOrMore (count 12 n ∷ []) ⌝ }
 {
-    n + TOO_LARGE * (n / 4096)
+    n + TOO_LARGE * (n / TWELVE_BITS)
 }
 
 // The lower twelve bits of a number whose upper bits stand in the word before.
 fn lower_twelve(n: u32) -> u32
     ensures { λ r. ⌜ r ≡ dataOrMore (rest 12 n ∷ []) ⌝ }
 {
-    n % 4096
+    n % TWELVE_BITS
 }
 
 // ---- the words of four
@@ -69,14 +72,18 @@ fn first_of_four(test: bool, pattern: u16, faa: bool, af: bool) -> u32
     requires { ⌜ pattern < 128 ⌝ }
     ensures { λ r. ⌜ r ≡ dataOrMore (flag test ∷ fixed 2 fourWords ∷ fixed 7 pattern ∷ flag faa ∷ flag af ∷ []) ⌝ }
 {
-    bit(test) * 2048 + pattern as u32 * 4 + bit(faa) * 2 + bit(af)
+    bit(test) * DATA_1 + pattern as u32 * DATA_10 + bit(faa) * DATA_11 + bit(af)
 }
 
 fn map_first(test: bool, variation: u8, faa: bool, af: bool) -> u32
     ensures { λ r. ⌜ r ≡ dataOrMore (flag test ∷ fixed 2 fourWords ∷ fixed 5 mapPattern ∷ count 2 variation ∷ flag faa ∷ flag af ∷ []) ⌝ }
 {
     let variation = variation as u32;
-    bit(test) * 2048 + variation * 4 + bit(faa) * 2 + bit(af) + TOO_LARGE * (variation / 4)
+    bit(test) * DATA_1
+        + variation * DATA_10
+        + bit(faa) * DATA_11
+        + bit(af)
+        + TOO_LARGE * (variation / TWO_BITS)
 }
 
 // A range of eleven bits, or a Map's range stop, and a zero.
@@ -84,7 +91,7 @@ fn coarse_range(range: u16) -> u32
     ensures { λ r. ⌜ r ≡ dataOrMore (count 11 range ∷ spare 1 ∷ []) ⌝ }
 {
     let range = range as u32;
-    range * 2 + TOO_LARGE * (range / 2048)
+    range * DATA_11 + TOO_LARGE * (range / ELEVEN_BITS)
 }
 
 fn search_last(aims: bool, code: u8, run: u8, time: u8) -> u32
@@ -93,8 +100,8 @@ fn search_last(aims: bool, code: u8, run: u8, time: u8) -> u32
     let code = code as u32;
     let run = run as u32;
     let time = time as u32;
-    let over = code / 4 + run / 8 + time / 64;
-    bit(aims) * 2048 + code * 512 + run * 64 + time + TOO_LARGE * over
+    let over = code / TWO_BITS + run / THREE_BITS + time / SIX_BITS;
+    bit(aims) * DATA_1 + code * DATA_3 + run * DATA_6 + time + TOO_LARGE * over
 }
 
 fn strobe_last(run: u8, time: u8) -> u32
@@ -102,7 +109,7 @@ fn strobe_last(run: u8, time: u8) -> u32
 {
     let run = run as u32;
     let time = time as u32;
-    run * 32 + time + TOO_LARGE * (run / 128 + time / 32)
+    run * DATA_7 + time + TOO_LARGE * (run / SEVEN_BITS + time / FIVE_BITS)
 }
 
 // ---- the words of seven
@@ -111,26 +118,26 @@ fn strobe_last(run: u8, time: u8) -> u32
 fn radar_first(test: bool, faa: bool) -> u32
     ensures { λ r. ⌜ r ≡ dataOrMore (flag test ∷ fixed 2 sevenWords ∷ fixed 1 0 ∷ spare 6 ∷ flag faa ∷ fixed 1 1 ∷ []) ⌝ }
 {
-    bit(test) * 2048 + SEVEN + bit(faa) * 2 + 1
+    bit(test) * DATA_1 + SEVEN + bit(faa) * DATA_11 + DATA_12
 }
 
 // The end of a range of fifteen bits, and the start of an azimuth of thirteen.
 fn range_azimuth(range: u16, azimuth: u16) -> u32
     ensures { λ r. ⌜ r ≡ dataOrMore (rest 3 range ∷ count 9 (azimuth / 2 ^ 4) ∷ []) ⌝ }
 {
-    let azimuth = (azimuth / 16) as u32;
-    (range % 8) as u32 * 512 + azimuth + TOO_LARGE * (azimuth / 512)
+    let azimuth = azimuth as u32 / FOUR_BITS;
+    range as u32 % THREE_BITS * DATA_3 + azimuth + TOO_LARGE * (azimuth / NINE_BITS)
 }
 
 fn dabs_fourth(azimuth: u16, alert: bool, relay: bool, time: u8) -> u32
     ensures { λ r. ⌜ r ≡ dataOrMore (rest 4 azimuth ∷ flag alert ∷ spare 2 ∷ flag relay ∷ count 4 time ∷ []) ⌝ }
 {
     let time = time as u32;
-    (azimuth % 16) as u32 * 256
-        + bit(alert) * 128
-        + bit(relay) * 16
+    azimuth as u32 % FOUR_BITS * DATA_4
+        + bit(alert) * DATA_5
+        + bit(relay) * DATA_8
         + time
-        + TOO_LARGE * (time / 16)
+        + TOO_LARGE * (time / FOUR_BITS)
 }
 
 fn atcrbs_fourth(
@@ -144,15 +151,18 @@ fn atcrbs_fourth(
     ensures { λ r. ⌜ r ≡ dataOrMore (rest 4 azimuth ∷ flag confidence ∷ flag transition ∷ flag target ∷ flag relay ∷ count 4 time ∷ []) ⌝ }
 {
     let time = time as u32;
-    let flags = bit(confidence) * 128 + bit(transition) * 64 + bit(target) * 32 + bit(relay) * 16;
-    (azimuth % 16) as u32 * 256 + flags + time + TOO_LARGE * (time / 16)
+    let flags = bit(confidence) * DATA_5
+        + bit(transition) * DATA_6
+        + bit(target) * DATA_7
+        + bit(relay) * DATA_8;
+    azimuth as u32 % FOUR_BITS * DATA_4 + flags + time + TOO_LARGE * (time / FOUR_BITS)
 }
 
 fn radar_fourth(azimuth: u16, aims: bool, time: u8) -> u32
     ensures { λ r. ⌜ r ≡ dataOrMore (rest 4 azimuth ∷ flag aims ∷ spare 1 ∷ count 6 time ∷ []) ⌝ }
 {
     let time = time as u32;
-    (azimuth % 16) as u32 * 256 + bit(aims) * 128 + time + TOO_LARGE * (time / 64)
+    azimuth as u32 % FOUR_BITS * DATA_4 + bit(aims) * DATA_5 + time + TOO_LARGE * (time / SIX_BITS)
 }
 
 fn dopplers(first: u8, second: u8) -> u32
@@ -160,7 +170,7 @@ fn dopplers(first: u8, second: u8) -> u32
 {
     let first = first as u32;
     let second = second as u32;
-    first * 64 + second + TOO_LARGE * (first / 64 + second / 64)
+    first * DATA_6 + second + TOO_LARGE * (first / SIX_BITS + second / SIX_BITS)
 }
 
 fn mtd_last(quality: u8, confidence: u8, target: bool, ground: bool) -> u32
@@ -168,11 +178,11 @@ fn mtd_last(quality: u8, confidence: u8, target: bool, ground: bool) -> u32
 {
     let quality = quality as u32;
     let confidence = confidence as u32;
-    let over = quality / 4 + confidence / 16;
-    quality * 1024
-        + confidence * 64
-        + bit(target) * 32
-        + bit(ground) * 16
+    let over = quality / TWO_BITS + confidence / FOUR_BITS;
+    quality * DATA_2
+        + confidence * DATA_6
+        + bit(target) * DATA_7
+        + bit(ground) * DATA_8
         + forms::MTD_SEARCH_CODE as u32
         + TOO_LARGE * over
 }
@@ -181,7 +191,10 @@ fn rdas_last(quality: u8, target: bool) -> u32
     ensures { λ r. ⌜ r ≡ dataOrMore (count 4 quality ∷ spare 2 ∷ flag target ∷ spare 2 ∷ fixed 3 rdasSearchCode ∷ []) ⌝ }
 {
     let quality = quality as u32;
-    quality * 256 + bit(target) * 32 + forms::RDAS_SEARCH_CODE as u32 + TOO_LARGE * (quality / 16)
+    quality * DATA_4
+        + bit(target) * DATA_7
+        + forms::RDAS_SEARCH_CODE as u32
+        + TOO_LARGE * (quality / FOUR_BITS)
 }
 
 // ---- bits 6, 12 and 79 to 90 of DABS and ATCRBS
@@ -221,21 +234,21 @@ fn cd_last(run: u8) -> u32
     ensures { λ r. ⌜ r ≡ dataOrMore (count 3 run ∷ spare 6 ∷ fixed 3 cdCode ∷ []) ⌝ }
 {
     let run = run as u32;
-    run * 512 + forms::CD_CODE as u32 + TOO_LARGE * (run / 8)
+    run * DATA_3 + forms::CD_CODE as u32 + TOO_LARGE * (run / THREE_BITS)
 }
 
 fn mtd_quality_last(quality: u8) -> u32
     ensures { λ r. ⌜ r ≡ dataOrMore (count 2 quality ∷ spare 7 ∷ fixed 3 mtdCode ∷ []) ⌝ }
 {
     let quality = quality as u32;
-    quality * 1024 + forms::MTD_CODE as u32 + TOO_LARGE * (quality / 4)
+    quality * DATA_2 + forms::MTD_CODE as u32 + TOO_LARGE * (quality / TWO_BITS)
 }
 
 fn rdas_quality_last(quality: u8) -> u32
     ensures { λ r. ⌜ r ≡ dataOrMore (count 4 quality ∷ spare 5 ∷ fixed 3 rdasCode ∷ []) ⌝ }
 {
     let quality = quality as u32;
-    quality * 256 + forms::RDAS_CODE as u32 + TOO_LARGE * (quality / 16)
+    quality * DATA_4 + forms::RDAS_CODE as u32 + TOO_LARGE * (quality / FOUR_BITS)
 }
 
 fn height_last(h: Height) -> u32
@@ -254,7 +267,12 @@ fn height_last(h: Height) -> u32
 fn six_flags(b5: bool, b6: bool, b7: bool, b8: bool, b9: bool, b10: bool) -> u32
     ensures { λ r. ⌜ (r ≡ joined (flag b5 ∷ flag b6 ∷ flag b7 ∷ flag b8 ∷ flag b9 ∷ flag b10 ∷ [])) × (r < 64) ⌝ }
 {
-    bit(b5) * 32 + bit(b6) * 16 + bit(b7) * 8 + bit(b8) * 4 + bit(b9) * 2 + bit(b10)
+    bit(b5) * DATA_7
+        + bit(b6) * DATA_8
+        + bit(b7) * DATA_9
+        + bit(b8) * DATA_10
+        + bit(b9) * DATA_11
+        + bit(b10)
 }
 
 fn dabs_first(d: Dabs) -> u32
@@ -269,7 +287,11 @@ fn dabs_first(d: Dabs) -> u32
         d.code7700,
         d.code7600,
     );
-    bit(d.test) * 2048 + SEVEN_DABS + flags * 4 + bit(d.faa) * 2 + bit(radar_of(height))
+    bit(d.test) * DATA_1
+        + SEVEN_DABS
+        + flags * DATA_10
+        + bit(d.faa) * DATA_11
+        + bit(radar_of(height))
 }
 
 fn atcrbs_first(a: Atcrbs) -> u32
@@ -284,7 +306,7 @@ fn atcrbs_first(a: Atcrbs) -> u32
         a.code7700,
         a.code7600,
     );
-    bit(a.test) * 2048 + SEVEN + flags * 4 + bit(a.faa) * 2 + bit(radar_of(height))
+    bit(a.test) * DATA_1 + SEVEN + flags * DATA_10 + bit(a.faa) * DATA_11 + bit(radar_of(height))
 }
 
 // ---- the data of each report
@@ -350,10 +372,10 @@ fn dabs_data(d: Dabs) -> Data
     let height = d.height;
     Data::Seven(
         dabs_first(d),
-        whole((d.range.0 / 8) as u32),
+        whole(d.range.0 as u32 / THREE_BITS),
         range_azimuth(d.range.0, d.azimuth.0),
         dabs_fourth(d.azimuth.0, d.alert, d.relay, d.time.0),
-        whole(d.address / 4096),
+        whole(d.address / TWELVE_BITS),
         lower_twelve(d.address),
         height_last(height),
     )
@@ -373,7 +395,7 @@ fn atcrbs_data(a: Atcrbs) -> Data
     );
     Data::Seven(
         atcrbs_first(a),
-        whole((a.range.0 / 8) as u32),
+        whole(a.range.0 as u32 / THREE_BITS),
         range_azimuth(a.range.0, a.azimuth.0),
         fourth,
         whole(a.code as u32),
@@ -387,7 +409,7 @@ fn mtd_data(m: Mtd) -> Data
 {
     Data::Seven(
         radar_first(m.test, m.faa),
-        whole((m.range.0 / 8) as u32),
+        whole(m.range.0 as u32 / THREE_BITS),
         range_azimuth(m.range.0, m.azimuth.0),
         radar_fourth(m.azimuth.0, m.aims, m.time.0),
         dopplers(m.doppler1, m.doppler2),
@@ -401,7 +423,7 @@ fn rdas_data(r: Rdas) -> Data
 {
     Data::Seven(
         radar_first(r.test, r.faa),
-        whole((r.range.0 / 8) as u32),
+        whole(r.range.0 as u32 / THREE_BITS),
         range_azimuth(r.range.0, r.azimuth.0),
         radar_fourth(r.azimuth.0, r.aims, r.time.0),
         0,
@@ -439,7 +461,7 @@ fn word_of(data: u32) -> u16
 fn four_words(a: u32, b: u32, c: u32, d: u32) -> Written
     ensures { λ r. ⌜ r ≡ fromData (Data.Four a b c d) ⌝ }
 {
-    let over = a / 4096 + b / 4096 + c / 4096 + d / 4096;
+    let over = a / TOO_LARGE + b / TOO_LARGE + c / TOO_LARGE + d / TOO_LARGE;
     if over != 0 {
         return Written::Refused(LineRefusal::ValueTooLarge);
     }
@@ -449,7 +471,13 @@ fn four_words(a: u32, b: u32, c: u32, d: u32) -> Written
 fn seven_words(a: u32, b: u32, c: u32, d: u32, e: u32, f: u32, g: u32) -> Written
     ensures { λ r. ⌜ r ≡ fromData (Data.Seven a b c d e f g) ⌝ }
 {
-    let over = a / 4096 + b / 4096 + c / 4096 + d / 4096 + e / 4096 + f / 4096 + g / 4096;
+    let over = a / TOO_LARGE
+        + b / TOO_LARGE
+        + c / TOO_LARGE
+        + d / TOO_LARGE
+        + e / TOO_LARGE
+        + f / TOO_LARGE
+        + g / TOO_LARGE;
     if over != 0 {
         return Written::Refused(LineRefusal::ValueTooLarge);
     }
