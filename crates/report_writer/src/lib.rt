@@ -5,12 +5,11 @@ ghost use mathlib.Core.Path.{_≡_};
 ghost use mathlib.Core.Bool.{cond};
 ghost use mathlib.Core.List.{[], _∷_};
 ghost use Prim.Native.Nat.{_/_, _<_, _^_};
-ghost use lib.ListN.{getD};
 ghost use Rattle.words.specs.Word.{wordOf};
-ghost use Rattle.words.specs.Layout.{joined, dataOrMore, flag, count, rest, fixed, spare};
+ghost use Rattle.words.specs.Layout.{dataOrMore, flag, count, rest, fixed, spare};
 ghost use Rattle.reports.specs.Altitude.{signMagnitude};
 ghost use Rattle.reports.specs.Forms.{fourWords, sevenWords, mapPattern, cdCode, mtdCode, rdasCode, mtdSearchCode, rdasSearchCode};
-ghost use Rattle.reports.specs.Layouts.{lastWord, modeC, radar, layoutOf, written};
+ghost use Rattle.reports.specs.Layouts.{lastWord, modeC, radar, searchLayout, strobeLayout, mapLayout, statusLayout, rtqcLayout, dabsLayout, atcrbsLayout, mtdLayout, rdasLayout, layoutOf, written};
 ghost use Rattle.report_writer.specs.Data.{dataBy, fromData};
 use refusals::LineRefusal;
 use reports::Atcrbs;
@@ -40,10 +39,8 @@ enum Data {
 // What a value that does not fit adds, for each of its field's spans that it overruns: it reaches above the twelve data bits.
 const TOO_LARGE: u32 = TWELVE_BITS;
 
-// The fixed bits that a first word of seven begins with, in their places: bits 2-3, and bit 4, which only DABS has one.
+// Bits 2-3 of the first word of seven, in their place.
 const SEVEN: u32 = forms::SEVEN_WORDS as u32 * DATA_3;
-
-const SEVEN_DABS: u32 = SEVEN + DATA_4;
 
 fn bit(b: bool) -> u32
     ensures { λ r. ⌜ (r ≡ cond b 1 0) × (r < 2) ⌝ }
@@ -199,33 +196,33 @@ fn rdas_last(quality: u8, target: bool) -> u32
 
 // ---- bits 6, 12 and 79 to 90 of DABS and ATCRBS
 
-fn mode_c_of(h: Height) -> bool
-    ensures { λ r. ⌜ r ≡ modeC h ⌝ }
+fn mode_c_of(h: Height) -> u32
+    ensures { λ r. ⌜ (r ≡ cond (modeC h) 1 0) × (r < 2) ⌝ }
 {
     match h {
-        Height::Altitude(_) => true,
-        Height::Carried(_) => false,
-        Height::Cd { mode_c, run: _ } => mode_c,
-        Height::Mtd { mode_c, quality: _ } => mode_c,
-        Height::Rdas { mode_c, quality: _ } => mode_c,
+        Height::Altitude(_) => 1,
+        Height::Carried(_) => 0,
+        Height::Cd { mode_c, run: _ } => bit(mode_c),
+        Height::Mtd { mode_c, quality: _ } => bit(mode_c),
+        Height::Rdas { mode_c, quality: _ } => bit(mode_c),
     }
 }
 
-fn radar_of(h: Height) -> bool
-    ensures { λ r. ⌜ r ≡ radar h ⌝ }
+fn radar_of(h: Height) -> u32
+    ensures { λ r. ⌜ (r ≡ cond (radar h) 1 0) × (r < 2) ⌝ }
 {
     match h {
-        Height::Altitude(_) => false,
-        Height::Carried(_) => false,
-        Height::Cd { mode_c: _, run: _ } => true,
+        Height::Altitude(_) => 0,
+        Height::Carried(_) => 0,
+        Height::Cd { mode_c: _, run: _ } => 1,
         Height::Mtd {
             mode_c: _,
             quality: _,
-        } => true,
+        } => 1,
         Height::Rdas {
             mode_c: _,
             quality: _,
-        } => true,
+        } => 1,
     }
 }
 
@@ -263,56 +260,30 @@ fn height_last(h: Height) -> u32
     }
 }
 
-// Bits 5 to 10 of DABS and ATCRBS, of which the height tells bit 6.
-fn six_flags(b5: bool, b6: bool, b7: bool, b8: bool, b9: bool, b10: bool) -> u32
-    ensures { λ r. ⌜ (r ≡ joined (flag b5 ∷ flag b6 ∷ flag b7 ∷ flag b8 ∷ flag b9 ∷ flag b10 ∷ [])) × (r < 64) ⌝ }
+// The first word of DABS and of ATCRBS; the height tells bits 6 and 12.
+fn beacon_first(
+    test: bool,
+    dabs: bool,
+    fifth: bool,
+    spi: bool,
+    reinforced: bool,
+    code7700: bool,
+    code7600: bool,
+    faa: bool,
+    height: Height,
+) -> u32
+    ensures { λ r. ⌜ r ≡ dataOrMore (flag test ∷ fixed 2 sevenWords ∷ flag dabs ∷ flag fifth ∷ flag (modeC height) ∷ flag spi ∷ flag reinforced ∷ flag code7700 ∷ flag code7600 ∷ flag faa ∷ flag (radar height) ∷ []) ⌝ }
 {
-    bit(b5) * DATA_7
-        + bit(b6) * DATA_8
-        + bit(b7) * DATA_9
-        + bit(b8) * DATA_10
-        + bit(b9) * DATA_11
-        + bit(b10)
-}
-
-fn dabs_first(d: Dabs) -> u32
-    ensures { λ r. ⌜ r ≡ dataOrMore (getD (layoutOf signMagnitude (Report.Dabs d)) 0 []) ⌝ }
-{
-    let height = d.height;
-    let flags = six_flags(
-        d.primary,
-        mode_c_of(height),
-        d.spi,
-        d.reinforced,
-        d.code7700,
-        d.code7600,
-    );
-    bit(d.test) * DATA_1
-        + SEVEN_DABS
-        + flags * DATA_10
-        + bit(d.faa) * DATA_11
-        + bit(radar_of(height))
-}
-
-fn atcrbs_first(a: Atcrbs) -> u32
-    ensures { λ r. ⌜ r ≡ dataOrMore (getD (layoutOf signMagnitude (Report.Atcrbs a)) 0 []) ⌝ }
-{
-    let height = a.height;
-    let flags = six_flags(
-        a.mode3a,
-        mode_c_of(height),
-        a.spi,
-        a.reinforced,
-        a.code7700,
-        a.code7600,
-    );
-    bit(a.test) * DATA_1 + SEVEN + flags * DATA_10 + bit(a.faa) * DATA_11 + bit(radar_of(height))
+    let first = bit(test) * DATA_1 + SEVEN + bit(dabs) * DATA_4 + bit(fifth) * DATA_5;
+    let middle = mode_c_of(height) * DATA_6 + bit(spi) * DATA_7 + bit(reinforced) * DATA_8;
+    let codes = bit(code7700) * DATA_9 + bit(code7600) * DATA_10;
+    first + middle + codes + bit(faa) * DATA_11 + radar_of(height)
 }
 
 // ---- the data of each report
 
 fn search_data(s: Search) -> Data
-    ensures { λ r. ⌜ r ≡ dataBy (layoutOf signMagnitude (Report.Search s)) ⌝ }
+    ensures { λ r. ⌜ r ≡ dataBy (searchLayout s) ⌝ }
 {
     Data::Four(
         first_of_four(s.test, forms::SEARCH_PATTERN, s.faa, s.af),
@@ -323,7 +294,7 @@ fn search_data(s: Search) -> Data
 }
 
 fn strobe_data(s: Strobe) -> Data
-    ensures { λ r. ⌜ r ≡ dataBy (layoutOf signMagnitude (Report.Strobe s)) ⌝ }
+    ensures { λ r. ⌜ r ≡ dataBy (strobeLayout s) ⌝ }
 {
     Data::Four(
         first_of_four(s.test, forms::STROBE_PATTERN, s.faa, s.af),
@@ -334,7 +305,7 @@ fn strobe_data(s: Strobe) -> Data
 }
 
 fn map_data(m: Map) -> Data
-    ensures { λ r. ⌜ r ≡ dataBy (layoutOf signMagnitude (Report.Map m)) ⌝ }
+    ensures { λ r. ⌜ r ≡ dataBy (mapLayout m) ⌝ }
 {
     Data::Four(
         map_first(m.test, m.variation, m.faa, m.af),
@@ -345,7 +316,7 @@ fn map_data(m: Map) -> Data
 }
 
 fn status_data(s: Status) -> Data
-    ensures { λ r. ⌜ r ≡ dataBy (layoutOf signMagnitude (Report.Status s)) ⌝ }
+    ensures { λ r. ⌜ r ≡ dataBy (statusLayout s) ⌝ }
 {
     Data::Four(
         first_of_four(s.test, forms::STATUS_PATTERN, s.faa, s.af),
@@ -356,7 +327,7 @@ fn status_data(s: Status) -> Data
 }
 
 fn rtqc_data(s: Rtqc) -> Data
-    ensures { λ r. ⌜ r ≡ dataBy (layoutOf signMagnitude (Report.Rtqc s)) ⌝ }
+    ensures { λ r. ⌜ r ≡ dataBy (rtqcLayout s) ⌝ }
 {
     Data::Four(
         first_of_four(true, forms::RTQC_PATTERN, s.faa, s.af),
@@ -367,11 +338,22 @@ fn rtqc_data(s: Rtqc) -> Data
 }
 
 fn dabs_data(d: Dabs) -> Data
-    ensures { λ r. ⌜ r ≡ dataBy (layoutOf signMagnitude (Report.Dabs d)) ⌝ }
+    ensures { λ r. ⌜ r ≡ dataBy (dabsLayout signMagnitude d) ⌝ }
 {
     let height = d.height;
+    let first = beacon_first(
+        d.test,
+        true,
+        d.primary,
+        d.spi,
+        d.reinforced,
+        d.code7700,
+        d.code7600,
+        d.faa,
+        height,
+    );
     Data::Seven(
-        dabs_first(d),
+        first,
         whole(d.range.0 as u32 / THREE_BITS),
         range_azimuth(d.range.0, d.azimuth.0),
         dabs_fourth(d.azimuth.0, d.alert, d.relay, d.time.0),
@@ -382,9 +364,22 @@ fn dabs_data(d: Dabs) -> Data
 }
 
 fn atcrbs_data(a: Atcrbs) -> Data
-    ensures { λ r. ⌜ r ≡ dataBy (layoutOf signMagnitude (Report.Atcrbs a)) ⌝ }
+    ensures { λ r. ⌜ r ≡ dataBy (atcrbsLayout signMagnitude a) ⌝ }
 {
     let height = a.height;
+    let code = whole(a.code as u32);
+    let file = whole(a.file as u32);
+    let first = beacon_first(
+        a.test,
+        false,
+        a.mode3a,
+        a.spi,
+        a.reinforced,
+        a.code7700,
+        a.code7600,
+        a.faa,
+        height,
+    );
     let fourth = atcrbs_fourth(
         a.azimuth.0,
         a.confidence,
@@ -394,18 +389,18 @@ fn atcrbs_data(a: Atcrbs) -> Data
         a.time.0,
     );
     Data::Seven(
-        atcrbs_first(a),
+        first,
         whole(a.range.0 as u32 / THREE_BITS),
         range_azimuth(a.range.0, a.azimuth.0),
         fourth,
-        whole(a.code as u32),
-        whole(a.file as u32),
+        code,
+        file,
         height_last(height),
     )
 }
 
 fn mtd_data(m: Mtd) -> Data
-    ensures { λ r. ⌜ r ≡ dataBy (layoutOf signMagnitude (Report.Mtd m)) ⌝ }
+    ensures { λ r. ⌜ r ≡ dataBy (mtdLayout m) ⌝ }
 {
     Data::Seven(
         radar_first(m.test, m.faa),
@@ -419,7 +414,7 @@ fn mtd_data(m: Mtd) -> Data
 }
 
 fn rdas_data(r: Rdas) -> Data
-    ensures { λ w. ⌜ w ≡ dataBy (layoutOf signMagnitude (Report.Rdas r)) ⌝ }
+    ensures { λ w. ⌜ w ≡ dataBy (rdasLayout r) ⌝ }
 {
     Data::Seven(
         radar_first(r.test, r.faa),

@@ -73,7 +73,7 @@ layout-laid form sound ws h = go (isSeven ws) refl
 
     go : (x : Bool) → isSeven ws ≡ x → LaidFrom 1 (layoutOf form (cond x (sevenOf form ws) (fourOf ws))) ws
     go true s = seven.seven-laid form sound ws (eqb-true _ _ s) (h .assigned) (h .altitude) (eqb-true _ _ (simp s at none))
-    go false s = four.four-laid form ws (eqb-true _ _ (is-four (isFour ws) _ (simp s at (h .known)))) (h .known) (eqb-true _ _ (simp s at none))
+    go false s = four.four-laid ws (eqb-true _ _ (is-four (isFour ws) _ (simp s at (h .known)))) form (h .known) (eqb-true _ _ (simp s at none))
 
 layout-words : (form : AltitudeForm) → Sound form → (ws : List ℕ) → HasLayout form ws → (ws ≡ wordsOf form (reportOf form ws)) × Fits form (reportOf form ws)
 layout-words form sound ws h =
@@ -118,11 +118,11 @@ seven-read form ws r n g h =
     )
 
 laid-read : (form : AltitudeForm) → Sound form → (ws : List ℕ) (r : Report) → AllGood ws → Laid (layoutOf form r) ws → ReadAs form ws r
-laid-read form sound ws (R.Search s) g h = four-read form ws (R.Search s) (h .whole) g (four.search-held form ws s (h .fields))
-laid-read form sound ws (R.Strobe s) g h = four-read form ws (R.Strobe s) (h .whole) g (four.strobe-held form ws s (h .fields))
-laid-read form sound ws (R.Map m) g h = four-read form ws (R.Map m) (h .whole) g (four.map-held form ws m (h .fields))
-laid-read form sound ws (R.Status s) g h = four-read form ws (R.Status s) (h .whole) g (four.status-held form ws s (h .fields))
-laid-read form sound ws (R.Rtqc s) g h = four-read form ws (R.Rtqc s) (h .whole) g (four.rtqc-held form ws s (h .fields))
+laid-read form sound ws (R.Search s) g h = four-read form ws (R.Search s) (h .whole) g (four.search-held ws s (h .fields))
+laid-read form sound ws (R.Strobe s) g h = four-read form ws (R.Strobe s) (h .whole) g (four.strobe-held ws s (h .fields))
+laid-read form sound ws (R.Map m) g h = four-read form ws (R.Map m) (h .whole) g (four.map-held ws m (h .fields))
+laid-read form sound ws (R.Status s) g h = four-read form ws (R.Status s) (h .whole) g (four.status-held ws s (h .fields))
+laid-read form sound ws (R.Rtqc s) g h = four-read form ws (R.Rtqc s) (h .whole) g (four.rtqc-held ws s (h .fields))
 laid-read form sound ws (R.Dabs d) g h = seven-read form ws (R.Dabs d) (h .whole) g (seven.dabs-held form sound ws d (h .fields))
 laid-read form sound ws (R.Atcrbs a) g h = seven-read form ws (R.Atcrbs a) (h .whole) g (seven.atcrbs-held form sound ws a (h .fields))
 laid-read form sound ws (R.Mtd m) g h = seven-read form ws (R.Mtd m) (h .whole) g (seven.mtd-held form sound ws m (h .fields))

@@ -21,7 +21,7 @@ use Rattle.reports.specs.declared.Report.the-variants as R
 use Rattle.reports.specs.Altitude.{AltitudeForm}
 use Rattle.reports.specs.Forms.{fourWords, searchPattern, strobePattern, statusPattern, rtqcPattern, mapPattern, isSearch, isStrobe, isStatus, isMap, hasRtqcPattern}
 use Rattle.reports.specs.Records.{searchOf, strobeOf, mapOf, statusOf, rtqcOf, fourOf}
-use Rattle.reports.specs.Layouts.{layoutOf}
+use Rattle.reports.specs.Layouts.{searchLayout, strobeLayout, mapLayout, statusLayout, rtqcLayout, layoutOf}
 use Rattle.reports.specs.Conditions.{unknownForm, fourZeros}
 use Rattle.reports.proofs.Tests.{by-conds, last-holds, _&_}
 
@@ -31,8 +31,8 @@ rtqc-no-map ws k = ne-eqb (bits ws 4 8) mapPattern (λ e. omega arith)
 
 -- ---- from words to fields: a flag is its bit, a fixed field is what a test found, any other is read as it stands
 
-module _ (form : AltitudeForm) (ws : List ℕ) (two : bits ws 2 3 ≡ fourWords) where
-  search-laid : bits ws 4 10 ≡ searchPattern → bits ws 25 25 ≡ 0 → LaidFrom 1 (layoutOf form (R.Search (searchOf ws))) ws
+module _ (ws : List ℕ) (two : bits ws 2 3 ≡ fourWords) where
+  search-laid : bits ws 4 10 ≡ searchPattern → bits ws 25 25 ≡ 0 → LaidFrom 1 (searchLayout (searchOf ws)) ws
   search-laid k z =
       (flagged _ & two & k & flagged _ & flagged _ & tt)
       & (refl & z & tt)
@@ -40,7 +40,7 @@ module _ (form : AltitudeForm) (ws : List ℕ) (two : bits ws 2 3 ≡ fourWords)
       & (flagged _ & refl & refl & refl & tt)
       & tt
 
-  strobe-laid : bits ws 4 10 ≡ strobePattern → bits ws 25 25 ≡ 0 → LaidFrom 1 (layoutOf form (R.Strobe (strobeOf ws))) ws
+  strobe-laid : bits ws 4 10 ≡ strobePattern → bits ws 25 25 ≡ 0 → LaidFrom 1 (strobeLayout (strobeOf ws)) ws
   strobe-laid k z =
       (flagged _ & two & k & flagged _ & flagged _ & tt)
       & (refl & z & tt)
@@ -48,7 +48,7 @@ module _ (form : AltitudeForm) (ws : List ℕ) (two : bits ws 2 3 ≡ fourWords)
       & (refl & refl & tt)
       & tt
 
-  status-laid : bits ws 4 10 ≡ statusPattern → LaidFrom 1 (layoutOf form (R.Status (statusOf ws))) ws
+  status-laid : bits ws 4 10 ≡ statusPattern → LaidFrom 1 (statusLayout (statusOf ws)) ws
   status-laid k =
       (flagged _ & two & k & flagged _ & flagged _ & tt)
       & (refl & tt)
@@ -56,7 +56,7 @@ module _ (form : AltitudeForm) (ws : List ℕ) (two : bits ws 2 3 ≡ fourWords)
       & (refl & tt)
       & tt
 
-  rtqc-laid : bits ws 1 1 ≡ 1 → bits ws 4 10 ≡ rtqcPattern → bits ws 25 25 ≡ 0 → LaidFrom 1 (layoutOf form (R.Rtqc (rtqcOf ws))) ws
+  rtqc-laid : bits ws 1 1 ≡ 1 → bits ws 4 10 ≡ rtqcPattern → bits ws 25 25 ≡ 0 → LaidFrom 1 (rtqcLayout (rtqcOf ws)) ws
   rtqc-laid one k z =
       (one & two & k & flagged _ & flagged _ & tt)
       & (refl & z & tt)
@@ -64,7 +64,7 @@ module _ (form : AltitudeForm) (ws : List ℕ) (two : bits ws 2 3 ≡ fourWords)
       & (refl & refl & tt)
       & tt
 
-  map-laid : bits ws 4 8 ≡ mapPattern → bits ws 25 25 ≡ 0 → bits ws 51 51 ≡ 0 → LaidFrom 1 (layoutOf form (R.Map (mapOf ws))) ws
+  map-laid : bits ws 4 8 ≡ mapPattern → bits ws 25 25 ≡ 0 → bits ws 51 51 ≡ 0 → LaidFrom 1 (mapLayout (mapOf ws)) ws
   map-laid k z y =
       (flagged _ & two & k & refl & flagged _ & flagged _ & tt)
       & (refl & z & tt)
@@ -80,17 +80,18 @@ module _ (form : AltitudeForm) (ws : List ℕ) (two : bits ws 2 3 ≡ fourWords)
     none : hasRtqcPattern ws ≡ false → bits ws 4 8 ≡ mapPattern
     none n4 = eqb-true _ _ (last-holds (isMap ws) (simp (two, n1, n2, n3, n4) at known))
 
-  abbrev Laid4 : Report → ℕ → Type 0
-  Laid4 r n = n ≡ 0 → LaidFrom 1 (layoutOf form r) ws
-
-  pub four-laid : unknownForm ws ≡ false → Laid4 (fourOf ws) (fourZeros ws)
+  -- whatever the form of the altitude is: no report of four words holds one
+  pub four-laid : (form : AltitudeForm) → unknownForm ws ≡ false → fourZeros ws ≡ 0 → LaidFrom 1 (layoutOf form (fourOf ws)) ws
   unfolding fourOf fourZeros
-  four-laid u =
+  four-laid form u =
       by-conds Laid4 (isSearch ws) (λ k. search-laid (eqb-true _ _ k))
       (λ n1. by-conds Laid4 (isStrobe ws) (λ k. strobe-laid (eqb-true _ _ k))
       (λ n2. by-conds Laid4 (isStatus ws) (λ k z. status-laid (eqb-true _ _ k))
       (λ n3. by-conds Laid4 (hasRtqcPattern ws) (λ k. rtqc-laid (one u n1 n2 n3 k) (eqb-true _ _ k))
       (λ n4 z. map-laid (none u n1 n2 n3 n4) (omega arith) (omega arith)))))
+    where
+      Laid4 : Report → ℕ → Type 0
+      Laid4 r n = n ≡ 0 → LaidFrom 1 (layoutOf form r) ws
 
 -- ---- from fields to words: the tests find the fixed fields, and each field of the record is its bits
 
@@ -105,8 +106,8 @@ pub record Held (ws : List ℕ) (r : Report) : Type 0 where
 not-map : (ws : List ℕ) (n : ℕ) → bits ws 4 8 ≡ mapPattern → 4 ≤ n → eqb (bits ws 4 10) n ≡ false
 not-map ws n z l = ne-eqb (bits ws 4 10) n (λ e. omega arith)
 
-module _ (form : AltitudeForm) (ws : List ℕ) where
-  pub search-held : (s : Search) → LaidFrom 1 (layoutOf form (R.Search s)) ws → Held ws (R.Search s)
+module _ (ws : List ℕ) where
+  pub search-held : (s : Search) → LaidFrom 1 (searchLayout s) ws → Held ws (R.Search s)
   unfolding fourOf fourZeros
   search-held s h =
       let two = h .0 .1 .0 in
@@ -118,7 +119,7 @@ module _ (form : AltitudeForm) (ws : List ℕ) where
         report = simp (k, unflagged, h .0 .0, h .0 .1 .1 .1 .0, h .0 .1 .1 .1 .1 .0, h .1 .0 .0, h .1 .1 .0 .0, h .1 .1 .1 .0 .0, h .1 .1 .1 .0 .1 .0, h .1 .1 .1 .0 .1 .1 .0, h .1 .1 .1 .0 .1 .1 .1 .0);
       }
 
-  pub strobe-held : (s : Strobe) → LaidFrom 1 (layoutOf form (R.Strobe s)) ws → Held ws (R.Strobe s)
+  pub strobe-held : (s : Strobe) → LaidFrom 1 (strobeLayout s) ws → Held ws (R.Strobe s)
   unfolding fourOf fourZeros
   strobe-held s h =
       let two = h .0 .1 .0 in
@@ -130,7 +131,7 @@ module _ (form : AltitudeForm) (ws : List ℕ) where
         report = simp (k, unflagged, h .0 .0, h .0 .1 .1 .1 .0, h .0 .1 .1 .1 .1 .0, h .1 .0 .0, h .1 .1 .0 .0, h .1 .1 .1 .0 .0, h .1 .1 .1 .0 .1 .0);
       }
 
-  pub status-held : (s : Status) → LaidFrom 1 (layoutOf form (R.Status s)) ws → Held ws (R.Status s)
+  pub status-held : (s : Status) → LaidFrom 1 (statusLayout s) ws → Held ws (R.Status s)
   unfolding fourOf fourZeros
   status-held s h =
       let two = h .0 .1 .0 in
@@ -142,7 +143,7 @@ module _ (form : AltitudeForm) (ws : List ℕ) where
         report = simp (k, unflagged, h .0 .0, h .0 .1 .1 .1 .0, h .0 .1 .1 .1 .1 .0, h .1 .0 .0, h .1 .1 .0 .0, h .1 .1 .1 .0 .0);
       }
 
-  pub rtqc-held : (s : Rtqc) → LaidFrom 1 (layoutOf form (R.Rtqc s)) ws → Held ws (R.Rtqc s)
+  pub rtqc-held : (s : Rtqc) → LaidFrom 1 (rtqcLayout s) ws → Held ws (R.Rtqc s)
   unfolding fourOf fourZeros
   rtqc-held s h =
       let two = h .0 .1 .0 in
@@ -154,7 +155,7 @@ module _ (form : AltitudeForm) (ws : List ℕ) where
         report = simp (k, unflagged, h .0 .1 .1 .1 .0, h .0 .1 .1 .1 .1 .0, h .1 .0 .0, h .1 .1 .0 .0, h .1 .1 .1 .0 .0, h .1 .1 .1 .0 .1 .0);
       }
 
-  pub map-held : (m : Map) → LaidFrom 1 (layoutOf form (R.Map m)) ws → Held ws (R.Map m)
+  pub map-held : (m : Map) → LaidFrom 1 (mapLayout m) ws → Held ws (R.Map m)
   unfolding fourOf fourZeros
   map-held m h =
       let two = h .0 .1 .0 in

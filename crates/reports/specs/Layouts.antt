@@ -1,4 +1,5 @@
--- The words of a record: the tables' columns once more, by widths, with a word a line. Definitions only.
+-- The words of a record: the tables' columns once more, by widths, with a word a line. Only DABS and ATCRBS hold an altitude, so only they
+-- take its form. Definitions only.
 use Prim.Native.Nat.{ℕ, _/_, _^_}
 use mathlib.Core.Path.{_≡_}
 use mathlib.Core.Bool.{Bool, true, false, cond}
@@ -7,14 +8,67 @@ use lib.Dec.{eqb}
 use lib.ListN.{length, getD}
 use Rattle.refusals.specs.declared.LineRefusal.the-variants.{ValueTooLarge}
 use Rattle.words.specs.Layout.{Field, flag, count, rest, fixed, spare, wordsBy, fittingBy}
+use Rattle.reports.specs.declared.Search.{Search}
+use Rattle.reports.specs.declared.Strobe.{Strobe}
+use Rattle.reports.specs.declared.Map.{Map}
+use Rattle.reports.specs.declared.Status.{Status}
+use Rattle.reports.specs.declared.Rtqc.{Rtqc}
 use Rattle.reports.specs.declared.Height.{Height}
 use Rattle.reports.specs.declared.Height.the-variants as H
+use Rattle.reports.specs.declared.Dabs.{Dabs}
+use Rattle.reports.specs.declared.Atcrbs.{Atcrbs}
+use Rattle.reports.specs.declared.Mtd.{Mtd}
+use Rattle.reports.specs.declared.Rdas.{Rdas}
 use Rattle.reports.specs.declared.Report.{Report}
 use Rattle.reports.specs.declared.Report.the-variants as R
 use Rattle.reports.specs.declared.Written.{Written}
 use Rattle.reports.specs.declared.Written.the-variants as W
 use Rattle.reports.specs.Altitude.{AltitudeForm}
 use Rattle.reports.specs.Forms.{fourWords, sevenWords, searchPattern, strobePattern, statusPattern, rtqcPattern, mapPattern, cdCode, mtdCode, rdasCode, mtdSearchCode, rdasSearchCode}
+
+-- ---- four words
+
+abbrev pub searchLayout : Search → List (List Field)
+searchLayout s =
+    (flag (s .test) ∷ fixed 2 fourWords ∷ fixed 7 searchPattern ∷ flag (s .faa) ∷ flag (s .af) ∷ [])
+    ∷ (count 11 (s .range .0) ∷ spare 1 ∷ [])
+    ∷ (count 12 (s .azimuth .0) ∷ [])
+    ∷ (flag (s .aims) ∷ count 2 (s .code) ∷ count 3 (s .run .0) ∷ count 6 (s .time .0) ∷ [])
+    ∷ []
+
+abbrev pub strobeLayout : Strobe → List (List Field)
+strobeLayout s =
+    (flag (s .test) ∷ fixed 2 fourWords ∷ fixed 7 strobePattern ∷ flag (s .faa) ∷ flag (s .af) ∷ [])
+    ∷ (count 11 (s .range .0) ∷ spare 1 ∷ [])
+    ∷ (count 12 (s .azimuth .0) ∷ [])
+    ∷ (count 7 (s .run .0) ∷ count 5 (s .time .0) ∷ [])
+    ∷ []
+
+abbrev pub mapLayout : Map → List (List Field)
+mapLayout m =
+    (flag (m .test) ∷ fixed 2 fourWords ∷ fixed 5 mapPattern ∷ count 2 (m .variation) ∷ flag (m .faa) ∷ flag (m .af) ∷ [])
+    ∷ (count 11 (m .start .0) ∷ spare 1 ∷ [])
+    ∷ (count 12 (m .azimuth .0) ∷ [])
+    ∷ (count 11 (m .stop .0) ∷ spare 1 ∷ [])
+    ∷ []
+
+abbrev pub statusLayout : Status → List (List Field)
+statusLayout s =
+    (flag (s .test) ∷ fixed 2 fourWords ∷ fixed 7 statusPattern ∷ flag (s .faa) ∷ flag (s .af) ∷ [])
+    ∷ (count 12 (s .second) ∷ [])
+    ∷ (count 12 (s .third) ∷ [])
+    ∷ (count 12 (s .fourth) ∷ [])
+    ∷ []
+
+abbrev pub rtqcLayout : Rtqc → List (List Field)
+rtqcLayout s =
+    (fixed 1 1 ∷ fixed 2 fourWords ∷ fixed 7 rtqcPattern ∷ flag (s .faa) ∷ flag (s .af) ∷ [])
+    ∷ (count 11 (s .range .0) ∷ spare 1 ∷ [])
+    ∷ (count 12 (s .azimuth .0) ∷ [])
+    ∷ (count 7 (s .run .0) ∷ count 5 (s .time .0) ∷ [])
+    ∷ []
+
+-- ---- seven words
 
 -- bits 79 to 90
 abbrev pub lastWord : AltitudeForm → Height → List Field
@@ -40,38 +94,8 @@ radar (H.Cd c n) = true
 radar (H.Mtd c n) = true
 radar (H.Rdas c n) = true
 
-abbrev pub layoutOf : AltitudeForm → Report → List (List Field)
-layoutOf form (R.Search s) =
-    (flag (s .test) ∷ fixed 2 fourWords ∷ fixed 7 searchPattern ∷ flag (s .faa) ∷ flag (s .af) ∷ [])
-    ∷ (count 11 (s .range .0) ∷ spare 1 ∷ [])
-    ∷ (count 12 (s .azimuth .0) ∷ [])
-    ∷ (flag (s .aims) ∷ count 2 (s .code) ∷ count 3 (s .run .0) ∷ count 6 (s .time .0) ∷ [])
-    ∷ []
-layoutOf form (R.Strobe s) =
-    (flag (s .test) ∷ fixed 2 fourWords ∷ fixed 7 strobePattern ∷ flag (s .faa) ∷ flag (s .af) ∷ [])
-    ∷ (count 11 (s .range .0) ∷ spare 1 ∷ [])
-    ∷ (count 12 (s .azimuth .0) ∷ [])
-    ∷ (count 7 (s .run .0) ∷ count 5 (s .time .0) ∷ [])
-    ∷ []
-layoutOf form (R.Map m) =
-    (flag (m .test) ∷ fixed 2 fourWords ∷ fixed 5 mapPattern ∷ count 2 (m .variation) ∷ flag (m .faa) ∷ flag (m .af) ∷ [])
-    ∷ (count 11 (m .start .0) ∷ spare 1 ∷ [])
-    ∷ (count 12 (m .azimuth .0) ∷ [])
-    ∷ (count 11 (m .stop .0) ∷ spare 1 ∷ [])
-    ∷ []
-layoutOf form (R.Status s) =
-    (flag (s .test) ∷ fixed 2 fourWords ∷ fixed 7 statusPattern ∷ flag (s .faa) ∷ flag (s .af) ∷ [])
-    ∷ (count 12 (s .second) ∷ [])
-    ∷ (count 12 (s .third) ∷ [])
-    ∷ (count 12 (s .fourth) ∷ [])
-    ∷ []
-layoutOf form (R.Rtqc s) =
-    (fixed 1 1 ∷ fixed 2 fourWords ∷ fixed 7 rtqcPattern ∷ flag (s .faa) ∷ flag (s .af) ∷ [])
-    ∷ (count 11 (s .range .0) ∷ spare 1 ∷ [])
-    ∷ (count 12 (s .azimuth .0) ∷ [])
-    ∷ (count 7 (s .run .0) ∷ count 5 (s .time .0) ∷ [])
-    ∷ []
-layoutOf form (R.Dabs d) =
+abbrev pub dabsLayout : AltitudeForm → Dabs → List (List Field)
+dabsLayout form d =
     (flag (d .test) ∷ fixed 2 sevenWords ∷ fixed 1 1 ∷ flag (d .primary) ∷ flag (modeC (d .height)) ∷ flag (d .spi) ∷ flag (d .reinforced)
     ∷ flag (d .code7700) ∷ flag (d .code7600) ∷ flag (d .faa) ∷ flag (radar (d .height)) ∷ [])
     ∷ (count 12 (d .range .0 / 2 ^ 3) ∷ [])
@@ -81,7 +105,9 @@ layoutOf form (R.Dabs d) =
     ∷ (rest 12 (d .address) ∷ [])
     ∷ lastWord form (d .height)
     ∷ []
-layoutOf form (R.Atcrbs a) =
+
+abbrev pub atcrbsLayout : AltitudeForm → Atcrbs → List (List Field)
+atcrbsLayout form a =
     (flag (a .test) ∷ fixed 2 sevenWords ∷ fixed 1 0 ∷ flag (a .mode3a) ∷ flag (modeC (a .height)) ∷ flag (a .spi) ∷ flag (a .reinforced)
     ∷ flag (a .code7700) ∷ flag (a .code7600) ∷ flag (a .faa) ∷ flag (radar (a .height)) ∷ [])
     ∷ (count 12 (a .range .0 / 2 ^ 3) ∷ [])
@@ -91,7 +117,9 @@ layoutOf form (R.Atcrbs a) =
     ∷ (count 12 (a .file) ∷ [])
     ∷ lastWord form (a .height)
     ∷ []
-layoutOf form (R.Mtd m) =
+
+abbrev pub mtdLayout : Mtd → List (List Field)
+mtdLayout m =
     (flag (m .test) ∷ fixed 2 sevenWords ∷ fixed 1 0 ∷ spare 6 ∷ flag (m .faa) ∷ fixed 1 1 ∷ [])
     ∷ (count 12 (m .range .0 / 2 ^ 3) ∷ [])
     ∷ (rest 3 (m .range .0) ∷ count 9 (m .azimuth .0 / 2 ^ 4) ∷ [])
@@ -100,7 +128,9 @@ layoutOf form (R.Mtd m) =
     ∷ (count 12 (m .file) ∷ [])
     ∷ (count 2 (m .quality) ∷ count 4 (m .confidence) ∷ flag (m .«false_target») ∷ flag (m .ground) ∷ spare 1 ∷ fixed 3 mtdSearchCode ∷ [])
     ∷ []
-layoutOf form (R.Rdas r) =
+
+abbrev pub rdasLayout : Rdas → List (List Field)
+rdasLayout r =
     (flag (r .test) ∷ fixed 2 sevenWords ∷ fixed 1 0 ∷ spare 6 ∷ flag (r .faa) ∷ fixed 1 1 ∷ [])
     ∷ (count 12 (r .range .0 / 2 ^ 3) ∷ [])
     ∷ (rest 3 (r .range .0) ∷ count 9 (r .azimuth .0 / 2 ^ 4) ∷ [])
@@ -109,6 +139,19 @@ layoutOf form (R.Rdas r) =
     ∷ (count 12 (r .file) ∷ [])
     ∷ (count 4 (r .quality) ∷ spare 2 ∷ flag (r .«false_target») ∷ spare 2 ∷ fixed 3 rdasSearchCode ∷ [])
     ∷ []
+
+-- ---- every report
+
+abbrev pub layoutOf : AltitudeForm → Report → List (List Field)
+layoutOf form (R.Search s) = searchLayout s
+layoutOf form (R.Strobe s) = strobeLayout s
+layoutOf form (R.Map m) = mapLayout m
+layoutOf form (R.Status s) = statusLayout s
+layoutOf form (R.Rtqc s) = rtqcLayout s
+layoutOf form (R.Dabs d) = dabsLayout form d
+layoutOf form (R.Atcrbs a) = atcrbsLayout form a
+layoutOf form (R.Mtd m) = mtdLayout m
+layoutOf form (R.Rdas r) = rdasLayout r
 
 -- the words of a record
 abbrev pub wordsOf : AltitudeForm → Report → List ℕ
