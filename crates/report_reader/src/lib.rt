@@ -1,9 +1,10 @@
 // A run's words to a report or a refusal. The conditions stand in the order of document 01's table, and each test is one of its rows.
 // Relies on content for the fields; what each test means stands in specs/Conditions.antt of reports.
 ghost use mathlib.Core.Path.{_≡_};
+ghost use mathlib.Core.Bool.{true, false};
 ghost use mathlib.Core.List.{[], _∷_};
 ghost use Rattle.reports.specs.Altitude.{signMagnitude};
-ghost use Rattle.reports.specs.Forms.{told, wordCount};
+ghost use Rattle.reports.specs.Forms.{isFour, isSeven, wordCount, radarCode};
 ghost use Rattle.reports.specs.Conditions.{unknownForm, unassigned, minusZero};
 ghost use Rattle.report_reader.specs.Found.{four, height, seven, found};
 ghost use Rattle.reports.specs.Records.{reportOf};
@@ -35,6 +36,7 @@ struct FoundHeight {
 // ---- four words
 
 fn four_of(a: u16, b: u16, c: u16, d: u16) -> Found
+    requires { ⌜ isFour (a ∷ []) ≡ true ⌝ }
     ensures { λ r. ⌜ r ≡ four (a ∷ b ∷ c ∷ d ∷ []) ⌝ }
 {
     let pattern = a / BIT_10 % SEVEN_BITS; // 4-10
@@ -57,51 +59,53 @@ fn four_of(a: u16, b: u16, c: u16, d: u16) -> Found
             spare: 0,
         };
     }
-    if pattern == forms::RTQC_PATTERN {
+    if a / BIT_8 % FIVE_BITS == forms::MAP_PATTERN {
         return Found {
-            report: Report::Rtqc(content::rtqc_of(a, b, c, d)),
-            spare: bit25,
+            report: Report::Map(content::map_of(a, b, c, d)),
+            spare: bit25 + d / BIT_12 % ONE_BIT, // 51
         };
     }
     Found {
-        report: Report::Map(content::map_of(a, b, c, d)),
-        spare: bit25 + d / BIT_12 % ONE_BIT, // 51
+        report: Report::Rtqc(content::rtqc_of(a, b, c, d)),
+        spare: bit25,
     }
 }
 
 // ---- seven words
 
-// Bits 88 to 90 where bit 12 is one, else 8.
-fn told_by(a: u16, g: u16) -> u16
-    ensures { λ r. ⌜ r ≡ told (a ∷ 0 ∷ 0 ∷ 0 ∷ 0 ∷ 0 ∷ g ∷ []) ⌝ }
+// Bits 88 to 90 where bit 12 is one, else 8, which no three bits are.
+fn radar_code(a: u16, g: u16) -> u16
+    ensures { λ r. ⌜ r ≡ radarCode (a ∷ 0 ∷ 0 ∷ 0 ∷ 0 ∷ 0 ∷ g ∷ []) ⌝ }
 {
-    if a / BIT_12 % ONE_BIT == 1 {
-        g / BIT_12 % THREE_BITS
+    let radar = a / BIT_12 % ONE_BIT; // 12
+    if radar == 1 {
+        g / BIT_12 % THREE_BITS // 88-90
     } else {
-        8
+        THREE_BITS
     }
 }
 
 fn height_of(a: u16, g: u16) -> FoundHeight
+    requires { ⌜ isSeven (a ∷ []) ≡ true ⌝ }
     ensures { λ r. ⌜ r ≡ height (a ∷ 0 ∷ 0 ∷ 0 ∷ 0 ∷ 0 ∷ g ∷ []) ⌝ }
 {
-    let kind = told_by(a, g);
+    let code = radar_code(a, g);
     let mode_c = a / BIT_6 % ONE_BIT == 1; // 6
-    if kind == forms::CD_CODE {
+    if code == forms::CD_CODE {
         let run = RunLength((g / BIT_3 % THREE_BITS) as u8); // 79-81
         return FoundHeight {
             height: Height::Cd { mode_c, run },
             spare: g / BIT_9 % SIX_BITS, // 82-87
         };
     }
-    if kind == forms::MTD_CODE {
+    if code == forms::MTD_CODE {
         let quality = (g / BIT_2 % TWO_BITS) as u8; // 79-80
         return FoundHeight {
             height: Height::Mtd { mode_c, quality },
             spare: g / BIT_9 % SEVEN_BITS, // 81-87
         };
     }
-    if kind == forms::RDAS_CODE {
+    if code == forms::RDAS_CODE {
         let quality = (g / BIT_4 % FOUR_BITS) as u8; // 79-82
         return FoundHeight {
             height: Height::Rdas { mode_c, quality },
@@ -121,11 +125,12 @@ fn height_of(a: u16, g: u16) -> FoundHeight
 }
 
 fn seven_of(a: u16, b: u16, c: u16, d: u16, e: u16, f: u16, g: u16) -> Found
+    requires { ⌜ isSeven (a ∷ []) ≡ true ⌝ }
     ensures { λ r. ⌜ r ≡ seven (a ∷ b ∷ c ∷ d ∷ e ∷ f ∷ g ∷ []) ⌝ }
 {
     let last = height_of(a, g);
     let height = last.height;
-    let kind = told_by(a, g);
+    let code = radar_code(a, g);
     if a / BIT_4 % ONE_BIT == 1 {
         let dabs = content::dabs_of(a, b, c, d, e, f, height);
         return Found {
@@ -133,7 +138,7 @@ fn seven_of(a: u16, b: u16, c: u16, d: u16, e: u16, f: u16, g: u16) -> Found
             spare: d / BIT_7 % TWO_BITS + last.spare, // 45-46
         };
     }
-    if kind == forms::MTD_SEARCH_CODE {
+    if code == forms::MTD_SEARCH_CODE {
         // 5-10, 45 and 87
         let spare = a / BIT_10 % SIX_BITS + d / BIT_6 % ONE_BIT + g / BIT_9 % ONE_BIT;
         return Found {
@@ -141,7 +146,7 @@ fn seven_of(a: u16, b: u16, c: u16, d: u16, e: u16, f: u16, g: u16) -> Found
             spare,
         };
     }
-    if kind == forms::RDAS_SEARCH_CODE {
+    if code == forms::RDAS_SEARCH_CODE {
         // 5-10, 45, 53-64, 83-84 and 86-87
         let spare = a / BIT_10 % SIX_BITS
             + d / BIT_6 % ONE_BIT
@@ -161,6 +166,7 @@ fn seven_of(a: u16, b: u16, c: u16, d: u16, e: u16, f: u16, g: u16) -> Found
 }
 
 fn found_of(a: u16, b: u16, c: u16, d: u16, e: u16, f: u16, g: u16) -> Found
+    requires { ⌜ unknownForm (a ∷ []) ≡ false ⌝ }
     ensures { λ r. ⌜ r ≡ found (a ∷ b ∷ c ∷ d ∷ e ∷ f ∷ g ∷ []) ⌝ }
 {
     if a / BIT_3 % TWO_BITS == forms::SEVEN_WORDS {
@@ -216,25 +222,25 @@ fn word_count(a: u16) -> usize
 fn is_unassigned(a: u16, g: u16) -> bool
     ensures { λ r. ⌜ r ≡ unassigned (a ∷ 0 ∷ 0 ∷ 0 ∷ 0 ∷ 0 ∷ g ∷ []) ⌝ }
 {
-    let kind = g / BIT_12 % THREE_BITS; // 88-90
+    let code = g / BIT_12 % THREE_BITS; // 88-90
     if a / BIT_3 % TWO_BITS == forms::SEVEN_WORDS {
         if a / BIT_12 % ONE_BIT == 1 {
-            if kind == forms::CD_CODE {
+            if code == forms::CD_CODE {
                 return false;
             }
-            if kind == forms::MTD_CODE {
+            if code == forms::MTD_CODE {
                 return false;
             }
-            if kind == forms::RDAS_CODE {
+            if code == forms::RDAS_CODE {
                 return false;
             }
             if a / BIT_4 % ONE_BIT == 1 {
                 return true;
             }
-            if kind == forms::MTD_SEARCH_CODE {
+            if code == forms::MTD_SEARCH_CODE {
                 return false;
             }
-            if kind == forms::RDAS_SEARCH_CODE {
+            if code == forms::RDAS_SEARCH_CODE {
                 return false;
             }
             return true;
@@ -269,6 +275,7 @@ fn is_minus_zero(a: u16, g: u16) -> bool
 
 // The answer to words of a known form, as many as it has.
 fn judge_words(a: u16, b: u16, c: u16, d: u16, e: u16, f: u16, g: u16) -> RunAnswer
+    requires { ⌜ unknownForm (a ∷ []) ≡ false ⌝ }
     ensures { λ r. ⌜ r ≡ firstOf (lastRows signMagnitude (a ∷ b ∷ c ∷ d ∷ e ∷ f ∷ g ∷ [])) (RunAnswer.Accepted (reportOf signMagnitude (a ∷ b ∷ c ∷ d ∷ e ∷ f ∷ g ∷ []))) ⌝ }
 {
     if is_unassigned(a, g) {

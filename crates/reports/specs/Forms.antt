@@ -1,6 +1,7 @@
--- Which form words have, by the bits that tell it (document 01, "Formats and fields"). Definitions only.
+-- Which form words have, by the bits that tell it (document 01, "Formats and fields"). Each test says the whole pattern of its form, so none
+-- leans on what was asked before it. Definitions only.
 use Prim.Native.Nat.{ℕ}
-use mathlib.Core.Bool.{Bool, cond}
+use mathlib.Core.Bool.{Bool, not, cond}
 use mathlib.Core.List.{List, [], _∷_}
 use lib.Dec.{eqb}
 use Rattle.words.specs.Tests.{all}
@@ -49,7 +50,7 @@ mtdSearchCode = 0b010
 abbrev pub rdasSearchCode : ℕ
 rdasSearchCode = 0b001
 
--- ---- how many words
+-- ---- how many words: bits 2-3
 
 abbrev pub isFour : List ℕ → Bool
 isFour ws = eqb (bits ws 2 3) fourWords
@@ -61,50 +62,47 @@ isSeven ws = eqb (bits ws 2 3) sevenWords
 abbrev pub wordCount : List ℕ → ℕ
 wordCount ws = cond (isSeven ws) 7 4
 
--- ---- four words: bits 4-10
+-- ---- four words: bits 2-3 and 4-10
 
 abbrev pub isSearch : List ℕ → Bool
-isSearch ws = eqb (bits ws 4 10) searchPattern
+isSearch ws = all (isFour ws ∷ eqb (bits ws 4 10) searchPattern ∷ [])
 
 abbrev pub isStrobe : List ℕ → Bool
-isStrobe ws = eqb (bits ws 4 10) strobePattern
+isStrobe ws = all (isFour ws ∷ eqb (bits ws 4 10) strobePattern ∷ [])
 
 abbrev pub isStatus : List ℕ → Bool
-isStatus ws = eqb (bits ws 4 10) statusPattern
-
-abbrev pub hasRtqcPattern : List ℕ → Bool
-hasRtqcPattern ws = eqb (bits ws 4 10) rtqcPattern
-
--- bit 1 is one in every RTQC
-abbrev pub isRtqc : List ℕ → Bool
-isRtqc ws = all (hasRtqcPattern ws ∷ bit ws 1 ∷ [])
+isStatus ws = all (isFour ws ∷ eqb (bits ws 4 10) statusPattern ∷ [])
 
 -- 00000vv
 abbrev pub isMap : List ℕ → Bool
-isMap ws = eqb (bits ws 4 8) mapPattern
+isMap ws = all (isFour ws ∷ eqb (bits ws 4 8) mapPattern ∷ [])
 
--- ---- seven words
+-- bit 1 is one in every RTQC
+abbrev pub isRtqc : List ℕ → Bool
+isRtqc ws = all (isFour ws ∷ eqb (bits ws 4 10) rtqcPattern ∷ bit ws 1 ∷ [])
 
--- bit 4
+-- ---- seven words: bits 2-3, bit 4, and with bit 12 one bits 88-90
+
+-- bits 88-90 where bit 12 is one; with bit 12 zero they tell no radar, and this is 8, which no three bits are
+abbrev pub radarCode : List ℕ → ℕ
+radarCode ws = cond (bit ws 12) (bits ws 88 90) 8
+
 abbrev pub isDabs : List ℕ → Bool
-isDabs ws = bit ws 4
-
--- with bit 12 one, bits 88-90 tell; with bit 12 zero they do not, and this is 8, which no three bits are
-abbrev pub told : List ℕ → ℕ
-told ws = cond (bit ws 12) (bits ws 88 90) 8
-
-abbrev pub isCd : List ℕ → Bool
-isCd ws = eqb (told ws) cdCode
-
-abbrev pub isMtd : List ℕ → Bool
-isMtd ws = eqb (told ws) mtdCode
-
-abbrev pub isRdas : List ℕ → Bool
-isRdas ws = eqb (told ws) rdasCode
+isDabs ws = all (isSeven ws ∷ bit ws 4 ∷ [])
 
 -- only when bit 4 is zero
 abbrev pub isMtdSearch : List ℕ → Bool
-isMtdSearch ws = eqb (told ws) mtdSearchCode
+isMtdSearch ws = all (isSeven ws ∷ not (bit ws 4) ∷ eqb (radarCode ws) mtdSearchCode ∷ [])
 
 abbrev pub isRdasSearch : List ℕ → Bool
-isRdasSearch ws = eqb (told ws) rdasSearchCode
+isRdasSearch ws = all (isSeven ws ∷ not (bit ws 4) ∷ eqb (radarCode ws) rdasSearchCode ∷ [])
+
+-- a radar stands in for the height, of DABS and of ATCRBS alike
+abbrev pub isCd : List ℕ → Bool
+isCd ws = all (isSeven ws ∷ eqb (radarCode ws) cdCode ∷ [])
+
+abbrev pub isMtd : List ℕ → Bool
+isMtd ws = all (isSeven ws ∷ eqb (radarCode ws) mtdCode ∷ [])
+
+abbrev pub isRdas : List ℕ → Bool
+isRdas ws = all (isSeven ws ∷ eqb (radarCode ws) rdasCode ∷ [])

@@ -4,6 +4,7 @@ use mathlib.Core.Path.{_≡_, refl, _∙_}
 use mathlib.Core.List.{[], _∷_}
 use Rattle.reports.specs.Records.{fourOf, reportOf}
 use Rattle.reports.specs.Conditions.{fourZeros, zeros}
+use Rattle.reports.proofs.Four.{is-four}
 use Rattle.report_reader.specs.Found.{four}
 use borrow.Author.Needs.{needs}
 use borrow.Author.Tests.{eq-eqb, ne-eqb}
@@ -23,4 +24,4 @@ unfolding reportOf zeros
 returns-2 c = simp (ne-eqb _ _ (c .before .if1 .left)) (c .four-of .ensures ∙ same _ _ _ _ _ _ _)
 
 pub found-of-spec : {M : Type 1} → statement M
-found-of-spec = tie.close (tie.spec (λ c κs. search needs) (λ c κs. search needs) returns returns-2)
+found-of-spec = tie.close (tie.spec (λ c κs. eq-eqb _ _ (c .if1 .taken)) (λ c κs. is-four (c .before .args .a ∷ []) (ne-eqb _ _ (c .if1 .left)) (c .before .pre)) returns returns-2)

@@ -1,4 +1,5 @@
 -- `report_reader::is_unknown_form` meets its contract. Assumes nothing.
+use Rattle.reports.proofs.Four.{four-not-seven}
 use borrow.Author.Needs.{needs}
 use borrow.Author.Tests.{eq-eqb, ne-eqb, lt-ltb, le-ltb}
 use Rattle.report_reader.proofs.is_unknown_form.Statement.{statement}
@@ -20,10 +21,10 @@ returns-5 : tie.Need-returns-5
 returns-5 c = search (needs, eq-eqb, ne-eqb, lt-ltb, le-ltb)
 
 returns-6 : tie.Need-returns-6
-returns-6 c = search (needs, eq-eqb, ne-eqb, lt-ltb, le-ltb)
+returns-6 c = search (needs, eq-eqb, ne-eqb, four-not-seven)
 
 returns-7 : tie.Need-returns-7
-returns-7 c = search (needs, eq-eqb, ne-eqb, lt-ltb, le-ltb)
+returns-7 c = search (needs, eq-eqb, ne-eqb, four-not-seven)
 
 returns-8 : tie.Need-returns-8
 returns-8 c = search (needs, eq-eqb, ne-eqb, lt-ltb, le-ltb)

@@ -30,5 +30,5 @@ judge-spec =
     returns-3
     (λ c κs. search needs)
     returns-4
-    (λ c κs. search needs)
+    (λ c κs. sym (c .before .before .before .is-unknown-form .ensures) ∙ c .before .before .if3 .left)
     returns-5)

@@ -50,19 +50,19 @@ add-t21 c = let s = height-small (c .before .before .before .before .before .arg
 
 returns : tie.Need-returns
 unfolding sevenOf sevenSpares
-returns c = simp (eq-eqb _ _ (c .before .before .if1 .taken)) (dabs _ _ _ (c .before .before .before .before .height-of .ensures ∙ same (c .before .before .before .before .before .args .a) (c .before .before .before .before .before .args .b) (c .before .before .before .before .before .args .c) (c .before .before .before .before .before .args .d) (c .before .before .before .before .before .args .e) (c .before .before .before .before .before .args .f) (c .before .before .before .before .before .args .g)) (c .before .dabs-of .ensures))
+returns c = simp (c .before .before .before .before .before .pre, eq-eqb _ _ (c .before .before .if1 .taken)) (dabs _ _ _ (c .before .before .before .before .height-of .ensures ∙ same (c .before .before .before .before .before .args .a) (c .before .before .before .before .before .args .b) (c .before .before .before .before .before .args .c) (c .before .before .before .before .before .args .d) (c .before .before .before .before .before .args .e) (c .before .before .before .before .before .args .f) (c .before .before .before .before .before .args .g)) (c .before .dabs-of .ensures))
 
 returns-2 : tie.Need-returns-2
 unfolding sevenOf sevenSpares
-returns-2 c = simp (ne-eqb _ _ (c .before .before .if1 .left), eq-eqb _ _ (sym (c .before .before .before .told-by .ensures) ∙ c .before .if2 .taken), c .mtd-of .ensures)
+returns-2 c = simp (c .before .before .before .before .before .pre, ne-eqb _ _ (c .before .before .if1 .left), eq-eqb _ _ (sym (c .before .before .before .radar-code .ensures) ∙ c .before .if2 .taken), c .mtd-of .ensures)
 
 returns-3 : tie.Need-returns-3
 unfolding sevenOf sevenSpares
-returns-3 c = simp (ne-eqb _ _ (c .before .before .before .if1 .left), ne-eqb _ _ (λ e. c .before .before .if2 .left (c .before .before .before .before .told-by .ensures ∙ e)), eq-eqb _ _ (sym (c .before .before .before .before .told-by .ensures) ∙ c .before .if3 .taken), c .rdas-of .ensures)
+returns-3 c = simp (c .before .before .before .before .before .before .pre, ne-eqb _ _ (c .before .before .before .if1 .left), ne-eqb _ _ (λ e. c .before .before .if2 .left (c .before .before .before .before .radar-code .ensures ∙ e)), eq-eqb _ _ (sym (c .before .before .before .before .radar-code .ensures) ∙ c .before .if3 .taken), c .rdas-of .ensures)
 
 returns-4 : tie.Need-returns-4
 unfolding sevenOf sevenSpares
-returns-4 c = simp (ne-eqb _ _ (c .before .before .before .if1 .left), ne-eqb _ _ (λ e. c .before .before .if2 .left (c .before .before .before .before .told-by .ensures ∙ e)), ne-eqb _ _ (λ e. c .before .if3 .left (c .before .before .before .before .told-by .ensures ∙ e))) (atcrbs _ _ _ (c .before .before .before .before .before .height-of .ensures ∙ same (c .before .before .before .before .before .before .args .a) (c .before .before .before .before .before .before .args .b) (c .before .before .before .before .before .before .args .c) (c .before .before .before .before .before .before .args .d) (c .before .before .before .before .before .before .args .e) (c .before .before .before .before .before .before .args .f) (c .before .before .before .before .before .before .args .g)) (c .atcrbs-of .ensures))
+returns-4 c = simp (c .before .before .before .before .before .before .pre, ne-eqb _ _ (c .before .before .before .if1 .left), ne-eqb _ _ (λ e. c .before .before .if2 .left (c .before .before .before .before .radar-code .ensures ∙ e)), ne-eqb _ _ (λ e. c .before .if3 .left (c .before .before .before .before .radar-code .ensures ∙ e))) (atcrbs _ _ _ (c .before .before .before .before .before .height-of .ensures ∙ same (c .before .before .before .before .before .before .args .a) (c .before .before .before .before .before .before .args .b) (c .before .before .before .before .before .before .args .c) (c .before .before .before .before .before .before .args .d) (c .before .before .before .before .before .before .args .e) (c .before .before .before .before .before .before .args .f) (c .before .before .before .before .before .before .args .g)) (c .atcrbs-of .ensures))
 
 pub seven-of-spec : {M : Type 1} → statement M
 seven-of-spec =
