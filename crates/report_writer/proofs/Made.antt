@@ -10,15 +10,16 @@ use lib.Dec.{eqb}
 use lib.ListN.{getD}
 use Rattle.refusals.specs.declared.LineRefusal.the-variants.{ValueTooLarge}
 use Rattle.words.specs.Word.{wordOf}
-use Rattle.words.specs.Layout.{Field, span, joined, fittingAll, dataOrMore, wordsBy, fittingBy, twelveEach}
-use Rattle.words.proofs.Layouts.{both, joined-small, fit-data, unfit-data}
+use Rattle.words.specs.Layout.{Field, span, joined, fittingAll, wordsBy, fittingBy, twelveEach}
+use Rattle.words.proofs.Layouts.{both, joined-small}
 use Rattle.reports.specs.declared.Report.{Report}
 use Rattle.reports.specs.declared.Report.the-variants as R
 use Rattle.reports.specs.declared.Written.the-variants as W
 use Rattle.reports.specs.Altitude.{AltitudeForm}
 use Rattle.reports.specs.Layouts.{layoutOf, asWritten, written}
 use Rattle.reports.proofs.Widths.{twelve}
-use Rattle.report_writer.specs.Data.{dataBy, fromData}
+use Rattle.report_writer.specs.Data.{dataOrMore, dataBy, fromData}
+use Rattle.report_writer.proofs.Overruns.{fit-data, unfit-data}
 
 -- ---- what the numbers have above 4095
 

@@ -6,7 +6,6 @@ use Rattle.reports.specs.Records.{fourOf, reportOf}
 use Rattle.reports.specs.Conditions.{fourZeros, zeros}
 use Rattle.reports.proofs.Four.{is-four}
 use Rattle.report_reader.specs.Found.{four}
-use borrow.Author.Needs.{needs}
 use borrow.Author.Tests.{eq-eqb, ne-eqb}
 use Rattle.report_reader.proofs.found_of.Statement.{statement}
 use Rattle.report_reader.proofs.found_of.Tie as tie

@@ -5,7 +5,8 @@ use mathlib.Core.List.{[], _∷_}
 use lib.IntN.{ℤ}
 use mir.Syntax.{w16}
 use mir.Facts.{toZ-ofZ}
-use Rattle.words.specs.Layout.{count, dataOrMore}
+use Rattle.words.specs.Layout.{count}
+use Rattle.report_writer.specs.Data.{dataOrMore}
 use Rattle.reports.specs.declared.Height.{Height}
 use Rattle.reports.specs.declared.Height.the-variants.{Altitude}
 use Rattle.reports.specs.Altitude.{signMagnitude}
