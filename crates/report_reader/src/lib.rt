@@ -1,12 +1,12 @@
 // A run's words to a report or a refusal. The conditions stand in the order of document 01's table, and each test is one of its rows.
-// Relies on content for the fields; what each test means stands in specs/Conditions.antt of reports.
+// Relies on records for the fields; what each test means stands in specs/Conditions.antt of reports.
 ghost use mathlib.Core.Path.{_≡_};
 ghost use mathlib.Core.Bool.{true, false};
 ghost use mathlib.Core.List.{[], _∷_};
 ghost use Rattle.reports.specs.Altitude.{signMagnitude};
 ghost use Rattle.reports.specs.Forms.{isFour, isSeven, wordCount, radarCode};
 ghost use Rattle.reports.specs.Conditions.{unknownForm, unassigned, minusZero};
-ghost use Rattle.report_reader.specs.Found.{four, height, seven, found};
+ghost use Rattle.report_reader.specs.Content.{fourContent, heightContent, sevenContent, contentOf};
 ghost use Rattle.reports.specs.Records.{reportOf};
 ghost use Rattle.reports.specs.Runs.{lastRows, judged};
 ghost use Rattle.rows.specs.Rows.{firstOf};
@@ -18,55 +18,55 @@ use reports::RunAnswer;
 use reports::forms;
 use words::weights::*;
 
-pub mod altitude; // altitude.rt: the altitude of twelve bits
-mod content; // content.rt: what words hold, field by field
+mod altitude; // altitude.rt: the altitude of twelve bits
+mod records; // records.rt: what words hold, field by field
 
 // A report, and the sum of the bits that are zero in an accepted one.
-struct Found {
+struct Content {
     report: Report,
     spare: u16,
 }
 
 // The same of bits 79 to 90 of DABS and ATCRBS.
-struct FoundHeight {
+struct HeightContent {
     height: Height,
     spare: u16,
 }
 
 // ---- four words
 
-fn four_of(a: u16, b: u16, c: u16, d: u16) -> Found
+fn four_of(a: u16, b: u16, c: u16, d: u16) -> Content
     requires { ⌜ isFour (a ∷ []) ≡ true ⌝ }
-    ensures { λ r. ⌜ r ≡ four (a ∷ b ∷ c ∷ d ∷ []) ⌝ }
+    ensures { λ r. ⌜ r ≡ fourContent (a ∷ b ∷ c ∷ d ∷ []) ⌝ }
 {
     let pattern = a / BIT_10 % SEVEN_BITS; // 4-10
     let bit25 = b / BIT_12 % ONE_BIT; // 25
     if pattern == forms::SEARCH_PATTERN {
-        return Found {
-            report: Report::Search(content::search_of(a, b, c, d)),
+        return Content {
+            report: Report::Search(records::search_of(a, b, c, d)),
             spare: bit25,
         };
     }
     if pattern == forms::STROBE_PATTERN {
-        return Found {
-            report: Report::Strobe(content::strobe_of(a, b, c, d)),
+        return Content {
+            report: Report::Strobe(records::strobe_of(a, b, c, d)),
             spare: bit25,
         };
     }
     if pattern == forms::STATUS_PATTERN {
-        return Found {
-            report: Report::Status(content::status_of(a, b, c, d)),
+        return Content {
+            report: Report::Status(records::status_of(a, b, c, d)),
             spare: 0,
         };
     }
     if a / BIT_8 % FIVE_BITS == forms::MAP_PATTERN {
-        return Found {
-            report: Report::Map(content::map_of(a, b, c, d)),
+        return Content {
+            report: Report::Map(records::map_of(a, b, c, d)),
             spare: bit25 + d / BIT_12 % ONE_BIT, // 51
         };
     }
-    Found {
-        report: Report::Rtqc(content::rtqc_of(a, b, c, d)),
+    Content {
+        report: Report::Rtqc(records::rtqc_of(a, b, c, d)),
         spare: bit25,
     }
 }
@@ -85,55 +85,55 @@ fn radar_code(a: u16, g: u16) -> u16
     }
 }
 
-fn height_of(a: u16, g: u16) -> FoundHeight
+fn height_of(a: u16, g: u16) -> HeightContent
     requires { ⌜ isSeven (a ∷ []) ≡ true ⌝ }
-    ensures { λ r. ⌜ r ≡ height (a ∷ 0 ∷ 0 ∷ 0 ∷ 0 ∷ 0 ∷ g ∷ []) ⌝ }
+    ensures { λ r. ⌜ r ≡ heightContent (a ∷ 0 ∷ 0 ∷ 0 ∷ 0 ∷ 0 ∷ g ∷ []) ⌝ }
 {
     let code = radar_code(a, g);
     let mode_c = a / BIT_6 % ONE_BIT == 1; // 6
     if code == forms::CD_CODE {
         let run = RunLength((g / BIT_3 % THREE_BITS) as u8); // 79-81
-        return FoundHeight {
+        return HeightContent {
             height: Height::Cd { mode_c, run },
             spare: g / BIT_9 % SIX_BITS, // 82-87
         };
     }
     if code == forms::MTD_CODE {
         let quality = (g / BIT_2 % TWO_BITS) as u8; // 79-80
-        return FoundHeight {
+        return HeightContent {
             height: Height::Mtd { mode_c, quality },
             spare: g / BIT_9 % SEVEN_BITS, // 81-87
         };
     }
     if code == forms::RDAS_CODE {
         let quality = (g / BIT_4 % FOUR_BITS) as u8; // 79-82
-        return FoundHeight {
+        return HeightContent {
             height: Height::Rdas { mode_c, quality },
             spare: g / BIT_9 % FIVE_BITS, // 83-87
         };
     }
     if a / BIT_6 % ONE_BIT == 1 {
-        return FoundHeight {
+        return HeightContent {
             height: Height::Altitude(altitude::altitude_of(g / BIT_12 % TWELVE_BITS)), // 79-90
             spare: 0,
         };
     }
-    FoundHeight {
+    HeightContent {
         height: Height::Carried(g / BIT_12 % TWELVE_BITS), // 79-90
         spare: 0,
     }
 }
 
-fn seven_of(a: u16, b: u16, c: u16, d: u16, e: u16, f: u16, g: u16) -> Found
+fn seven_of(a: u16, b: u16, c: u16, d: u16, e: u16, f: u16, g: u16) -> Content
     requires { ⌜ isSeven (a ∷ []) ≡ true ⌝ }
-    ensures { λ r. ⌜ r ≡ seven (a ∷ b ∷ c ∷ d ∷ e ∷ f ∷ g ∷ []) ⌝ }
+    ensures { λ r. ⌜ r ≡ sevenContent (a ∷ b ∷ c ∷ d ∷ e ∷ f ∷ g ∷ []) ⌝ }
 {
     let last = height_of(a, g);
     let height = last.height;
     let code = radar_code(a, g);
     if a / BIT_4 % ONE_BIT == 1 {
-        let dabs = content::dabs_of(a, b, c, d, e, f, height);
-        return Found {
+        let dabs = records::dabs_of(a, b, c, d, e, f, height);
+        return Content {
             report: Report::Dabs(dabs),
             spare: d / BIT_7 % TWO_BITS + last.spare, // 45-46
         };
@@ -141,8 +141,8 @@ fn seven_of(a: u16, b: u16, c: u16, d: u16, e: u16, f: u16, g: u16) -> Found
     if code == forms::MTD_SEARCH_CODE {
         // 5-10, 45 and 87
         let spare = a / BIT_10 % SIX_BITS + d / BIT_6 % ONE_BIT + g / BIT_9 % ONE_BIT;
-        return Found {
-            report: Report::Mtd(content::mtd_of(a, b, c, d, e, f, g)),
+        return Content {
+            report: Report::Mtd(records::mtd_of(a, b, c, d, e, f, g)),
             spare,
         };
     }
@@ -153,21 +153,21 @@ fn seven_of(a: u16, b: u16, c: u16, d: u16, e: u16, f: u16, g: u16) -> Found
             + e / BIT_12 % TWELVE_BITS
             + g / BIT_6 % TWO_BITS
             + g / BIT_9 % TWO_BITS;
-        return Found {
-            report: Report::Rdas(content::rdas_of(a, b, c, d, f, g)),
+        return Content {
+            report: Report::Rdas(records::rdas_of(a, b, c, d, f, g)),
             spare,
         };
     }
-    let atcrbs = content::atcrbs_of(a, b, c, d, e, f, height);
-    Found {
+    let atcrbs = records::atcrbs_of(a, b, c, d, e, f, height);
+    Content {
         report: Report::Atcrbs(atcrbs),
         spare: last.spare,
     }
 }
 
-fn found_of(a: u16, b: u16, c: u16, d: u16, e: u16, f: u16, g: u16) -> Found
+fn content_of(a: u16, b: u16, c: u16, d: u16, e: u16, f: u16, g: u16) -> Content
     requires { ⌜ unknownForm (a ∷ []) ≡ false ⌝ }
-    ensures { λ r. ⌜ r ≡ found (a ∷ b ∷ c ∷ d ∷ e ∷ f ∷ g ∷ []) ⌝ }
+    ensures { λ r. ⌜ r ≡ contentOf (a ∷ b ∷ c ∷ d ∷ e ∷ f ∷ g ∷ []) ⌝ }
 {
     if a / BIT_3 % TWO_BITS == forms::SEVEN_WORDS {
         seven_of(a, b, c, d, e, f, g)
@@ -281,15 +281,15 @@ fn judge_words(a: u16, b: u16, c: u16, d: u16, e: u16, f: u16, g: u16) -> RunAns
     if is_unassigned(a, g) {
         return RunAnswer::Refused(LineRefusal::UnassignedRadar, 0);
     }
-    let found = found_of(a, b, c, d, e, f, g);
-    let spare = found.spare;
+    let content = content_of(a, b, c, d, e, f, g);
+    let spare = content.spare;
     if spare != 0 {
         return RunAnswer::Refused(LineRefusal::SpareBitSet, 0);
     }
     if is_minus_zero(a, g) {
         return RunAnswer::Refused(LineRefusal::MinusZero, 0);
     }
-    let report = found.report;
+    let report = content.report;
     RunAnswer::Accepted(report)
 }
 

@@ -14,7 +14,7 @@ const MINUS: u32 = weights::ELEVEN_BITS;
 const NO_BITS: u32 = weights::TWELVE_BITS;
 
 // The magnitude of an altitude.
-pub fn magnitude(z: i16) -> u32
+fn magnitude(z: i16) -> u32
     ensures { λ r. ⌜ r ≡ natAbs z ⌝ }
 {
     if z < 0 {
@@ -25,7 +25,7 @@ pub fn magnitude(z: i16) -> u32
     }
 }
 
-pub fn is_negative(z: i16) -> bool
+fn is_negative(z: i16) -> bool
     ensures { λ r. ⌜ r ≡ negative z ⌝ }
 {
     z < 0

@@ -27,7 +27,7 @@ use reports::Written;
 use reports::forms;
 use weights::*;
 
-pub mod altitude; // altitude.rt: the twelve bits of an altitude
+mod altitude; // altitude.rt: the twelve bits of an altitude
 mod weights; // weights.rt: the data bits of a word by name
 
 // The data of a report's words, each 4096 or more where a value in it is too large.

@@ -10,43 +10,38 @@ use Rattle.reports.specs.declared.Strobe.{Strobe}
 use Rattle.reports.specs.declared.Map.{Map}
 use Rattle.reports.specs.declared.Status.{Status}
 use Rattle.reports.specs.declared.Rtqc.{Rtqc}
-use Rattle.reports.specs.declared.Report.{Report}
 use Rattle.reports.specs.declared.Report.the-variants as R
-use Rattle.report_reader.specs.declared.Found.{Found}
 use Rattle.reports.specs.Forms.{searchPattern, strobePattern, statusPattern, mapPattern, isFour}
 use Rattle.reports.specs.Records.{searchOf, strobeOf, mapOf, statusOf, rtqcOf, fourOf}
 use Rattle.reports.specs.Conditions.{fourZeros}
-use Rattle.report_reader.specs.Found.{four}
+use Rattle.report_reader.specs.Content.{content, fourContent}
 use borrow.Author.Needs.{needs}
 use borrow.Author.Tests.{eq-eqb, ne-eqb}
 use Rattle.report_reader.proofs.four_of.Statement.{statement}
 use Rattle.report_reader.proofs.four_of.Tie as tie
 
-abbrev found : Report → ℕ → Found
-found r n = record { report = r; spare = n }
-
 -- the tests of four words, of which each was answered
 module _ (ws : List ℕ) (f : isFour ws ≡ true) where
-  search-read : eqb (bits ws 4 10) searchPattern ≡ true → (r : Search) → r ≡ searchOf ws → found (R.Search r) (bits ws 25 25) ≡ four ws
+  search-read : eqb (bits ws 4 10) searchPattern ≡ true → (r : Search) → r ≡ searchOf ws → content (R.Search r) (bits ws 25 25) ≡ fourContent ws
   unfolding fourOf fourZeros
   search-read k r e = simp (f, k, e)
 
   module _ (n1 : eqb (bits ws 4 10) searchPattern ≡ false) where
-    strobe-read : eqb (bits ws 4 10) strobePattern ≡ true → (r : Strobe) → r ≡ strobeOf ws → found (R.Strobe r) (bits ws 25 25) ≡ four ws
+    strobe-read : eqb (bits ws 4 10) strobePattern ≡ true → (r : Strobe) → r ≡ strobeOf ws → content (R.Strobe r) (bits ws 25 25) ≡ fourContent ws
     unfolding fourOf fourZeros
     strobe-read k r e = simp (f, n1, k, e)
 
     module _ (n2 : eqb (bits ws 4 10) strobePattern ≡ false) where
-      status-read : eqb (bits ws 4 10) statusPattern ≡ true → (r : Status) → r ≡ statusOf ws → found (R.Status r) 0 ≡ four ws
+      status-read : eqb (bits ws 4 10) statusPattern ≡ true → (r : Status) → r ≡ statusOf ws → content (R.Status r) 0 ≡ fourContent ws
       unfolding fourOf fourZeros
       status-read k r e = simp (f, n1, n2, k, e)
 
       module _ (n3 : eqb (bits ws 4 10) statusPattern ≡ false) where
-        map-read : eqb (bits ws 4 8) mapPattern ≡ true → (r : Map) → r ≡ mapOf ws → found (R.Map r) (bits ws 25 25 + bits ws 51 51) ≡ four ws
+        map-read : eqb (bits ws 4 8) mapPattern ≡ true → (r : Map) → r ≡ mapOf ws → content (R.Map r) (bits ws 25 25 + bits ws 51 51) ≡ fourContent ws
         unfolding fourOf fourZeros
         map-read k r e = simp (f, n1, n2, n3, k, e)
 
-        rtqc-read : eqb (bits ws 4 8) mapPattern ≡ false → (r : Rtqc) → r ≡ rtqcOf ws → found (R.Rtqc r) (bits ws 25 25) ≡ four ws
+        rtqc-read : eqb (bits ws 4 8) mapPattern ≡ false → (r : Rtqc) → r ≡ rtqcOf ws → content (R.Rtqc r) (bits ws 25 25) ≡ fourContent ws
         unfolding fourOf fourZeros
         rtqc-read k r e = simp (f, n1, n2, n3, k, e)
 

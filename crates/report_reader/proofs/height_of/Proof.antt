@@ -4,7 +4,7 @@ use lib.IntN.{ℤ}
 use mir.Facts.{toZ-ofZ}
 use mir.Syntax.{w16}
 use Rattle.reports.specs.declared.Height.the-variants.{Altitude}
-use Rattle.report_reader.specs.declared.FoundHeight.{FoundHeight}
+use Rattle.report_reader.specs.declared.HeightContent.{HeightContent}
 use Rattle.reports.specs.Records.{heightOf}
 use Rattle.reports.specs.Conditions.{heightSpares}
 use borrow.Author.Needs.{needs}
@@ -12,7 +12,7 @@ use borrow.Author.Tests.{eq-eqb, ne-eqb}
 use Rattle.report_reader.proofs.height_of.Statement.{statement}
 use Rattle.report_reader.proofs.height_of.Tie as tie
 
-abbrev plain : ℤ → FoundHeight
+abbrev plain : ℤ → HeightContent
 plain z = record { height = Altitude z; spare = 0 }
 
 returns : tie.Need-returns

@@ -7,22 +7,20 @@ use native.Mathlib.Omega.{arith}
 use Rattle.words.specs.Word.{bits}
 use Rattle.reports.specs.declared.Dabs.{Dabs}
 use Rattle.reports.specs.declared.Atcrbs.{Atcrbs}
-use Rattle.reports.specs.declared.Report.{Report}
 use Rattle.reports.specs.declared.Report.the-variants as R
-use Rattle.report_reader.specs.declared.Found.{Found}
-use Rattle.report_reader.specs.declared.FoundHeight.{FoundHeight}
+use Rattle.report_reader.specs.declared.HeightContent.{HeightContent}
 use Rattle.reports.specs.Altitude.{signMagnitude}
 use Rattle.reports.specs.Forms.{isCd, isMtd, isRdas}
 use Rattle.reports.specs.Records.{heightOf, dabsOf, atcrbsOf, sevenOf}
 use Rattle.reports.specs.Conditions.{heightSpares, sevenSpares}
-use Rattle.report_reader.specs.Found.{height}
+use Rattle.report_reader.specs.Content.{content, heightContent}
 use borrow.Author.Needs.{needs}
 use borrow.Author.Tests.{eq-eqb, ne-eqb}
 use Rattle.report_reader.proofs.seven_of.Statement.{statement}
 use Rattle.report_reader.proofs.seven_of.Tie as tie
 
 -- the words between are not read
-same : (a b c d e f g : ℕ) → height (a ∷ 0 ∷ 0 ∷ 0 ∷ 0 ∷ 0 ∷ g ∷ []) ≡ height (a ∷ b ∷ c ∷ d ∷ e ∷ f ∷ g ∷ [])
+same : (a b c d e f g : ℕ) → heightContent (a ∷ 0 ∷ 0 ∷ 0 ∷ 0 ∷ 0 ∷ g ∷ []) ≡ heightContent (a ∷ b ∷ c ∷ d ∷ e ∷ f ∷ g ∷ [])
 unfolding heightOf heightSpares
 same a b c d e f g = refl
 
@@ -34,19 +32,16 @@ height-small : (ws : List ℕ) → heightSpares ws < 128
 unfolding heightSpares
 height-small ws = pick-small (isCd ws) (omega arith) (pick-small (isMtd ws) (omega arith) (pick-small (isRdas ws) (omega arith) (omega arith)))
 
-abbrev found : Report → ℕ → Found
-found r n = record { report = r; spare = n }
-
-dabs : (ws : List ℕ) (h : FoundHeight) (r : Dabs) → h ≡ height ws → r ≡ dabsOf ws (h .height)
-    → found (R.Dabs r) (bits ws 45 46 + h .spare) ≡ found (R.Dabs (dabsOf ws (heightOf signMagnitude ws))) (bits ws 45 46 + heightSpares ws)
+dabs : (ws : List ℕ) (h : HeightContent) (r : Dabs) → h ≡ heightContent ws → r ≡ dabsOf ws (h .height)
+    → content (R.Dabs r) (bits ws 45 46 + h .spare) ≡ content (R.Dabs (dabsOf ws (heightOf signMagnitude ws))) (bits ws 45 46 + heightSpares ws)
 dabs ws h r p q = rw (q, p)
 
-atcrbs : (ws : List ℕ) (h : FoundHeight) (r : Atcrbs) → h ≡ height ws → r ≡ atcrbsOf ws (h .height)
-    → found (R.Atcrbs r) (h .spare) ≡ found (R.Atcrbs (atcrbsOf ws (heightOf signMagnitude ws))) (heightSpares ws)
+atcrbs : (ws : List ℕ) (h : HeightContent) (r : Atcrbs) → h ≡ heightContent ws → r ≡ atcrbsOf ws (h .height)
+    → content (R.Atcrbs r) (h .spare) ≡ content (R.Atcrbs (atcrbsOf ws (heightOf signMagnitude ws))) (heightSpares ws)
 atcrbs ws h r p q = rw (q, p)
 
 add-t21 : tie.Need-add-t21
-add-t21 c = let s = height-small (c .before .before .before .before .before .args .a ∷ 0 ∷ 0 ∷ 0 ∷ 0 ∷ 0 ∷ c .before .before .before .before .before .args .g ∷ []) in omega (arith, ap (λ (x : FoundHeight). x .spare) (c .before .before .before .before .height-of .ensures))
+add-t21 c = let s = height-small (c .before .before .before .before .before .args .a ∷ 0 ∷ 0 ∷ 0 ∷ 0 ∷ 0 ∷ c .before .before .before .before .before .args .g ∷ []) in omega (arith, ap (λ (x : HeightContent). x .spare) (c .before .before .before .before .height-of .ensures))
 
 returns : tie.Need-returns
 unfolding sevenOf sevenSpares
