@@ -27,24 +27,33 @@ minus ws h7 h8 h9 = simp (h7, h8, h9)
 last : (ws : List ℕ) → unassigned ws ≡ false → zeros ws ≡ 0 → minusZero signMagnitude ws ≡ false → (x : Content) → x ≡ contentOf ws → Accepted (x .report) ≡ answered ws
 last ws h7 h8 h9 x p = simp (h7, h8, h9) (ap (λ (y : Content). Accepted (y .report)) p)
 
-returns : tie.Need-returns
-returns c = simp (sym (c .before .is-unassigned .ensures) ∙ c .if1 .taken)
-
 returns-2 : tie.Need-returns-2
 returns-2 c = simp (sym (c .before .before .before .is-unassigned .ensures) ∙ c .before .before .if1 .left, ne-eqb _ _ (λ e. c .if2 .taken (ap (λ (x : Content). x .spare) (c .before .content-of .ensures) ∙ e)))
 
 returns-3 : tie.Need-returns-3
-returns-3 c = minus (c .before .before .before .before .before .before .args .a ∷ c .before .before .before .before .before .before .args .b ∷ c .before .before .before .before .before .before .args .c ∷ c .before .before .before .before .before .before .args .d ∷ c .before .before .before .before .before .before .args .e ∷ c .before .before .before .before .before .before .args .f ∷ c .before .before .before .before .before .before .args .g ∷ []) (sym (c .before .before .before .before .before .is-unassigned .ensures) ∙ c .before .before .before .before .if1 .left) (sym (ap (λ (x : Content). x .spare) (c .before .before .before .content-of .ensures)) ∙ c .before .before .if2 .left) (sym (c .before .is-minus-zero .ensures) ∙ c .if3 .taken)
+returns-3 c =
+    let s = c .before .before .before .before .before .before in
+    minus (s .args .a ∷ s .args .b ∷ s .args .c ∷ s .args .d ∷ s .args .e ∷ s .args .f ∷ s .args .g ∷ [])
+    (sym (c .before .before .before .before .before .is-unassigned .ensures) ∙ c .before .before .before .before .if1 .left)
+    (sym (ap (λ (x : Content). x .spare) (c .before .before .before .content-of .ensures)) ∙ c .before .before .if2 .left)
+    (sym (c .before .is-minus-zero .ensures) ∙ c .if3 .taken)
 
 returns-4 : tie.Need-returns-4
-returns-4 c = last (c .before .before .before .before .before .before .args .a ∷ c .before .before .before .before .before .before .args .b ∷ c .before .before .before .before .before .before .args .c ∷ c .before .before .before .before .before .before .args .d ∷ c .before .before .before .before .before .before .args .e ∷ c .before .before .before .before .before .before .args .f ∷ c .before .before .before .before .before .before .args .g ∷ []) (sym (c .before .before .before .before .before .is-unassigned .ensures) ∙ c .before .before .before .before .if1 .left) (sym (ap (λ (x : Content). x .spare) (c .before .before .before .content-of .ensures)) ∙ c .before .before .if2 .left) (sym (c .before .is-minus-zero .ensures) ∙ c .if3 .left) (c .before .before .before .content-of .result) (c .before .before .before .content-of .ensures)
+returns-4 c =
+    let s = c .before .before .before .before .before .before in
+    last (s .args .a ∷ s .args .b ∷ s .args .c ∷ s .args .d ∷ s .args .e ∷ s .args .f ∷ s .args .g ∷ [])
+    (sym (c .before .before .before .before .before .is-unassigned .ensures) ∙ c .before .before .before .before .if1 .left)
+    (sym (ap (λ (x : Content). x .spare) (c .before .before .before .content-of .ensures)) ∙ c .before .before .if2 .left)
+    (sym (c .before .is-minus-zero .ensures) ∙ c .if3 .left)
+    (c .before .before .before .content-of .result)
+    (c .before .before .before .content-of .ensures)
 
 pub judge-words-spec : {M : Type 1} → statement M
 judge-words-spec =
     tie.close
     (tie.spec
     (λ c κs. search needs)
-    returns
+    (λ c. simp (sym (c .before .is-unassigned .ensures) ∙ c .if1 .taken))
     (λ c κs. search needs)
     returns-2
     (λ c κs. search needs)

@@ -1,6 +1,6 @@
 -- `report_reader::seven_of` meets its contract: each return rewrites with the tests that led there. Assumes nothing.
 use Prim.Native.Nat.{ℕ, _+_, _<_}
-use mathlib.Core.Path.{_≡_, refl, ap, sym, _∙_}
+use mathlib.Core.Path.{_≡_, refl, ap, _∙_}
 use mathlib.Core.Bool.{Bool, true, false, cond}
 use mathlib.Core.List.{List, [], _∷_}
 use native.Mathlib.Omega.{arith}
@@ -16,6 +16,7 @@ use Rattle.reports.specs.Conditions.{heightSpares, sevenSpares}
 use Rattle.report_reader.specs.Content.{content, heightContent}
 use borrow.Author.Needs.{needs}
 use borrow.Author.Tests.{eq-eqb, ne-eqb}
+use Rattle.report_reader.proofs.Tests.{is-by, not-by}
 use Rattle.report_reader.proofs.seven_of.Statement.{statement}
 use Rattle.report_reader.proofs.seven_of.Tie as tie
 
@@ -41,23 +42,37 @@ atcrbs : (ws : List ℕ) (h : HeightContent) (r : Atcrbs) → h ≡ heightConten
 atcrbs ws h r p q = rw (q, p)
 
 add-t21 : tie.Need-add-t21
-add-t21 c = let s = height-small (c .before .before .before .before .before .args .a ∷ 0 ∷ 0 ∷ 0 ∷ 0 ∷ 0 ∷ c .before .before .before .before .before .args .g ∷ []) in omega (arith, ap (λ (x : HeightContent). x .spare) (c .before .before .before .before .height-of .ensures))
+add-t21 c =
+    let s = c .before .before .before .before .before in
+    let h = height-small (s .args .a ∷ 0 ∷ 0 ∷ 0 ∷ 0 ∷ 0 ∷ s .args .g ∷ []) in
+    omega (arith, ap (λ (x : HeightContent). x .spare) (c .before .before .before .before .height-of .ensures))
 
 returns : tie.Need-returns
 unfolding sevenOf sevenSpares
-returns c = simp (c .before .before .before .before .before .pre, eq-eqb _ _ (c .before .before .if1 .taken)) (dabs _ _ _ (c .before .before .before .before .height-of .ensures ∙ same (c .before .before .before .before .before .args .a) (c .before .before .before .before .before .args .b) (c .before .before .before .before .before .args .c) (c .before .before .before .before .before .args .d) (c .before .before .before .before .before .args .e) (c .before .before .before .before .before .args .f) (c .before .before .before .before .before .args .g)) (c .before .dabs-of .ensures))
+returns c =
+    let s = c .before .before .before .before .before in
+    simp (s .pre, eq-eqb _ _ (c .before .before .if1 .taken))
+    (dabs _ _ _ (c .before .before .before .before .height-of .ensures ∙ same (s .args .a) (s .args .b) (s .args .c) (s .args .d) (s .args .e) (s .args .f) (s .args .g)) (c .before .dabs-of .ensures))
 
 returns-2 : tie.Need-returns-2
 unfolding sevenOf sevenSpares
-returns-2 c = simp (c .before .before .before .before .before .pre, ne-eqb _ _ (c .before .before .if1 .left), eq-eqb _ _ (sym (c .before .before .before .radar-code .ensures) ∙ c .before .if2 .taken), c .mtd-of .ensures)
+returns-2 c =
+    let e = c .before .before .before .radar-code .ensures in
+    simp (c .before .before .before .before .before .pre, ne-eqb _ _ (c .before .before .if1 .left), is-by _ e (c .before .if2 .taken), c .mtd-of .ensures)
 
 returns-3 : tie.Need-returns-3
 unfolding sevenOf sevenSpares
-returns-3 c = simp (c .before .before .before .before .before .before .pre, ne-eqb _ _ (c .before .before .before .if1 .left), ne-eqb _ _ (λ e. c .before .before .if2 .left (c .before .before .before .before .radar-code .ensures ∙ e)), eq-eqb _ _ (sym (c .before .before .before .before .radar-code .ensures) ∙ c .before .if3 .taken), c .rdas-of .ensures)
+returns-3 c =
+    let e = c .before .before .before .before .radar-code .ensures in
+    simp (c .before .before .before .before .before .before .pre, ne-eqb _ _ (c .before .before .before .if1 .left), not-by _ e (c .before .before .if2 .left), is-by _ e (c .before .if3 .taken), c .rdas-of .ensures)
 
 returns-4 : tie.Need-returns-4
 unfolding sevenOf sevenSpares
-returns-4 c = simp (c .before .before .before .before .before .before .pre, ne-eqb _ _ (c .before .before .before .if1 .left), ne-eqb _ _ (λ e. c .before .before .if2 .left (c .before .before .before .before .radar-code .ensures ∙ e)), ne-eqb _ _ (λ e. c .before .if3 .left (c .before .before .before .before .radar-code .ensures ∙ e))) (atcrbs _ _ _ (c .before .before .before .before .before .height-of .ensures ∙ same (c .before .before .before .before .before .before .args .a) (c .before .before .before .before .before .before .args .b) (c .before .before .before .before .before .before .args .c) (c .before .before .before .before .before .before .args .d) (c .before .before .before .before .before .before .args .e) (c .before .before .before .before .before .before .args .f) (c .before .before .before .before .before .before .args .g)) (c .atcrbs-of .ensures))
+returns-4 c =
+    let s = c .before .before .before .before .before .before in
+    let e = c .before .before .before .before .radar-code .ensures in
+    simp (s .pre, ne-eqb _ _ (c .before .before .before .if1 .left), not-by _ e (c .before .before .if2 .left), not-by _ e (c .before .if3 .left))
+    (atcrbs _ _ _ (c .before .before .before .before .before .height-of .ensures ∙ same (s .args .a) (s .args .b) (s .args .c) (s .args .d) (s .args .e) (s .args .f) (s .args .g)) (c .atcrbs-of .ensures))
 
 pub seven-of-spec : {M : Type 1} → statement M
 seven-of-spec =

@@ -11,15 +11,6 @@ use Rattle.report_writer.proofs.mode_c_of.Tie as tie
 abbrev sixth : Height → ℕ
 sixth h = cond (modeC h) 1 0
 
-returns-3 : tie.Need-returns-3
-returns-3 c = (c .bit .ensures .0 ∙ sym (ap sixth (c .before .before .h .given .1)), c .bit .ensures .1)
-
-returns-4 : tie.Need-returns-4
-returns-4 c = (c .bit2 .ensures .0 ∙ sym (ap sixth (c .before .before .h2 .given .1)), c .bit2 .ensures .1)
-
-returns-5 : tie.Need-returns-5
-returns-5 c = (c .bit3 .ensures .0 ∙ sym (ap sixth (c .before .before .h3 .given .1)), c .bit3 .ensures .1)
-
 pub mode-c-of-spec : {M : Type 1} → statement M
 mode-c-of-spec =
     tie.close
@@ -34,6 +25,6 @@ mode-c-of-spec =
     (λ c κs. search needs)
     (λ c. search needs)
     (λ c. search needs)
-    returns-3
-    returns-4
-    returns-5)
+    (λ c. (c .bit .ensures .0 ∙ sym (ap sixth (c .before .before .h .given .1)), c .bit .ensures .1))
+    (λ c. (c .bit2 .ensures .0 ∙ sym (ap sixth (c .before .before .h2 .given .1)), c .bit2 .ensures .1))
+    (λ c. (c .bit3 .ensures .0 ∙ sym (ap sixth (c .before .before .h3 .given .1)), c .bit3 .ensures .1)))
