@@ -1,156 +1,175 @@
 // A run's words to a report or a refusal. The conditions stand in the order of document 01's table, and each test is one of its rows.
-// Relies on content for the fields; what each test means stands in specs/Conditions.antt of reports.
+// Relies on records for the fields; what each test means stands in specs/Conditions.antt of reports.
 ghost use mathlib.Core.Path.{_≡_};
+ghost use mathlib.Core.Bool.{true, false};
 ghost use mathlib.Core.List.{[], _∷_};
 ghost use Rattle.reports.specs.Altitude.{signMagnitude};
-ghost use Rattle.reports.specs.Forms.{told, wordCount};
+ghost use Rattle.reports.specs.Forms.{isFour, isSeven, wordCount, radarCode};
 ghost use Rattle.reports.specs.Conditions.{unknownForm, unassigned, minusZero};
-ghost use Rattle.report_reader.specs.Found.{four, height, seven, found};
+ghost use Rattle.report_reader.specs.Content.{fourContent, heightContent, sevenContent, contentOf};
 ghost use Rattle.reports.specs.Records.{reportOf};
-ghost use Rattle.reports.specs.Runs.{firstHit, lastRows, judged};
+ghost use Rattle.reports.specs.Runs.{lastRows, judged};
+ghost use Rattle.rows.specs.Rows.{firstOf};
 use measures::RunLength;
 use refusals::LineRefusal;
 use reports::Height;
 use reports::Report;
 use reports::RunAnswer;
+use reports::forms;
+use words::weights::*;
 
-pub mod altitude; // altitude.rt: the altitude of twelve bits
-mod content; // content.rt: what words hold, field by field
+mod altitude; // altitude.rt: the altitude of twelve bits
+mod records; // records.rt: what words hold, field by field
 
 // A report, and the sum of the bits that are zero in an accepted one.
-struct Found {
+struct Content {
     report: Report,
     spare: u16,
 }
 
 // The same of bits 79 to 90 of DABS and ATCRBS.
-struct FoundHeight {
+struct HeightContent {
     height: Height,
     spare: u16,
 }
 
 // ---- four words
 
-fn four_of(a: u16, b: u16, c: u16, d: u16) -> Found
-    ensures { λ r. ⌜ r ≡ four (a ∷ b ∷ c ∷ d ∷ []) ⌝ }
+fn four_of(a: u16, b: u16, c: u16, d: u16) -> Content
+    requires { ⌜ isFour (a ∷ []) ≡ true ⌝ }
+    ensures { λ r. ⌜ r ≡ fourContent (a ∷ b ∷ c ∷ d ∷ []) ⌝ }
 {
-    let pattern = a / 8 % 128;
-    let bit25 = b / 2 % 2;
-    if pattern == 0b1101100 {
-        return Found {
-            report: Report::Search(content::search_of(a, b, c, d)),
+    let pattern = a / BIT_10 % SEVEN_BITS; // 4-10
+    let bit25 = b / BIT_12 % ONE_BIT; // 25
+    if pattern == forms::SEARCH_PATTERN {
+        return Content {
+            report: Report::Search(records::search_of(a, b, c, d)),
             spare: bit25,
         };
     }
-    if pattern == 0b1100000 {
-        return Found {
-            report: Report::Strobe(content::strobe_of(a, b, c, d)),
+    if pattern == forms::STROBE_PATTERN {
+        return Content {
+            report: Report::Strobe(records::strobe_of(a, b, c, d)),
             spare: bit25,
         };
     }
-    if pattern == 0b0110000 {
-        return Found {
-            report: Report::Status(content::status_of(a, b, c, d)),
+    if pattern == forms::STATUS_PATTERN {
+        return Content {
+            report: Report::Status(records::status_of(a, b, c, d)),
             spare: 0,
         };
     }
-    if pattern == 0b1001000 {
-        return Found {
-            report: Report::Rtqc(content::rtqc_of(a, b, c, d)),
-            spare: bit25,
+    if a / BIT_8 % FIVE_BITS == forms::MAP_PATTERN {
+        return Content {
+            report: Report::Map(records::map_of(a, b, c, d)),
+            spare: bit25 + d / BIT_12 % ONE_BIT, // 51
         };
     }
-    Found {
-        report: Report::Map(content::map_of(a, b, c, d)),
-        spare: bit25 + d / 2 % 2,
+    Content {
+        report: Report::Rtqc(records::rtqc_of(a, b, c, d)),
+        spare: bit25,
     }
 }
 
 // ---- seven words
 
-// Bits 88 to 90 where bit 12 is one, else 8.
-fn told_by(a: u16, g: u16) -> u16
-    ensures { λ r. ⌜ r ≡ told (a ∷ 0 ∷ 0 ∷ 0 ∷ 0 ∷ 0 ∷ g ∷ []) ⌝ }
+// Bits 88 to 90 where bit 12 is one, else 8, which no three bits are.
+fn radar_code(a: u16, g: u16) -> u16
+    ensures { λ r. ⌜ r ≡ radarCode (a ∷ 0 ∷ 0 ∷ 0 ∷ 0 ∷ 0 ∷ g ∷ []) ⌝ }
 {
-    if a / 2 % 2 == 1 { g / 2 % 8 } else { 8 }
+    let radar = a / BIT_12 % ONE_BIT; // 12
+    if radar == 1 {
+        g / BIT_12 % THREE_BITS // 88-90
+    } else {
+        THREE_BITS
+    }
 }
 
-fn height_of(a: u16, g: u16) -> FoundHeight
-    ensures { λ r. ⌜ r ≡ height (a ∷ 0 ∷ 0 ∷ 0 ∷ 0 ∷ 0 ∷ g ∷ []) ⌝ }
+fn height_of(a: u16, g: u16) -> HeightContent
+    requires { ⌜ isSeven (a ∷ []) ≡ true ⌝ }
+    ensures { λ r. ⌜ r ≡ heightContent (a ∷ 0 ∷ 0 ∷ 0 ∷ 0 ∷ 0 ∷ g ∷ []) ⌝ }
 {
-    let kind = told_by(a, g);
-    let mode_c = a / 128 % 2 == 1;
-    if kind == 0b100 {
-        let run = RunLength((g / 1024 % 8) as u8);
-        return FoundHeight {
+    let code = radar_code(a, g);
+    let mode_c = a / BIT_6 % ONE_BIT == 1; // 6
+    if code == forms::CD_CODE {
+        let run = RunLength((g / BIT_3 % THREE_BITS) as u8); // 79-81
+        return HeightContent {
             height: Height::Cd { mode_c, run },
-            spare: g / 16 % 64,
+            spare: g / BIT_9 % SIX_BITS, // 82-87
         };
     }
-    if kind == 0b110 {
-        let quality = (g / 2048 % 4) as u8;
-        return FoundHeight {
+    if code == forms::MTD_CODE {
+        let quality = (g / BIT_2 % TWO_BITS) as u8; // 79-80
+        return HeightContent {
             height: Height::Mtd { mode_c, quality },
-            spare: g / 16 % 128,
+            spare: g / BIT_9 % SEVEN_BITS, // 81-87
         };
     }
-    if kind == 0b101 {
-        let quality = (g / 512 % 16) as u8;
-        return FoundHeight {
+    if code == forms::RDAS_CODE {
+        let quality = (g / BIT_4 % FOUR_BITS) as u8; // 79-82
+        return HeightContent {
             height: Height::Rdas { mode_c, quality },
-            spare: g / 16 % 32,
+            spare: g / BIT_9 % FIVE_BITS, // 83-87
         };
     }
-    if a / 128 % 2 == 1 {
-        return FoundHeight {
-            height: Height::Altitude(altitude::altitude_of(g / 2 % 4096)),
+    if a / BIT_6 % ONE_BIT == 1 {
+        return HeightContent {
+            height: Height::Altitude(altitude::altitude_of(g / BIT_12 % TWELVE_BITS)), // 79-90
             spare: 0,
         };
     }
-    FoundHeight {
-        height: Height::Carried(g / 2 % 4096),
+    HeightContent {
+        height: Height::Carried(g / BIT_12 % TWELVE_BITS), // 79-90
         spare: 0,
     }
 }
 
-fn seven_of(a: u16, b: u16, c: u16, d: u16, e: u16, f: u16, g: u16) -> Found
-    ensures { λ r. ⌜ r ≡ seven (a ∷ b ∷ c ∷ d ∷ e ∷ f ∷ g ∷ []) ⌝ }
+fn seven_of(a: u16, b: u16, c: u16, d: u16, e: u16, f: u16, g: u16) -> Content
+    requires { ⌜ isSeven (a ∷ []) ≡ true ⌝ }
+    ensures { λ r. ⌜ r ≡ sevenContent (a ∷ b ∷ c ∷ d ∷ e ∷ f ∷ g ∷ []) ⌝ }
 {
     let last = height_of(a, g);
     let height = last.height;
-    let kind = told_by(a, g);
-    if a / 512 % 2 == 1 {
-        let dabs = content::dabs_of(a, b, c, d, e, f, height);
-        return Found {
+    let code = radar_code(a, g);
+    if a / BIT_4 % ONE_BIT == 1 {
+        let dabs = records::dabs_of(a, b, c, d, e, f, height);
+        return Content {
             report: Report::Dabs(dabs),
-            spare: d / 64 % 4 + last.spare,
+            spare: d / BIT_7 % TWO_BITS + last.spare, // 45-46
         };
     }
-    if kind == 0b010 {
-        let spare = a / 8 % 64 + d / 128 % 2 + g / 16 % 2;
-        return Found {
-            report: Report::Mtd(content::mtd_of(a, b, c, d, e, f, g)),
+    if code == forms::MTD_SEARCH_CODE {
+        // 5-10, 45 and 87
+        let spare = a / BIT_10 % SIX_BITS + d / BIT_6 % ONE_BIT + g / BIT_9 % ONE_BIT;
+        return Content {
+            report: Report::Mtd(records::mtd_of(a, b, c, d, e, f, g)),
             spare,
         };
     }
-    if kind == 0b001 {
-        let spare = a / 8 % 64 + d / 128 % 2 + e / 2 % 4096 + g / 128 % 4 + g / 16 % 4;
-        return Found {
-            report: Report::Rdas(content::rdas_of(a, b, c, d, f, g)),
+    if code == forms::RDAS_SEARCH_CODE {
+        // 5-10, 45, 53-64, 83-84 and 86-87
+        let spare = a / BIT_10 % SIX_BITS
+            + d / BIT_6 % ONE_BIT
+            + e / BIT_12 % TWELVE_BITS
+            + g / BIT_6 % TWO_BITS
+            + g / BIT_9 % TWO_BITS;
+        return Content {
+            report: Report::Rdas(records::rdas_of(a, b, c, d, f, g)),
             spare,
         };
     }
-    let atcrbs = content::atcrbs_of(a, b, c, d, e, f, height);
-    Found {
+    let atcrbs = records::atcrbs_of(a, b, c, d, e, f, height);
+    Content {
         report: Report::Atcrbs(atcrbs),
         spare: last.spare,
     }
 }
 
-fn found_of(a: u16, b: u16, c: u16, d: u16, e: u16, f: u16, g: u16) -> Found
-    ensures { λ r. ⌜ r ≡ found (a ∷ b ∷ c ∷ d ∷ e ∷ f ∷ g ∷ []) ⌝ }
+fn content_of(a: u16, b: u16, c: u16, d: u16, e: u16, f: u16, g: u16) -> Content
+    requires { ⌜ unknownForm (a ∷ []) ≡ false ⌝ }
+    ensures { λ r. ⌜ r ≡ contentOf (a ∷ b ∷ c ∷ d ∷ e ∷ f ∷ g ∷ []) ⌝ }
 {
-    if a / 1024 % 4 == 0b11 {
+    if a / BIT_3 % TWO_BITS == forms::SEVEN_WORDS {
         seven_of(a, b, c, d, e, f, g)
     } else {
         four_of(a, b, c, d)
@@ -162,29 +181,29 @@ fn found_of(a: u16, b: u16, c: u16, d: u16, e: u16, f: u16, g: u16) -> Found
 fn is_unknown_form(a: u16) -> bool
     ensures { λ r. ⌜ r ≡ unknownForm (a ∷ []) ⌝ }
 {
-    let pattern = a / 8 % 128;
-    if a / 1024 % 4 == 0b00 {
-        if pattern == 0b1101100 {
+    let pattern = a / BIT_10 % SEVEN_BITS; // 4-10
+    if a / BIT_3 % TWO_BITS == forms::FOUR_WORDS {
+        if pattern == forms::SEARCH_PATTERN {
             return false;
         }
-        if pattern == 0b1100000 {
+        if pattern == forms::STROBE_PATTERN {
             return false;
         }
-        if pattern == 0b0110000 {
+        if pattern == forms::STATUS_PATTERN {
             return false;
         }
-        if a / 32 % 32 == 0b00000 {
+        if a / BIT_8 % FIVE_BITS == forms::MAP_PATTERN {
             return false;
         }
-        if pattern == 0b1001000 {
-            if a / 4096 % 2 == 1 {
+        if pattern == forms::RTQC_PATTERN {
+            if a / BIT_1 % ONE_BIT == 1 {
                 return false;
             }
             return true;
         }
         return true;
     }
-    if a / 1024 % 4 == 0b11 {
+    if a / BIT_3 % TWO_BITS == forms::SEVEN_WORDS {
         return false;
     }
     true
@@ -193,31 +212,35 @@ fn is_unknown_form(a: u16) -> bool
 fn word_count(a: u16) -> usize
     ensures { λ r. ⌜ r ≡ wordCount (a ∷ []) ⌝ }
 {
-    if a / 1024 % 4 == 0b11 { 7 } else { 4 }
+    if a / BIT_3 % TWO_BITS == forms::SEVEN_WORDS {
+        7
+    } else {
+        4
+    }
 }
 
 fn is_unassigned(a: u16, g: u16) -> bool
     ensures { λ r. ⌜ r ≡ unassigned (a ∷ 0 ∷ 0 ∷ 0 ∷ 0 ∷ 0 ∷ g ∷ []) ⌝ }
 {
-    let kind = g / 2 % 8;
-    if a / 1024 % 4 == 0b11 {
-        if a / 2 % 2 == 1 {
-            if kind == 0b100 {
+    let code = g / BIT_12 % THREE_BITS; // 88-90
+    if a / BIT_3 % TWO_BITS == forms::SEVEN_WORDS {
+        if a / BIT_12 % ONE_BIT == 1 {
+            if code == forms::CD_CODE {
                 return false;
             }
-            if kind == 0b110 {
+            if code == forms::MTD_CODE {
                 return false;
             }
-            if kind == 0b101 {
+            if code == forms::RDAS_CODE {
                 return false;
             }
-            if a / 512 % 2 == 1 {
+            if a / BIT_4 % ONE_BIT == 1 {
                 return true;
             }
-            if kind == 0b010 {
+            if code == forms::MTD_SEARCH_CODE {
                 return false;
             }
-            if kind == 0b001 {
+            if code == forms::RDAS_SEARCH_CODE {
                 return false;
             }
             return true;
@@ -230,13 +253,13 @@ fn is_unassigned(a: u16, g: u16) -> bool
 fn is_minus_zero(a: u16, g: u16) -> bool
     ensures { λ r. ⌜ r ≡ minusZero signMagnitude (a ∷ 0 ∷ 0 ∷ 0 ∷ 0 ∷ 0 ∷ g ∷ []) ⌝ }
 {
-    if a / 1024 % 4 == 0b11 {
-        if a / 2 % 2 == 1 {
+    if a / BIT_3 % TWO_BITS == forms::SEVEN_WORDS {
+        if a / BIT_12 % ONE_BIT == 1 {
             return false;
         }
-        if a / 128 % 2 == 1 {
-            if g / 2 % 4096 / 2048 == 1 {
-                if g / 2 % 4096 % 2048 == 0 {
+        if a / BIT_6 % ONE_BIT == 1 {
+            if g / BIT_12 % TWELVE_BITS / ELEVEN_BITS == 1 {
+                if g / BIT_12 % TWELVE_BITS % ELEVEN_BITS == 0 {
                     return true;
                 }
                 return false;
@@ -252,20 +275,21 @@ fn is_minus_zero(a: u16, g: u16) -> bool
 
 // The answer to words of a known form, as many as it has.
 fn judge_words(a: u16, b: u16, c: u16, d: u16, e: u16, f: u16, g: u16) -> RunAnswer
-    ensures { λ r. ⌜ r ≡ firstHit (lastRows signMagnitude (a ∷ b ∷ c ∷ d ∷ e ∷ f ∷ g ∷ [])) (RunAnswer.Accepted (reportOf signMagnitude (a ∷ b ∷ c ∷ d ∷ e ∷ f ∷ g ∷ []))) ⌝ }
+    requires { ⌜ unknownForm (a ∷ []) ≡ false ⌝ }
+    ensures { λ r. ⌜ r ≡ firstOf (lastRows signMagnitude (a ∷ b ∷ c ∷ d ∷ e ∷ f ∷ g ∷ [])) (RunAnswer.Accepted (reportOf signMagnitude (a ∷ b ∷ c ∷ d ∷ e ∷ f ∷ g ∷ []))) ⌝ }
 {
     if is_unassigned(a, g) {
         return RunAnswer::Refused(LineRefusal::UnassignedRadar, 0);
     }
-    let found = found_of(a, b, c, d, e, f, g);
-    let spare = found.spare;
+    let content = content_of(a, b, c, d, e, f, g);
+    let spare = content.spare;
     if spare != 0 {
         return RunAnswer::Refused(LineRefusal::SpareBitSet, 0);
     }
     if is_minus_zero(a, g) {
         return RunAnswer::Refused(LineRefusal::MinusZero, 0);
     }
-    let report = found.report;
+    let report = content.report;
     RunAnswer::Accepted(report)
 }
 

@@ -1,7 +1,7 @@
 -- The words that the writer makes of a layout's data are the layout's words where every value fits, and 11 where one does not.
 -- Assumes nothing.
 use Prim.Native.Nat.{ℕ, _+_, _/_, _≤_}
-use mathlib.Core.Path.{_≡_, refl}
+use mathlib.Core.Path.{_≡_, refl, _∙_}
 use mathlib.Core.Bool.{Bool, true, false, cond}
 use mathlib.Core.List.{List, [], _∷_}
 use native.Mathlib.Omega.{arith}
@@ -10,15 +10,17 @@ use lib.Dec.{eqb}
 use lib.ListN.{getD}
 use Rattle.refusals.specs.declared.LineRefusal.the-variants.{ValueTooLarge}
 use Rattle.words.specs.Word.{wordOf}
-use Rattle.words.specs.Layout.{Field, span, joined, fittingAll, dataOrMore, wordsBy, fittingBy, twelveEach}
-use Rattle.words.proofs.Layouts.{both, joined-small, fit-data, unfit-data}
+use Rattle.words.specs.Layout.{Field, span, joined, fittingAll, wordsBy, fittingBy, twelveEach}
+use Rattle.words.proofs.Layouts.{both, joined-small}
 use Rattle.reports.specs.declared.Report.{Report}
 use Rattle.reports.specs.declared.Report.the-variants as R
+use Rattle.reports.specs.declared.Written.{Written}
 use Rattle.reports.specs.declared.Written.the-variants as W
 use Rattle.reports.specs.Altitude.{AltitudeForm}
 use Rattle.reports.specs.Layouts.{layoutOf, asWritten, written}
 use Rattle.reports.proofs.Widths.{twelve}
-use Rattle.report_writer.specs.Data.{dataBy, fromData}
+use Rattle.report_writer.specs.Data.{dataOrMore, dataBy, fromData}
+use Rattle.report_writer.proofs.Overruns.{fit-data, unfit-data}
 
 -- ---- what the numbers have above 4095
 
@@ -58,30 +60,26 @@ unfit-overs (fs ∷ l) h = go (fittingAll fs) refl (λ k. unfit-overs l k)
 abbrev Made : List (List Field) → Type 0
 Made l = fromData (dataBy l) ≡ cond (fittingBy l) (asWritten (wordsBy l)) (W.Refused ValueTooLarge)
 
+-- where n is what the numbers have above 4095: what is made where that is 0 is made where every value fits
+sorted : (l : List (List Field)) (n : ℕ) (x y : Written) → twelveEach l ≡ true → n ≡ overs l → (Each l → x ≡ y)
+    → cond (eqb n 0) x (W.Refused ValueTooLarge) ≡ cond (fittingBy l) y (W.Refused ValueTooLarge)
+sorted l n x y t e same = go (fittingBy l) refl
+  where
+    go : (b : Bool) → fittingBy l ≡ b → cond (eqb n 0) x (W.Refused ValueTooLarge) ≡ cond b y (W.Refused ValueTooLarge)
+    go true h = rw (eq-eqb n 0 (e ∙ fit-overs l t h)) (same (fit-each l h))
+    go false h = rw (ne-eqb n 0 (λ z. omega (arith, unfit-overs l h)))
+
 four-made : (a b c d : List Field) → twelveEach (a ∷ b ∷ c ∷ d ∷ []) ≡ true → Made (a ∷ b ∷ c ∷ d ∷ [])
 unfolding overs Each
-four-made a b c d t = go (fittingBy (a ∷ b ∷ c ∷ d ∷ [])) refl
-  where
-    go : (x : Bool) → fittingBy (a ∷ b ∷ c ∷ d ∷ []) ≡ x → fromData (dataBy (a ∷ b ∷ c ∷ d ∷ [])) ≡ cond x (asWritten (wordsBy (a ∷ b ∷ c ∷ d ∷ []))) (W.Refused ValueTooLarge)
-    go true e =
-        let k = fit-each (a ∷ b ∷ c ∷ d ∷ []) e in
-        rw (eq-eqb (dataOrMore a / 4096 + dataOrMore b / 4096 + dataOrMore c / 4096 + dataOrMore d / 4096) 0 (omega (arith, fit-overs (a ∷ b ∷ c ∷ d ∷ []) t e)))
-        (λ i. W.Four (wordOf (k .0 i)) (wordOf (k .1 .0 i)) (wordOf (k .1 .1 .0 i)) (wordOf (k .1 .1 .1 .0 i)))
-    go false e =
-        rw (ne-eqb (dataOrMore a / 4096 + dataOrMore b / 4096 + dataOrMore c / 4096 + dataOrMore d / 4096) 0 (λ z. omega (arith, unfit-overs (a ∷ b ∷ c ∷ d ∷ []) e)))
+four-made a b c d t =
+    sorted (a ∷ b ∷ c ∷ d ∷ []) (dataOrMore a / 4096 + dataOrMore b / 4096 + dataOrMore c / 4096 + dataOrMore d / 4096) _ _ t (omega arith)
+    (λ k i. W.Four (wordOf (k .0 i)) (wordOf (k .1 .0 i)) (wordOf (k .1 .1 .0 i)) (wordOf (k .1 .1 .1 .0 i)))
 
 seven-made : (a b c d e f g : List Field) → twelveEach (a ∷ b ∷ c ∷ d ∷ e ∷ f ∷ g ∷ []) ≡ true → Made (a ∷ b ∷ c ∷ d ∷ e ∷ f ∷ g ∷ [])
 unfolding overs Each
-seven-made a b c d e f g t = go (fittingBy (a ∷ b ∷ c ∷ d ∷ e ∷ f ∷ g ∷ [])) refl
-  where
-    go : (x : Bool) → fittingBy (a ∷ b ∷ c ∷ d ∷ e ∷ f ∷ g ∷ []) ≡ x
-        → fromData (dataBy (a ∷ b ∷ c ∷ d ∷ e ∷ f ∷ g ∷ [])) ≡ cond x (asWritten (wordsBy (a ∷ b ∷ c ∷ d ∷ e ∷ f ∷ g ∷ []))) (W.Refused ValueTooLarge)
-    go true h =
-        let k = fit-each (a ∷ b ∷ c ∷ d ∷ e ∷ f ∷ g ∷ []) h in
-        rw (eq-eqb (dataOrMore a / 4096 + dataOrMore b / 4096 + dataOrMore c / 4096 + dataOrMore d / 4096 + dataOrMore e / 4096 + dataOrMore f / 4096 + dataOrMore g / 4096) 0 (omega (arith, fit-overs (a ∷ b ∷ c ∷ d ∷ e ∷ f ∷ g ∷ []) t h)))
-        (λ i. W.Seven (wordOf (k .0 i)) (wordOf (k .1 .0 i)) (wordOf (k .1 .1 .0 i)) (wordOf (k .1 .1 .1 .0 i)) (wordOf (k .1 .1 .1 .1 .0 i)) (wordOf (k .1 .1 .1 .1 .1 .0 i)) (wordOf (k .1 .1 .1 .1 .1 .1 .0 i)))
-    go false h =
-        rw (ne-eqb (dataOrMore a / 4096 + dataOrMore b / 4096 + dataOrMore c / 4096 + dataOrMore d / 4096 + dataOrMore e / 4096 + dataOrMore f / 4096 + dataOrMore g / 4096) 0 (λ z. omega (arith, unfit-overs (a ∷ b ∷ c ∷ d ∷ e ∷ f ∷ g ∷ []) h)))
+seven-made a b c d e f g t =
+    sorted (a ∷ b ∷ c ∷ d ∷ e ∷ f ∷ g ∷ []) (dataOrMore a / 4096 + dataOrMore b / 4096 + dataOrMore c / 4096 + dataOrMore d / 4096 + dataOrMore e / 4096 + dataOrMore f / 4096 + dataOrMore g / 4096) _ _ t (omega arith)
+    (λ k i. W.Seven (wordOf (k .0 i)) (wordOf (k .1 .0 i)) (wordOf (k .1 .1 .0 i)) (wordOf (k .1 .1 .1 .0 i)) (wordOf (k .1 .1 .1 .1 .0 i)) (wordOf (k .1 .1 .1 .1 .1 .0 i)) (wordOf (k .1 .1 .1 .1 .1 .1 .0 i)))
 
 -- ---- every report
 

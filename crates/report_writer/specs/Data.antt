@@ -1,16 +1,35 @@
 -- The data of a report's words as the writer's private functions compute it. Definitions only; no promise of a public function names them.
-use Prim.Native.Nat.{ℕ, _+_, _/_}
+use Prim.Native.Nat.{ℕ, _+_, _*_, _/_, _^_}
 use mathlib.Core.Bool.{cond}
-use mathlib.Core.List.{List, []}
+use mathlib.Core.List.{List, [], _∷_}
 use lib.Dec.{eqb}
 use lib.ListN.{length, getD}
 use Rattle.refusals.specs.declared.LineRefusal.the-variants.{ValueTooLarge}
 use Rattle.words.specs.Word.{wordOf}
-use Rattle.words.specs.Layout.{Field, dataOrMore}
+use Rattle.words.specs.Layout.{Field, flag, count, rest, fixed, joined}
 use Rattle.reports.specs.declared.Written.{Written}
 use Rattle.reports.specs.declared.Written.the-variants as W
 use Rattle.report_writer.specs.declared.Data.{Data}
 use Rattle.report_writer.specs.declared.Data.the-variants as D
+
+-- ---- one word: where a value does not fit its field, the number is pushed above 4095, so that code finds it without a branch
+
+-- by how many of the field's spans the value overruns it: 0 exactly when it fits
+abbrev pub overrun : Field → ℕ
+overrun (flag b) = 0
+overrun (count k n) = n / 2 ^ k
+overrun (rest k n) = 0
+overrun (fixed k n) = n / 2 ^ k
+
+abbrev pub overrunAll : List Field → ℕ
+overrunAll [] = 0
+overrunAll (f ∷ fs) = overrun f + overrunAll fs
+
+-- the number that the fields make, with 4096 more for each span that a value overruns its field by
+abbrev pub dataOrMore : List Field → ℕ
+dataOrMore fs = joined fs + 4096 * overrunAll fs
+
+-- ---- all words
 
 -- the data of a word of a layout
 abbrev pub dataAt : List (List Field) → ℕ → ℕ

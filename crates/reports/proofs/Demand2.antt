@@ -18,7 +18,7 @@ use Rattle.reports.specs.declared.Report.the-variants as R
 use Rattle.reports.specs.declared.RunAnswer.the-variants.{Accepted}
 use Rattle.reports.specs.declared.Written.the-variants as W
 use Rattle.reports.specs.Altitude.{AltitudeForm, Sound}
-use Rattle.reports.specs.Forms.{isFour, isSeven, wordCount, isSearch, isStrobe, isStatus, hasRtqcPattern, isDabs, isMtdSearch, isRdasSearch}
+use Rattle.reports.specs.Forms.{isSeven, wordCount, isSearch, isStrobe, isStatus, isMap, isDabs, isMtdSearch, isRdasSearch}
 use Rattle.reports.specs.Records.{fourOf, sevenOf, reportOf}
 use Rattle.reports.specs.Layouts.{layoutOf, wordsOf, Fits, Takes, asWritten, written}
 use Rattle.reports.specs.Conditions.{zeros, HasLayout}
@@ -32,11 +32,6 @@ use Rattle.reports.proofs.Seven as seven
 
 -- ---- words that have a layout hold the fields of what they are read as
 
--- not seven words, and a form that is known: four words
-is-four : (x y : Bool) → cond x y true ≡ false → x ≡ true
-is-four true y h = refl
-is-four false y h = sym h
-
 -- the layout of r has n words
 abbrev Long : AltitudeForm → ℕ → Report → Type 0
 Long form n r = length (layoutOf form r) ≡ n
@@ -47,7 +42,7 @@ four-length form ws =
     by-cond (Long form 4) (isSearch ws) (λ k. refl)
     (λ k. by-cond (Long form 4) (isStrobe ws) (λ k. refl)
     (λ k. by-cond (Long form 4) (isStatus ws) (λ k. refl)
-    (λ k. by-cond (Long form 4) (hasRtqcPattern ws) (λ k. refl) (λ k. refl))))
+    (λ k. by-cond (Long form 4) (isMap ws) (λ k. refl) (λ k. refl))))
 
 seven-length : (form : AltitudeForm) (ws : List ℕ) → Long form 7 (sevenOf form ws)
 unfolding sevenOf
@@ -73,7 +68,7 @@ layout-laid form sound ws h = go (isSeven ws) refl
 
     go : (x : Bool) → isSeven ws ≡ x → LaidFrom 1 (layoutOf form (cond x (sevenOf form ws) (fourOf ws))) ws
     go true s = seven.seven-laid form sound ws (eqb-true _ _ s) (h .assigned) (h .altitude) (eqb-true _ _ (simp s at none))
-    go false s = four.four-laid form ws (eqb-true _ _ (is-four (isFour ws) _ (simp s at (h .known)))) (h .known) (eqb-true _ _ (simp s at none))
+    go false s = four.four-laid ws (eqb-true _ _ (four.is-four ws s (h .known))) form (h .known) (eqb-true _ _ (simp s at none))
 
 layout-words : (form : AltitudeForm) → Sound form → (ws : List ℕ) → HasLayout form ws → (ws ≡ wordsOf form (reportOf form ws)) × Fits form (reportOf form ws)
 layout-words form sound ws h =
@@ -118,11 +113,11 @@ seven-read form ws r n g h =
     )
 
 laid-read : (form : AltitudeForm) → Sound form → (ws : List ℕ) (r : Report) → AllGood ws → Laid (layoutOf form r) ws → ReadAs form ws r
-laid-read form sound ws (R.Search s) g h = four-read form ws (R.Search s) (h .whole) g (four.search-held form ws s (h .fields))
-laid-read form sound ws (R.Strobe s) g h = four-read form ws (R.Strobe s) (h .whole) g (four.strobe-held form ws s (h .fields))
-laid-read form sound ws (R.Map m) g h = four-read form ws (R.Map m) (h .whole) g (four.map-held form ws m (h .fields))
-laid-read form sound ws (R.Status s) g h = four-read form ws (R.Status s) (h .whole) g (four.status-held form ws s (h .fields))
-laid-read form sound ws (R.Rtqc s) g h = four-read form ws (R.Rtqc s) (h .whole) g (four.rtqc-held form ws s (h .fields))
+laid-read form sound ws (R.Search s) g h = four-read form ws (R.Search s) (h .whole) g (four.search-held ws s (h .fields))
+laid-read form sound ws (R.Strobe s) g h = four-read form ws (R.Strobe s) (h .whole) g (four.strobe-held ws s (h .fields))
+laid-read form sound ws (R.Map m) g h = four-read form ws (R.Map m) (h .whole) g (four.map-held ws m (h .fields))
+laid-read form sound ws (R.Status s) g h = four-read form ws (R.Status s) (h .whole) g (four.status-held ws s (h .fields))
+laid-read form sound ws (R.Rtqc s) g h = four-read form ws (R.Rtqc s) (h .whole) g (four.rtqc-held ws s (h .fields))
 laid-read form sound ws (R.Dabs d) g h = seven-read form ws (R.Dabs d) (h .whole) g (seven.dabs-held form sound ws d (h .fields))
 laid-read form sound ws (R.Atcrbs a) g h = seven-read form ws (R.Atcrbs a) (h .whole) g (seven.atcrbs-held form sound ws a (h .fields))
 laid-read form sound ws (R.Mtd m) g h = seven-read form ws (R.Mtd m) (h .whole) g (seven.mtd-held form sound ws m (h .fields))

@@ -9,7 +9,7 @@ use lib.ListN.{length}
 use Rattle.words.specs.Tests.{all, any}
 use Rattle.words.specs.Word.{bits, bit, wide, even, first, AllGood}
 use Rattle.reports.specs.Altitude.{AltitudeForm}
-use Rattle.reports.specs.Forms.{isFour, isSeven, wordCount, isSearch, isStrobe, isMap, isStatus, hasRtqcPattern, isRtqc, isDabs, isCd, isMtd, isRdas, isMtdSearch, isRdasSearch}
+use Rattle.reports.specs.Forms.{isSeven, wordCount, isSearch, isStrobe, isMap, isStatus, isRtqc, isDabs, isCd, isMtd, isRdas, isMtdSearch, isRdasSearch}
 
 -- 3: a word of the run above 8191
 abbrev pub wideWord : List ℕ → Bool
@@ -21,7 +21,7 @@ evenWord ws = ltb (first even ws) (length ws)
 
 -- 5: first word: bits 2-3 are 01 or 10, or are 00 and no pattern fits, RTQC with bit 1 zero included
 abbrev pub unknownForm : List ℕ → Bool
-unknownForm ws = cond (isFour ws) (not (any (isSearch ws ∷ isStrobe ws ∷ isStatus ws ∷ isMap ws ∷ isRtqc ws ∷ []))) (not (isSeven ws))
+unknownForm ws = not (any (isSearch ws ∷ isStrobe ws ∷ isStatus ws ∷ isMap ws ∷ isRtqc ws ∷ isSeven ws ∷ []))
 
 -- 6: run is not 4 (or 7) words as bits 2-3 say
 abbrev pub wrongLength : List ℕ → Bool
@@ -29,21 +29,18 @@ wrongLength ws = not (eqb (length ws) (wordCount ws))
 
 -- 7: 7 words, bit 12 one and bits 88-90 not assigned for that bit 4
 abbrev pub unassigned : List ℕ → Bool
-unassigned ws = all (isSeven ws ∷ bit ws 12 ∷ not (assigned (bits ws 88 90)) ∷ [])
-  where
-    assigned : ℕ → Bool
-    assigned n = any (eqb n 0b100 ∷ eqb n 0b110 ∷ eqb n 0b101 ∷ all (not (bit ws 4) ∷ any (eqb n 0b010 ∷ eqb n 0b001 ∷ []) ∷ []) ∷ [])
+unassigned ws = all (isSeven ws ∷ bit ws 12 ∷ not (any (isCd ws ∷ isMtd ws ∷ isRdas ws ∷ isMtdSearch ws ∷ isRdasSearch ws ∷ [])) ∷ [])
 
 -- ---- 8: a zero or spare bit is one. Each sum is 0 exactly when all of its bits are
 
--- the zero bits of four words: 25, of a Map 51 too, of Status none
+-- the zero bits of four words: 25, of a Map 51 too, of Status none. What is known (5) and none of the first four is an RTQC
 unfoldable pub fourZeros : List ℕ → ℕ
 fourZeros ws =
     cond (isSearch ws) (bits ws 25 25)
     (cond (isStrobe ws) (bits ws 25 25)
     (cond (isStatus ws) 0
-    (cond (hasRtqcPattern ws) (bits ws 25 25)
-    (bits ws 25 25 + bits ws 51 51))))
+    (cond (isMap ws) (bits ws 25 25 + bits ws 51 51)
+    (bits ws 25 25))))
 
 -- the spare bits of the last word of DABS and ATCRBS: with substitution, what is left to bit 87
 unfoldable pub heightSpares : List ℕ → ℕ

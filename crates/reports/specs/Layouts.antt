@@ -1,4 +1,5 @@
--- The words of a record: the tables' columns once more, by widths, with a word a line. Definitions only.
+-- The words of a record: the tables' columns once more, by widths, with a word a line. Only DABS and ATCRBS hold an altitude, so only they
+-- take its form. Definitions only.
 use Prim.Native.Nat.{ℕ, _/_, _^_}
 use mathlib.Core.Path.{_≡_}
 use mathlib.Core.Bool.{Bool, true, false, cond}
@@ -7,21 +8,75 @@ use lib.Dec.{eqb}
 use lib.ListN.{length, getD}
 use Rattle.refusals.specs.declared.LineRefusal.the-variants.{ValueTooLarge}
 use Rattle.words.specs.Layout.{Field, flag, count, rest, fixed, spare, wordsBy, fittingBy}
+use Rattle.reports.specs.declared.Search.{Search}
+use Rattle.reports.specs.declared.Strobe.{Strobe}
+use Rattle.reports.specs.declared.Map.{Map}
+use Rattle.reports.specs.declared.Status.{Status}
+use Rattle.reports.specs.declared.Rtqc.{Rtqc}
 use Rattle.reports.specs.declared.Height.{Height}
 use Rattle.reports.specs.declared.Height.the-variants as H
+use Rattle.reports.specs.declared.Dabs.{Dabs}
+use Rattle.reports.specs.declared.Atcrbs.{Atcrbs}
+use Rattle.reports.specs.declared.Mtd.{Mtd}
+use Rattle.reports.specs.declared.Rdas.{Rdas}
 use Rattle.reports.specs.declared.Report.{Report}
 use Rattle.reports.specs.declared.Report.the-variants as R
 use Rattle.reports.specs.declared.Written.{Written}
 use Rattle.reports.specs.declared.Written.the-variants as W
 use Rattle.reports.specs.Altitude.{AltitudeForm}
+use Rattle.reports.specs.Forms.{fourWords, sevenWords, searchPattern, strobePattern, statusPattern, rtqcPattern, mapPattern, cdCode, mtdCode, rdasCode, mtdSearchCode, rdasSearchCode}
+
+-- ---- four words
+
+abbrev pub searchLayout : Search → List (List Field)
+searchLayout s =
+    (flag (s .test) ∷ fixed 2 fourWords ∷ fixed 7 searchPattern ∷ flag (s .faa) ∷ flag (s .af) ∷ [])
+    ∷ (count 11 (s .range .0) ∷ spare 1 ∷ [])
+    ∷ (count 12 (s .azimuth .0) ∷ [])
+    ∷ (flag (s .aims) ∷ count 2 (s .code) ∷ count 3 (s .run .0) ∷ count 6 (s .time .0) ∷ [])
+    ∷ []
+
+abbrev pub strobeLayout : Strobe → List (List Field)
+strobeLayout s =
+    (flag (s .test) ∷ fixed 2 fourWords ∷ fixed 7 strobePattern ∷ flag (s .faa) ∷ flag (s .af) ∷ [])
+    ∷ (count 11 (s .range .0) ∷ spare 1 ∷ [])
+    ∷ (count 12 (s .azimuth .0) ∷ [])
+    ∷ (count 7 (s .run .0) ∷ count 5 (s .time .0) ∷ [])
+    ∷ []
+
+abbrev pub mapLayout : Map → List (List Field)
+mapLayout m =
+    (flag (m .test) ∷ fixed 2 fourWords ∷ fixed 5 mapPattern ∷ count 2 (m .variation) ∷ flag (m .faa) ∷ flag (m .af) ∷ [])
+    ∷ (count 11 (m .start .0) ∷ spare 1 ∷ [])
+    ∷ (count 12 (m .azimuth .0) ∷ [])
+    ∷ (count 11 (m .stop .0) ∷ spare 1 ∷ [])
+    ∷ []
+
+abbrev pub statusLayout : Status → List (List Field)
+statusLayout s =
+    (flag (s .test) ∷ fixed 2 fourWords ∷ fixed 7 statusPattern ∷ flag (s .faa) ∷ flag (s .af) ∷ [])
+    ∷ (count 12 (s .second) ∷ [])
+    ∷ (count 12 (s .third) ∷ [])
+    ∷ (count 12 (s .fourth) ∷ [])
+    ∷ []
+
+abbrev pub rtqcLayout : Rtqc → List (List Field)
+rtqcLayout s =
+    (fixed 1 1 ∷ fixed 2 fourWords ∷ fixed 7 rtqcPattern ∷ flag (s .faa) ∷ flag (s .af) ∷ [])
+    ∷ (count 11 (s .range .0) ∷ spare 1 ∷ [])
+    ∷ (count 12 (s .azimuth .0) ∷ [])
+    ∷ (count 7 (s .run .0) ∷ count 5 (s .time .0) ∷ [])
+    ∷ []
+
+-- ---- seven words
 
 -- bits 79 to 90
 abbrev pub lastWord : AltitudeForm → Height → List Field
 lastWord form (H.Altitude z) = count 12 (form .bitsOf z) ∷ []
 lastWord form (H.Carried n) = count 12 n ∷ []
-lastWord form (H.Cd c n) = count 3 (n .0) ∷ spare 6 ∷ fixed 3 0b100 ∷ []
-lastWord form (H.Mtd c n) = count 2 n ∷ spare 7 ∷ fixed 3 0b110 ∷ []
-lastWord form (H.Rdas c n) = count 4 n ∷ spare 5 ∷ fixed 3 0b101 ∷ []
+lastWord form (H.Cd c n) = count 3 (n .0) ∷ spare 6 ∷ fixed 3 cdCode ∷ []
+lastWord form (H.Mtd c n) = count 2 n ∷ spare 7 ∷ fixed 3 mtdCode ∷ []
+lastWord form (H.Rdas c n) = count 4 n ∷ spare 5 ∷ fixed 3 rdasCode ∷ []
 
 -- bit 6, Mode C
 abbrev pub modeC : Height → Bool
@@ -39,39 +94,9 @@ radar (H.Cd c n) = true
 radar (H.Mtd c n) = true
 radar (H.Rdas c n) = true
 
-abbrev pub layoutOf : AltitudeForm → Report → List (List Field)
-layoutOf form (R.Search s) =
-    (flag (s .test) ∷ fixed 2 0b00 ∷ fixed 7 0b1101100 ∷ flag (s .faa) ∷ flag (s .af) ∷ [])
-    ∷ (count 11 (s .range .0) ∷ spare 1 ∷ [])
-    ∷ (count 12 (s .azimuth .0) ∷ [])
-    ∷ (flag (s .aims) ∷ count 2 (s .code) ∷ count 3 (s .run .0) ∷ count 6 (s .time .0) ∷ [])
-    ∷ []
-layoutOf form (R.Strobe s) =
-    (flag (s .test) ∷ fixed 2 0b00 ∷ fixed 7 0b1100000 ∷ flag (s .faa) ∷ flag (s .af) ∷ [])
-    ∷ (count 11 (s .range .0) ∷ spare 1 ∷ [])
-    ∷ (count 12 (s .azimuth .0) ∷ [])
-    ∷ (count 7 (s .run .0) ∷ count 5 (s .time .0) ∷ [])
-    ∷ []
-layoutOf form (R.Map m) =
-    (flag (m .test) ∷ fixed 2 0b00 ∷ fixed 5 0b00000 ∷ count 2 (m .variation) ∷ flag (m .faa) ∷ flag (m .af) ∷ [])
-    ∷ (count 11 (m .start .0) ∷ spare 1 ∷ [])
-    ∷ (count 12 (m .azimuth .0) ∷ [])
-    ∷ (count 11 (m .stop .0) ∷ spare 1 ∷ [])
-    ∷ []
-layoutOf form (R.Status s) =
-    (flag (s .test) ∷ fixed 2 0b00 ∷ fixed 7 0b0110000 ∷ flag (s .faa) ∷ flag (s .af) ∷ [])
-    ∷ (count 12 (s .second) ∷ [])
-    ∷ (count 12 (s .third) ∷ [])
-    ∷ (count 12 (s .fourth) ∷ [])
-    ∷ []
-layoutOf form (R.Rtqc s) =
-    (fixed 1 1 ∷ fixed 2 0b00 ∷ fixed 7 0b1001000 ∷ flag (s .faa) ∷ flag (s .af) ∷ [])
-    ∷ (count 11 (s .range .0) ∷ spare 1 ∷ [])
-    ∷ (count 12 (s .azimuth .0) ∷ [])
-    ∷ (count 7 (s .run .0) ∷ count 5 (s .time .0) ∷ [])
-    ∷ []
-layoutOf form (R.Dabs d) =
-    (flag (d .test) ∷ fixed 2 0b11 ∷ fixed 1 1 ∷ flag (d .primary) ∷ flag (modeC (d .height)) ∷ flag (d .spi) ∷ flag (d .reinforced)
+abbrev pub dabsLayout : AltitudeForm → Dabs → List (List Field)
+dabsLayout form d =
+    (flag (d .test) ∷ fixed 2 sevenWords ∷ fixed 1 1 ∷ flag (d .primary) ∷ flag (modeC (d .height)) ∷ flag (d .spi) ∷ flag (d .reinforced)
     ∷ flag (d .code7700) ∷ flag (d .code7600) ∷ flag (d .faa) ∷ flag (radar (d .height)) ∷ [])
     ∷ (count 12 (d .range .0 / 2 ^ 3) ∷ [])
     ∷ (rest 3 (d .range .0) ∷ count 9 (d .azimuth .0 / 2 ^ 4) ∷ [])
@@ -80,8 +105,10 @@ layoutOf form (R.Dabs d) =
     ∷ (rest 12 (d .address) ∷ [])
     ∷ lastWord form (d .height)
     ∷ []
-layoutOf form (R.Atcrbs a) =
-    (flag (a .test) ∷ fixed 2 0b11 ∷ fixed 1 0 ∷ flag (a .mode3a) ∷ flag (modeC (a .height)) ∷ flag (a .spi) ∷ flag (a .reinforced)
+
+abbrev pub atcrbsLayout : AltitudeForm → Atcrbs → List (List Field)
+atcrbsLayout form a =
+    (flag (a .test) ∷ fixed 2 sevenWords ∷ fixed 1 0 ∷ flag (a .mode3a) ∷ flag (modeC (a .height)) ∷ flag (a .spi) ∷ flag (a .reinforced)
     ∷ flag (a .code7700) ∷ flag (a .code7600) ∷ flag (a .faa) ∷ flag (radar (a .height)) ∷ [])
     ∷ (count 12 (a .range .0 / 2 ^ 3) ∷ [])
     ∷ (rest 3 (a .range .0) ∷ count 9 (a .azimuth .0 / 2 ^ 4) ∷ [])
@@ -90,24 +117,41 @@ layoutOf form (R.Atcrbs a) =
     ∷ (count 12 (a .file) ∷ [])
     ∷ lastWord form (a .height)
     ∷ []
-layoutOf form (R.Mtd m) =
-    (flag (m .test) ∷ fixed 2 0b11 ∷ fixed 1 0 ∷ spare 6 ∷ flag (m .faa) ∷ fixed 1 1 ∷ [])
+
+abbrev pub mtdLayout : Mtd → List (List Field)
+mtdLayout m =
+    (flag (m .test) ∷ fixed 2 sevenWords ∷ fixed 1 0 ∷ spare 6 ∷ flag (m .faa) ∷ fixed 1 1 ∷ [])
     ∷ (count 12 (m .range .0 / 2 ^ 3) ∷ [])
     ∷ (rest 3 (m .range .0) ∷ count 9 (m .azimuth .0 / 2 ^ 4) ∷ [])
     ∷ (rest 4 (m .azimuth .0) ∷ flag (m .aims) ∷ spare 1 ∷ count 6 (m .time .0) ∷ [])
     ∷ (count 6 (m .doppler1) ∷ count 6 (m .doppler2) ∷ [])
     ∷ (count 12 (m .file) ∷ [])
-    ∷ (count 2 (m .quality) ∷ count 4 (m .confidence) ∷ flag (m .«false_target») ∷ flag (m .ground) ∷ spare 1 ∷ fixed 3 0b010 ∷ [])
+    ∷ (count 2 (m .quality) ∷ count 4 (m .confidence) ∷ flag (m .«false_target») ∷ flag (m .ground) ∷ spare 1 ∷ fixed 3 mtdSearchCode ∷ [])
     ∷ []
-layoutOf form (R.Rdas r) =
-    (flag (r .test) ∷ fixed 2 0b11 ∷ fixed 1 0 ∷ spare 6 ∷ flag (r .faa) ∷ fixed 1 1 ∷ [])
+
+abbrev pub rdasLayout : Rdas → List (List Field)
+rdasLayout r =
+    (flag (r .test) ∷ fixed 2 sevenWords ∷ fixed 1 0 ∷ spare 6 ∷ flag (r .faa) ∷ fixed 1 1 ∷ [])
     ∷ (count 12 (r .range .0 / 2 ^ 3) ∷ [])
     ∷ (rest 3 (r .range .0) ∷ count 9 (r .azimuth .0 / 2 ^ 4) ∷ [])
     ∷ (rest 4 (r .azimuth .0) ∷ flag (r .aims) ∷ spare 1 ∷ count 6 (r .time .0) ∷ [])
     ∷ (spare 12 ∷ [])
     ∷ (count 12 (r .file) ∷ [])
-    ∷ (count 4 (r .quality) ∷ spare 2 ∷ flag (r .«false_target») ∷ spare 2 ∷ fixed 3 0b001 ∷ [])
+    ∷ (count 4 (r .quality) ∷ spare 2 ∷ flag (r .«false_target») ∷ spare 2 ∷ fixed 3 rdasSearchCode ∷ [])
     ∷ []
+
+-- ---- every report
+
+abbrev pub layoutOf : AltitudeForm → Report → List (List Field)
+layoutOf form (R.Search s) = searchLayout s
+layoutOf form (R.Strobe s) = strobeLayout s
+layoutOf form (R.Map m) = mapLayout m
+layoutOf form (R.Status s) = statusLayout s
+layoutOf form (R.Rtqc s) = rtqcLayout s
+layoutOf form (R.Dabs d) = dabsLayout form d
+layoutOf form (R.Atcrbs a) = atcrbsLayout form a
+layoutOf form (R.Mtd m) = mtdLayout m
+layoutOf form (R.Rdas r) = rdasLayout r
 
 -- the words of a record
 abbrev pub wordsOf : AltitudeForm → Report → List ℕ

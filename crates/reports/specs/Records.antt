@@ -18,7 +18,7 @@ use Rattle.reports.specs.declared.Rdas.{Rdas}
 use Rattle.reports.specs.declared.Report.{Report}
 use Rattle.reports.specs.declared.Report.the-variants as R
 use Rattle.reports.specs.Altitude.{AltitudeForm}
-use Rattle.reports.specs.Forms.{isSeven, isSearch, isStrobe, isStatus, hasRtqcPattern, isDabs, isCd, isMtd, isRdas, isMtdSearch, isRdasSearch}
+use Rattle.reports.specs.Forms.{isSeven, isSearch, isStrobe, isStatus, isMap, isDabs, isCd, isMtd, isRdas, isMtdSearch, isRdasSearch}
 
 -- ---- four words
 
@@ -158,15 +158,15 @@ rdasOf ws = record {
   «false_target» = bit ws 85;
 }
 
--- ---- the report that words hold, where they hold one
+-- ---- the report that words hold, where they hold one: what the tests leave is an RTQC, and of seven words an ATCRBS
 
 unfoldable pub fourOf : List ℕ → Report
 fourOf ws =
     cond (isSearch ws) (R.Search (searchOf ws))
     (cond (isStrobe ws) (R.Strobe (strobeOf ws))
     (cond (isStatus ws) (R.Status (statusOf ws))
-    (cond (hasRtqcPattern ws) (R.Rtqc (rtqcOf ws))
-    (R.Map (mapOf ws)))))
+    (cond (isMap ws) (R.Map (mapOf ws))
+    (R.Rtqc (rtqcOf ws)))))
 
 unfoldable pub sevenOf : AltitudeForm → List ℕ → Report
 sevenOf form ws =

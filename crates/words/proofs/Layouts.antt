@@ -6,9 +6,9 @@ use mathlib.Core.Path.{_≡_, refl, ap, ap₂, sym, _∙_, subst}
 use mathlib.Core.Bool.{Bool, true, false, cond}
 use mathlib.Core.List.{List, [], _∷_}
 use mathlib.Core.Logic.{_↔_}
-use native.Mathlib.Nat.{div-eq-of-lt, le-div-iff-mul-le, mod-lt, mod-eq-of-lt, mod-one, add-assoc, mul-assoc, add-mul, add-comm}
+use native.Mathlib.Nat.{mod-lt, mod-eq-of-lt, mod-one, add-assoc, mul-assoc, add-mul, add-comm}
 use native.Mathlib.Omega.{arith}
-use borrow.Author.Tests.{eqb-true, ltb-true, ltb-false, lt-ltb}
+use borrow.Author.Tests.{eqb-true, ltb-true, lt-ltb}
 use lib.Arith.{digits-lt}
 use lib.Count.{ones, ones-step}
 use lib.Dec.{eqb}
@@ -16,7 +16,7 @@ use lib.ListN.{length, getD, drop}
 use lib.Pow.{mod-pow-add, high, low, pow-pos, pow-add, shr-shr}
 use lib.Seq.{drop-length, drop-cons}
 use Rattle.words.specs.Word.{wordOf, bits, Good, AllGood}
-use Rattle.words.specs.Layout.{Field, flag, count, rest, fixed, width, value, fitting, overrun, span, joined, fittingAll, overrunAll, dataOrMore, StandFrom, wordsBy, fittingBy, twelveEach, LaidFrom, Laid}
+use Rattle.words.specs.Layout.{Field, flag, count, rest, fixed, width, value, fitting, span, joined, fittingAll, StandFrom, wordsBy, fittingBy, twelveEach, LaidFrom, Laid}
 
 -- two tests of which the second is made where the first holds
 pub both : (a b : Bool) → cond a b false ≡ true → (a ≡ true) × (b ≡ true)
@@ -86,41 +86,6 @@ joined-stands (f ∷ fs) h w t e =
           ∙ low h (width f) (fits-lt f (k .0)),
       joined-stands fs (h * 2 ^ width f + value f) w (k .1) up,
     )
-
--- ---- what a writer computes without a branch
-
-large-overrun : (n k : ℕ) → 2 ^ k ≤ n → 1 ≤ n / 2 ^ k
-large-overrun n k h = le-div-iff-mul-le (pow-pos k) .1 (omega arith)
-
-fit-overrun : (f : Field) → fitting f ≡ true → overrun f ≡ 0
-fit-overrun (flag b) h = refl
-fit-overrun (count k n) h = div-eq-of-lt (ltb-true n (2 ^ k) h)
-fit-overrun (rest k n) h = refl
-fit-overrun (fixed k n) h = div-eq-of-lt (ltb-true n (2 ^ k) h)
-
-unfit-overrun : (f : Field) → fitting f ≡ false → 1 ≤ overrun f
-unfit-overrun (flag b) h = absurd (let z : _≡_ {A = ℕ} 0 1 = cc in omega arith)
-unfit-overrun (count k n) h = large-overrun n k (ltb-false n (2 ^ k) h)
-unfit-overrun (rest k n) h = absurd (let z : _≡_ {A = ℕ} 0 1 = cc in omega arith)
-unfit-overrun (fixed k n) h = large-overrun n k (ltb-false n (2 ^ k) h)
-
-fit-none : (fs : List Field) → fittingAll fs ≡ true → overrunAll fs ≡ 0
-fit-none [] h = refl
-fit-none (f ∷ fs) h = let k = both (fitting f) (fittingAll fs) h in omega (arith, fit-overrun f (k .0), fit-none fs (k .1))
-
-unfit-some : (fs : List Field) → fittingAll fs ≡ false → 1 ≤ overrunAll fs
-unfit-some [] h = absurd (let z : _≡_ {A = ℕ} 0 1 = cc in omega arith)
-unfit-some (f ∷ fs) h = go (fitting f) refl (λ k. unfit-some fs k)
-  where
-    go : (b : Bool) → fitting f ≡ b → (fittingAll fs ≡ false → 1 ≤ overrunAll fs) → 1 ≤ overrun f + overrunAll fs
-    go true e more = let m = more (simp e at h) in omega arith
-    go false e more = let m = unfit-overrun f e in omega arith
-
-pub fit-data : (fs : List Field) → fittingAll fs ≡ true → dataOrMore fs ≡ joined fs
-fit-data fs h = let z = fit-none fs h in omega arith
-
-pub unfit-data : (fs : List Field) → fittingAll fs ≡ false → 4095 < dataOrMore fs
-unfit-data fs h = let z = unfit-some fs h in omega arith
 
 -- ---- the parity bit behind the data
 

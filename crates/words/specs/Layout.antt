@@ -1,6 +1,6 @@
 -- A layout: for each word its fields, first field first, each with its width and its value side by side. From it follow the words,
 -- whether every value fits, and at which of the document's bit numbers each value stands. Definitions only.
-use Prim.Native.Nat.{ℕ, _+_, _*_, _/_, _%_, _-_, _^_}
+use Prim.Native.Nat.{ℕ, _+_, _*_, _%_, _-_, _^_}
 use mathlib.Core.Path.{_≡_}
 use mathlib.Core.Bool.{Bool, true, false, cond}
 use mathlib.Core.List.{List, [], _∷_}
@@ -41,13 +41,6 @@ fitting (count k n) = ltb n (2 ^ k)
 fitting (rest k n) = true
 fitting (fixed k n) = ltb n (2 ^ k)
 
--- by how many of the field's spans the value overruns it: 0 exactly when it fits
-abbrev pub overrun : Field → ℕ
-overrun (flag b) = 0
-overrun (count k n) = n / 2 ^ k
-overrun (rest k n) = 0
-overrun (fixed k n) = n / 2 ^ k
-
 -- ---- a word's fields
 
 -- how many bits they have together
@@ -63,14 +56,6 @@ joined (f ∷ fs) = value f * 2 ^ span fs + joined fs
 abbrev pub fittingAll : List Field → Bool
 fittingAll [] = true
 fittingAll (f ∷ fs) = cond (fitting f) (fittingAll fs) false
-
-abbrev pub overrunAll : List Field → ℕ
-overrunAll [] = 0
-overrunAll (f ∷ fs) = overrun f + overrunAll fs
-
--- the number that they make, pushed above 4095 where a value does not fit: what a writer computes without a branch
-abbrev pub dataOrMore : List Field → ℕ
-dataOrMore fs = joined fs + 4096 * overrunAll fs
 
 -- they stand in the words from bit a on, each where the one before it ends
 abbrev pub StandFrom : ℕ → List Field → List ℕ → Type 0

@@ -4,6 +4,8 @@ ghost use mathlib.Core.Path.{_≡_};
 ghost use lib.Dec.{eqb};
 ghost use Rattle.words.specs.Word.{idle, wide, odd, dataBits, parityBit, wordOf};
 
+pub mod weights; // weights.rt: the bits of a word by name
+
 // The idle word, 000 111 111 111 1.
 pub const IDLE: u16 = 1023;
 

@@ -1,26 +1,15 @@
 -- `report_reader::is_minus_zero` meets its contract. Assumes nothing.
-use borrow.Author.Needs.{needs}
-use borrow.Author.Tests.{eq-eqb, ne-eqb, lt-ltb, le-ltb}
+use Rattle.report_reader.proofs.Tests.{tests}
 use Rattle.report_reader.proofs.is_minus_zero.Statement.{statement}
 use Rattle.report_reader.proofs.is_minus_zero.Tie as tie
 
-returns : tie.Need-returns
-returns c = search (needs, eq-eqb, ne-eqb, lt-ltb, le-ltb)
-
-returns-2 : tie.Need-returns-2
-returns-2 c = search (needs, eq-eqb, ne-eqb, lt-ltb, le-ltb)
-
-returns-3 : tie.Need-returns-3
-returns-3 c = search (needs, eq-eqb, ne-eqb, lt-ltb, le-ltb)
-
-returns-4 : tie.Need-returns-4
-returns-4 c = search (needs, eq-eqb, ne-eqb, lt-ltb, le-ltb)
-
-returns-5 : tie.Need-returns-5
-returns-5 c = search (needs, eq-eqb, ne-eqb, lt-ltb, le-ltb)
-
-returns-6 : tie.Need-returns-6
-returns-6 c = search (needs, eq-eqb, ne-eqb, lt-ltb, le-ltb)
-
 pub is-minus-zero-spec : {M : Type 1} → statement M
-is-minus-zero-spec = tie.close (tie.spec returns returns-2 returns-3 returns-4 returns-5 returns-6)
+is-minus-zero-spec =
+    tie.close
+    (tie.spec
+    (λ c. search tests)
+    (λ c. search tests)
+    (λ c. search tests)
+    (λ c. search tests)
+    (λ c. search tests)
+    (λ c. search tests))

@@ -5,12 +5,6 @@ use borrow.Author.Tests.{eq-eqb, ne-eqb, lt-ltb, le-ltb}
 use Rattle.report_reader.proofs.judge.Statement.{statement}
 use Rattle.report_reader.proofs.judge.Tie as tie
 
-returns : tie.Need-returns
-returns c = search (needs, lt-ltb, le-ltb)
-
-returns-2 : tie.Need-returns-2
-returns-2 c = search (needs, lt-ltb, le-ltb)
-
 returns-3 : tie.Need-returns-3
 returns-3 c = simp (le-ltb _ _ (c .before .before .before .if1 .left), le-ltb _ _ (c .before .before .if2 .left), sym (c .before .is-unknown-form .ensures) ∙ c .if3 .taken)
 
@@ -24,11 +18,11 @@ pub judge-spec : {M : Type 1} → statement M
 judge-spec =
     tie.close
     (tie.spec
-    returns
-    returns-2
+    (λ c. search (needs, lt-ltb, le-ltb))
+    (λ c. search (needs, lt-ltb, le-ltb))
     (λ c κs. search needs)
     returns-3
     (λ c κs. search needs)
     returns-4
-    (λ c κs. search needs)
+    (λ c κs. sym (c .before .before .before .is-unknown-form .ensures) ∙ c .before .before .if3 .left)
     returns-5)

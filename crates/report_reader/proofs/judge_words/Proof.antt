@@ -6,44 +6,54 @@ use mathlib.Core.List.{List, [], _∷_}
 use Rattle.refusals.specs.declared.LineRefusal.the-variants.{MinusZero}
 use Rattle.reports.specs.declared.RunAnswer.{RunAnswer}
 use Rattle.reports.specs.declared.RunAnswer.the-variants.{Accepted, Refused}
-use Rattle.report_reader.specs.declared.Found.{Found}
+use Rattle.report_reader.specs.declared.Content.{Content}
 use Rattle.reports.specs.Altitude.{signMagnitude}
 use Rattle.reports.specs.Records.{reportOf}
 use Rattle.reports.specs.Conditions.{unassigned, zeros, minusZero}
-use Rattle.reports.specs.Runs.{firstHit, lastRows}
-use Rattle.report_reader.specs.Found.{found}
+use Rattle.reports.specs.Runs.{lastRows}
+use Rattle.rows.specs.Rows.{firstOf}
+use Rattle.report_reader.specs.Content.{contentOf}
 use borrow.Author.Needs.{needs}
 use borrow.Author.Tests.{ne-eqb}
 use Rattle.report_reader.proofs.judge_words.Statement.{statement}
 use Rattle.report_reader.proofs.judge_words.Tie as tie
 
 abbrev answered : List ℕ → RunAnswer
-answered ws = firstHit (lastRows signMagnitude ws) (Accepted (reportOf signMagnitude ws))
+answered ws = firstOf (lastRows signMagnitude ws) (Accepted (reportOf signMagnitude ws))
 
 minus : (ws : List ℕ) → unassigned ws ≡ false → zeros ws ≡ 0 → minusZero signMagnitude ws ≡ true → Refused MinusZero 0 ≡ answered ws
 minus ws h7 h8 h9 = simp (h7, h8, h9)
 
-last : (ws : List ℕ) → unassigned ws ≡ false → zeros ws ≡ 0 → minusZero signMagnitude ws ≡ false → (x : Found) → x ≡ found ws → Accepted (x .report) ≡ answered ws
-last ws h7 h8 h9 x p = simp (h7, h8, h9) (ap (λ (y : Found). Accepted (y .report)) p)
-
-returns : tie.Need-returns
-returns c = simp (sym (c .before .is-unassigned .ensures) ∙ c .if1 .taken)
+last : (ws : List ℕ) → unassigned ws ≡ false → zeros ws ≡ 0 → minusZero signMagnitude ws ≡ false → (x : Content) → x ≡ contentOf ws → Accepted (x .report) ≡ answered ws
+last ws h7 h8 h9 x p = simp (h7, h8, h9) (ap (λ (y : Content). Accepted (y .report)) p)
 
 returns-2 : tie.Need-returns-2
-returns-2 c = simp (sym (c .before .before .before .is-unassigned .ensures) ∙ c .before .before .if1 .left, ne-eqb _ _ (λ e. c .if2 .taken (ap (λ (x : Found). x .spare) (c .before .found-of .ensures) ∙ e)))
+returns-2 c = simp (sym (c .before .before .before .is-unassigned .ensures) ∙ c .before .before .if1 .left, ne-eqb _ _ (λ e. c .if2 .taken (ap (λ (x : Content). x .spare) (c .before .content-of .ensures) ∙ e)))
 
 returns-3 : tie.Need-returns-3
-returns-3 c = minus (c .before .before .before .before .before .before .args .a ∷ c .before .before .before .before .before .before .args .b ∷ c .before .before .before .before .before .before .args .c ∷ c .before .before .before .before .before .before .args .d ∷ c .before .before .before .before .before .before .args .e ∷ c .before .before .before .before .before .before .args .f ∷ c .before .before .before .before .before .before .args .g ∷ []) (sym (c .before .before .before .before .before .is-unassigned .ensures) ∙ c .before .before .before .before .if1 .left) (sym (ap (λ (x : Found). x .spare) (c .before .before .before .found-of .ensures)) ∙ c .before .before .if2 .left) (sym (c .before .is-minus-zero .ensures) ∙ c .if3 .taken)
+returns-3 c =
+    let s = c .before .before .before .before .before .before in
+    minus (s .args .a ∷ s .args .b ∷ s .args .c ∷ s .args .d ∷ s .args .e ∷ s .args .f ∷ s .args .g ∷ [])
+    (sym (c .before .before .before .before .before .is-unassigned .ensures) ∙ c .before .before .before .before .if1 .left)
+    (sym (ap (λ (x : Content). x .spare) (c .before .before .before .content-of .ensures)) ∙ c .before .before .if2 .left)
+    (sym (c .before .is-minus-zero .ensures) ∙ c .if3 .taken)
 
 returns-4 : tie.Need-returns-4
-returns-4 c = last (c .before .before .before .before .before .before .args .a ∷ c .before .before .before .before .before .before .args .b ∷ c .before .before .before .before .before .before .args .c ∷ c .before .before .before .before .before .before .args .d ∷ c .before .before .before .before .before .before .args .e ∷ c .before .before .before .before .before .before .args .f ∷ c .before .before .before .before .before .before .args .g ∷ []) (sym (c .before .before .before .before .before .is-unassigned .ensures) ∙ c .before .before .before .before .if1 .left) (sym (ap (λ (x : Found). x .spare) (c .before .before .before .found-of .ensures)) ∙ c .before .before .if2 .left) (sym (c .before .is-minus-zero .ensures) ∙ c .if3 .left) (c .before .before .before .found-of .result) (c .before .before .before .found-of .ensures)
+returns-4 c =
+    let s = c .before .before .before .before .before .before in
+    last (s .args .a ∷ s .args .b ∷ s .args .c ∷ s .args .d ∷ s .args .e ∷ s .args .f ∷ s .args .g ∷ [])
+    (sym (c .before .before .before .before .before .is-unassigned .ensures) ∙ c .before .before .before .before .if1 .left)
+    (sym (ap (λ (x : Content). x .spare) (c .before .before .before .content-of .ensures)) ∙ c .before .before .if2 .left)
+    (sym (c .before .is-minus-zero .ensures) ∙ c .if3 .left)
+    (c .before .before .before .content-of .result)
+    (c .before .before .before .content-of .ensures)
 
 pub judge-words-spec : {M : Type 1} → statement M
 judge-words-spec =
     tie.close
     (tie.spec
     (λ c κs. search needs)
-    returns
+    (λ c. simp (sym (c .before .is-unassigned .ensures) ∙ c .if1 .taken))
     (λ c κs. search needs)
     returns-2
     (λ c κs. search needs)

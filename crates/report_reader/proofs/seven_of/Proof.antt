@@ -1,28 +1,27 @@
 -- `report_reader::seven_of` meets its contract: each return rewrites with the tests that led there. Assumes nothing.
 use Prim.Native.Nat.{ℕ, _+_, _<_}
-use mathlib.Core.Path.{_≡_, refl, ap, sym, _∙_}
+use mathlib.Core.Path.{_≡_, refl, ap, _∙_}
 use mathlib.Core.Bool.{Bool, true, false, cond}
 use mathlib.Core.List.{List, [], _∷_}
 use native.Mathlib.Omega.{arith}
 use Rattle.words.specs.Word.{bits}
 use Rattle.reports.specs.declared.Dabs.{Dabs}
 use Rattle.reports.specs.declared.Atcrbs.{Atcrbs}
-use Rattle.reports.specs.declared.Report.{Report}
 use Rattle.reports.specs.declared.Report.the-variants as R
-use Rattle.report_reader.specs.declared.Found.{Found}
-use Rattle.report_reader.specs.declared.FoundHeight.{FoundHeight}
+use Rattle.report_reader.specs.declared.HeightContent.{HeightContent}
 use Rattle.reports.specs.Altitude.{signMagnitude}
 use Rattle.reports.specs.Forms.{isCd, isMtd, isRdas}
 use Rattle.reports.specs.Records.{heightOf, dabsOf, atcrbsOf, sevenOf}
 use Rattle.reports.specs.Conditions.{heightSpares, sevenSpares}
-use Rattle.report_reader.specs.Found.{height}
+use Rattle.report_reader.specs.Content.{content, heightContent}
 use borrow.Author.Needs.{needs}
 use borrow.Author.Tests.{eq-eqb, ne-eqb}
+use Rattle.report_reader.proofs.Tests.{is-by, not-by}
 use Rattle.report_reader.proofs.seven_of.Statement.{statement}
 use Rattle.report_reader.proofs.seven_of.Tie as tie
 
 -- the words between are not read
-same : (a b c d e f g : ℕ) → height (a ∷ 0 ∷ 0 ∷ 0 ∷ 0 ∷ 0 ∷ g ∷ []) ≡ height (a ∷ b ∷ c ∷ d ∷ e ∷ f ∷ g ∷ [])
+same : (a b c d e f g : ℕ) → heightContent (a ∷ 0 ∷ 0 ∷ 0 ∷ 0 ∷ 0 ∷ g ∷ []) ≡ heightContent (a ∷ b ∷ c ∷ d ∷ e ∷ f ∷ g ∷ [])
 unfolding heightOf heightSpares
 same a b c d e f g = refl
 
@@ -34,35 +33,46 @@ height-small : (ws : List ℕ) → heightSpares ws < 128
 unfolding heightSpares
 height-small ws = pick-small (isCd ws) (omega arith) (pick-small (isMtd ws) (omega arith) (pick-small (isRdas ws) (omega arith) (omega arith)))
 
-abbrev found : Report → ℕ → Found
-found r n = record { report = r; spare = n }
-
-dabs : (ws : List ℕ) (h : FoundHeight) (r : Dabs) → h ≡ height ws → r ≡ dabsOf ws (h .height)
-    → found (R.Dabs r) (bits ws 45 46 + h .spare) ≡ found (R.Dabs (dabsOf ws (heightOf signMagnitude ws))) (bits ws 45 46 + heightSpares ws)
+dabs : (ws : List ℕ) (h : HeightContent) (r : Dabs) → h ≡ heightContent ws → r ≡ dabsOf ws (h .height)
+    → content (R.Dabs r) (bits ws 45 46 + h .spare) ≡ content (R.Dabs (dabsOf ws (heightOf signMagnitude ws))) (bits ws 45 46 + heightSpares ws)
 dabs ws h r p q = rw (q, p)
 
-atcrbs : (ws : List ℕ) (h : FoundHeight) (r : Atcrbs) → h ≡ height ws → r ≡ atcrbsOf ws (h .height)
-    → found (R.Atcrbs r) (h .spare) ≡ found (R.Atcrbs (atcrbsOf ws (heightOf signMagnitude ws))) (heightSpares ws)
+atcrbs : (ws : List ℕ) (h : HeightContent) (r : Atcrbs) → h ≡ heightContent ws → r ≡ atcrbsOf ws (h .height)
+    → content (R.Atcrbs r) (h .spare) ≡ content (R.Atcrbs (atcrbsOf ws (heightOf signMagnitude ws))) (heightSpares ws)
 atcrbs ws h r p q = rw (q, p)
 
 add-t21 : tie.Need-add-t21
-add-t21 c = let s = height-small (c .before .before .before .before .before .args .a ∷ 0 ∷ 0 ∷ 0 ∷ 0 ∷ 0 ∷ c .before .before .before .before .before .args .g ∷ []) in omega (arith, ap (λ (x : FoundHeight). x .spare) (c .before .before .before .before .height-of .ensures))
+add-t21 c =
+    let s = c .before .before .before .before .before in
+    let h = height-small (s .args .a ∷ 0 ∷ 0 ∷ 0 ∷ 0 ∷ 0 ∷ s .args .g ∷ []) in
+    omega (arith, ap (λ (x : HeightContent). x .spare) (c .before .before .before .before .height-of .ensures))
 
 returns : tie.Need-returns
 unfolding sevenOf sevenSpares
-returns c = simp (eq-eqb _ _ (c .before .before .if1 .taken)) (dabs _ _ _ (c .before .before .before .before .height-of .ensures ∙ same (c .before .before .before .before .before .args .a) (c .before .before .before .before .before .args .b) (c .before .before .before .before .before .args .c) (c .before .before .before .before .before .args .d) (c .before .before .before .before .before .args .e) (c .before .before .before .before .before .args .f) (c .before .before .before .before .before .args .g)) (c .before .dabs-of .ensures))
+returns c =
+    let s = c .before .before .before .before .before in
+    simp (s .pre, eq-eqb _ _ (c .before .before .if1 .taken))
+    (dabs _ _ _ (c .before .before .before .before .height-of .ensures ∙ same (s .args .a) (s .args .b) (s .args .c) (s .args .d) (s .args .e) (s .args .f) (s .args .g)) (c .before .dabs-of .ensures))
 
 returns-2 : tie.Need-returns-2
 unfolding sevenOf sevenSpares
-returns-2 c = simp (ne-eqb _ _ (c .before .before .if1 .left), eq-eqb _ _ (sym (c .before .before .before .told-by .ensures) ∙ c .before .if2 .taken), c .mtd-of .ensures)
+returns-2 c =
+    let e = c .before .before .before .radar-code .ensures in
+    simp (c .before .before .before .before .before .pre, ne-eqb _ _ (c .before .before .if1 .left), is-by _ e (c .before .if2 .taken), c .mtd-of .ensures)
 
 returns-3 : tie.Need-returns-3
 unfolding sevenOf sevenSpares
-returns-3 c = simp (ne-eqb _ _ (c .before .before .before .if1 .left), ne-eqb _ _ (λ e. c .before .before .if2 .left (c .before .before .before .before .told-by .ensures ∙ e)), eq-eqb _ _ (sym (c .before .before .before .before .told-by .ensures) ∙ c .before .if3 .taken), c .rdas-of .ensures)
+returns-3 c =
+    let e = c .before .before .before .before .radar-code .ensures in
+    simp (c .before .before .before .before .before .before .pre, ne-eqb _ _ (c .before .before .before .if1 .left), not-by _ e (c .before .before .if2 .left), is-by _ e (c .before .if3 .taken), c .rdas-of .ensures)
 
 returns-4 : tie.Need-returns-4
 unfolding sevenOf sevenSpares
-returns-4 c = simp (ne-eqb _ _ (c .before .before .before .if1 .left), ne-eqb _ _ (λ e. c .before .before .if2 .left (c .before .before .before .before .told-by .ensures ∙ e)), ne-eqb _ _ (λ e. c .before .if3 .left (c .before .before .before .before .told-by .ensures ∙ e))) (atcrbs _ _ _ (c .before .before .before .before .before .height-of .ensures ∙ same (c .before .before .before .before .before .before .args .a) (c .before .before .before .before .before .before .args .b) (c .before .before .before .before .before .before .args .c) (c .before .before .before .before .before .before .args .d) (c .before .before .before .before .before .before .args .e) (c .before .before .before .before .before .before .args .f) (c .before .before .before .before .before .before .args .g)) (c .atcrbs-of .ensures))
+returns-4 c =
+    let s = c .before .before .before .before .before .before in
+    let e = c .before .before .before .before .radar-code .ensures in
+    simp (s .pre, ne-eqb _ _ (c .before .before .before .if1 .left), not-by _ e (c .before .before .if2 .left), not-by _ e (c .before .if3 .left))
+    (atcrbs _ _ _ (c .before .before .before .before .before .height-of .ensures ∙ same (s .args .a) (s .args .b) (s .args .c) (s .args .d) (s .args .e) (s .args .f) (s .args .g)) (c .atcrbs-of .ensures))
 
 pub seven-of-spec : {M : Type 1} → statement M
 seven-of-spec =

@@ -12,33 +12,6 @@ use Rattle.report_writer.proofs.data_of.Tie as tie
 abbrev dataOf : Report → Data
 dataOf r = dataBy (layoutOf signMagnitude r)
 
-returns : tie.Need-returns
-returns c = c .search-data .ensures ∙ sym (ap dataOf (c .before .before .report .given .1))
-
-returns-2 : tie.Need-returns-2
-returns-2 c = c .strobe-data .ensures ∙ sym (ap dataOf (c .before .before .report2 .given .1))
-
-returns-3 : tie.Need-returns-3
-returns-3 c = c .map-data .ensures ∙ sym (ap dataOf (c .before .before .report3 .given .1))
-
-returns-4 : tie.Need-returns-4
-returns-4 c = c .status-data .ensures ∙ sym (ap dataOf (c .before .before .report4 .given .1))
-
-returns-5 : tie.Need-returns-5
-returns-5 c = c .rtqc-data .ensures ∙ sym (ap dataOf (c .before .before .report5 .given .1))
-
-returns-6 : tie.Need-returns-6
-returns-6 c = c .dabs-data .ensures ∙ sym (ap dataOf (c .before .before .report6 .given .1))
-
-returns-7 : tie.Need-returns-7
-returns-7 c = c .atcrbs-data .ensures ∙ sym (ap dataOf (c .before .before .report7 .given .1))
-
-returns-8 : tie.Need-returns-8
-returns-8 c = c .mtd-data .ensures ∙ sym (ap dataOf (c .before .before .report8 .given .1))
-
-returns-9 : tie.Need-returns-9
-returns-9 c = c .rdas-data .ensures ∙ sym (ap dataOf (c .before .before .report9 .given .1))
-
 pub data-of-spec : {M : Type 1} → statement M
 data-of-spec =
     tie.close
@@ -61,12 +34,12 @@ data-of-spec =
     (λ c κs. search needs)
     (λ c. search needs)
     (λ c κs. search needs)
-    returns
-    returns-2
-    returns-3
-    returns-4
-    returns-5
-    returns-6
-    returns-7
-    returns-8
-    returns-9)
+    (λ c. c .search-data .ensures ∙ sym (ap dataOf (c .before .before .report .given .1)))
+    (λ c. c .strobe-data .ensures ∙ sym (ap dataOf (c .before .before .report2 .given .1)))
+    (λ c. c .map-data .ensures ∙ sym (ap dataOf (c .before .before .report3 .given .1)))
+    (λ c. c .status-data .ensures ∙ sym (ap dataOf (c .before .before .report4 .given .1)))
+    (λ c. c .rtqc-data .ensures ∙ sym (ap dataOf (c .before .before .report5 .given .1)))
+    (λ c. c .dabs-data .ensures ∙ sym (ap dataOf (c .before .before .report6 .given .1)))
+    (λ c. c .atcrbs-data .ensures ∙ sym (ap dataOf (c .before .before .report7 .given .1)))
+    (λ c. c .mtd-data .ensures ∙ sym (ap dataOf (c .before .before .report8 .given .1)))
+    (λ c. c .rdas-data .ensures ∙ sym (ap dataOf (c .before .before .report9 .given .1))))

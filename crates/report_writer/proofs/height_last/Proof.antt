@@ -5,7 +5,8 @@ use mathlib.Core.List.{[], _∷_}
 use lib.IntN.{ℤ}
 use mir.Syntax.{w16}
 use mir.Facts.{toZ-ofZ}
-use Rattle.words.specs.Layout.{count, dataOrMore}
+use Rattle.words.specs.Layout.{count}
+use Rattle.report_writer.specs.Data.{dataOrMore}
 use Rattle.reports.specs.declared.Height.{Height}
 use Rattle.reports.specs.declared.Height.the-variants.{Altitude}
 use Rattle.reports.specs.Altitude.{signMagnitude}
@@ -19,18 +20,6 @@ last h = dataOrMore (lastWord signMagnitude h)
 
 returns : tie.Need-returns
 returns c = c .whole .ensures ∙ ap (λ (n : ℕ). dataOrMore (count 12 n ∷ [])) (c .before .altitude-bits .ensures .0) ∙ ap (λ (z : ℤ). last (Altitude z)) (toZ-ofZ {w = w16} {z = c .before .before .before .h .given .0 .0} (search needs)) ∙ sym (ap last (c .before .before .before .h .given .1))
-
-returns-2 : tie.Need-returns-2
-returns-2 c = c .whole2 .ensures ∙ sym (ap last (c .before .before .h2 .given .1))
-
-returns-3 : tie.Need-returns-3
-returns-3 c = c .cd-last .ensures ∙ sym (ap last (c .before .before .h3 .given .1))
-
-returns-4 : tie.Need-returns-4
-returns-4 c = c .mtd-quality-last .ensures ∙ sym (ap last (c .before .before .h4 .given .1))
-
-returns-5 : tie.Need-returns-5
-returns-5 c = c .rdas-quality-last .ensures ∙ sym (ap last (c .before .before .h5 .given .1))
 
 pub height-last-spec : {M : Type 1} → statement M
 height-last-spec =
@@ -49,7 +38,7 @@ height-last-spec =
     (λ c. search needs)
     (λ c κs. search needs)
     returns
-    returns-2
-    returns-3
-    returns-4
-    returns-5)
+    (λ c. c .whole2 .ensures ∙ sym (ap last (c .before .before .h2 .given .1)))
+    (λ c. c .cd-last .ensures ∙ sym (ap last (c .before .before .h3 .given .1)))
+    (λ c. c .mtd-quality-last .ensures ∙ sym (ap last (c .before .before .h4 .given .1)))
+    (λ c. c .rdas-quality-last .ensures ∙ sym (ap last (c .before .before .h5 .given .1))))

@@ -28,8 +28,5 @@ sub-result c = subst (λ (z : ℤ). SFits w16 z) (sym (minus (c .before .args .n
 returns : tie.Need-returns
 returns c = simp (eq-eqb _ _ (c .if1 .taken)) (ap (λ (z : ℤ). toZ w16 (ofZ w16 z)) (minus (c .before .args .n % 2048) (omega arith)) ∙ toZ-ofZ (minus-fits (c .before .args .n % 2048) (omega arith)))
 
-returns-2 : tie.Need-returns-2
-returns-2 c = simp (ne-eqb _ _ (c .if1 .left)) (plus (c .before .args .n % 2048) (omega arith))
-
 pub altitude-of-spec : {M : Type 1} → statement M
-altitude-of-spec = tie.close (tie.spec (λ c. search needs) sub-result returns returns-2)
+altitude-of-spec = tie.close (tie.spec (λ c. search needs) sub-result returns (λ c. simp (ne-eqb _ _ (c .if1 .left)) (plus (c .before .args .n % 2048) (omega arith))))

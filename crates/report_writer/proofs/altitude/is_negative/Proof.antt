@@ -13,8 +13,5 @@ below : (z : ℤ) → ltZ z (pos 0) ≡ negative z
 below (pos n) = le-ltb n 0 zero-le
 below (negsuc n) = refl
 
-returns : tie.Need-returns
-returns c = ap (λ (z : ℤ). ltZ z (pos 0)) (toZ-ofZ (c .fits .z)) ∙ below (c .args .z)
-
 pub is-negative-spec : {M : Type 1} → statement M
-is-negative-spec = tie.close (tie.spec returns)
+is-negative-spec = tie.close (tie.spec (λ c. ap (λ (z : ℤ). ltZ z (pos 0)) (toZ-ofZ (c .fits .z)) ∙ below (c .args .z)))

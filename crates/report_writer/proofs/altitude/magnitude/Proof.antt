@@ -43,17 +43,11 @@ plus-cast : (x : ℤ) → SFits w16 x → ltZ x (pos 0) ≡ false → T (nonNeg 
 plus-cast (pos n) f h = let k = f .sfits in (tt, record { fits = omega arith })
 plus-cast (negsuc n) f h = absurd (let z : _≡_ {A = ℕ} 0 1 = cc in omega arith)
 
-cast-n : tie.Need-cast-n
-cast-n c = wide _ (sfits-toZ (fits-ofZ (c .before .fits .z)))
-
 sub-n : tie.Need-sub-n
 sub-n c = subst (λ (y : ℤ). SFits w32 y) (sym (minus _ (sfits-toZ (fits-ofZ (c .before .fits .z))))) (minus-fits _ (sfits-toZ (fits-ofZ (c .before .fits .z))))
 
 cast-result : tie.Need-cast-result
 cast-result c = subst (λ (y : ℤ). T (nonNeg y) × Fits w32 (natAbs y)) (sym (minus-read _ (sfits-toZ (fits-ofZ (c .before .fits .z))))) (minus-cast _ (sfits-toZ (fits-ofZ (c .before .fits .z))) (c .if1 .taken))
-
-cast-result-2 : tie.Need-cast-result-2
-cast-result-2 c = plus-cast _ (sfits-toZ (fits-ofZ (c .before .fits .z))) (c .if1 .left)
 
 returns : tie.Need-returns
 returns c =
@@ -61,4 +55,4 @@ returns c =
     ap natAbs (minus-read x (sfits-toZ (fits-ofZ (c .before .fits .z)))) ∙ minus-abs x ∙ ap natAbs (toZ-ofZ (c .before .fits .z))
 
 pub magnitude-spec : {M : Type 1} → statement M
-magnitude-spec = tie.close (tie.spec cast-n sub-n cast-result cast-result-2 returns (λ c. search needs))
+magnitude-spec = tie.close (tie.spec (λ c. wide _ (sfits-toZ (fits-ofZ (c .before .fits .z)))) sub-n cast-result (λ c. plus-cast _ (sfits-toZ (fits-ofZ (c .before .fits .z))) (c .if1 .left)) returns (λ c. search needs))
