@@ -16,12 +16,20 @@ use reports::kinds;
 use reports::values;
 use reports::values::Values;
 
+const VERSION: u32 = 2;
+
+// ---- the kind of what is no report; reports::kinds has the others
+
+const REFUSED: u32 = 120;
+
+const END: u32 = 121;
+
 // The version of these calls. It changes when a call is added; none is ever changed or taken away.
 #[no_mangle]
 pub extern "C" fn siamrung_version() -> u32
     ensures { λ r. ⌜ r ≡ version ⌝ }
 {
-    2
+    VERSION
 }
 
 // ---- what stands at a place
@@ -31,8 +39,8 @@ fn kind_number(what: What) -> u32
 {
     match what {
         What::Accepted(report) => kinds::kind_of(report).number() as u32,
-        What::Refused(_) => 120,
-        What::End => 121,
+        What::Refused(_) => REFUSED,
+        What::End => END,
     }
 }
 
@@ -94,7 +102,7 @@ fn item_in(what: What, item: u32) -> Item
     ensures { λ r. ⌜ r ≡ itemAt what item ⌝ }
 {
     match what {
-        What::Accepted(report) => items::item_of(report, item),
+        What::Accepted(report) => items::item_of(report, item as usize),
         What::Refused(_) => Item::Missing,
         What::End => Item::Missing,
     }

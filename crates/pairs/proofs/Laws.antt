@@ -11,7 +11,7 @@ use lib.Seq.{drop-drop}
 use borrow.Author.Tests.{eq-eqb, ne-eqb}
 use Rattle.pairs.specs.declared.Found.{Found}
 use Rattle.pairs.specs.declared.Found.the-variants as F
-use Rattle.pairs.specs.Pairs.{Pair, eight, pairs, pairsIn, findIn, eachFrom, Slot}
+use Rattle.pairs.specs.Pairs.{Pair, eight, pairs, pairsIn, findIn, eachFrom, Slot, slots}
 
 pub length-pairs : (n : ℕ) (s : List ℕ) → length (pairs n s) ≡ n
 unfolding pairs
@@ -53,11 +53,11 @@ each-told {X} f n (suc k) (suc i) p ps h q =
     ∙ ap (λ (b : Bool). f (cond b (F.Value (p .1)) (findIn n ps)) ∷ eachFrom f (suc n) k (p ∷ ps)) (sym e)
 
 -- by the place that a slot names
-pub slot-told : {X : Type 0} (f : Found → X) (n m v k : ℕ) (ps : List Pair) → Slot n m k → k < 37 → set (eachFrom f n 37 ps) k (f (F.Value v)) ≡ eachFrom f n 37 ((m, v) ∷ ps)
-slot-told f n m v k ps o h = ⊎-elim (λ a. each-told f n 37 k (m, v) ps h (a .1)) (λ b. absurd (omega (arith, b .0))) o
+pub slot-told : {X : Type 0} (f : Found → X) (n m v k : ℕ) (ps : List Pair) → Slot n m k → k < slots → set (eachFrom f n slots ps) k (f (F.Value v)) ≡ eachFrom f n slots ((m, v) ∷ ps)
+slot-told f n m v k ps o h = ⊎-elim (λ a. each-told f n slots k (m, v) ps h (a .1)) (λ b. absurd (omega (arith, b .0))) o
 
-pub slot-other : {X : Type 0} (f : Found → X) (n m v k : ℕ) (ps : List Pair) → Slot n m k → 37 ≤ k → eachFrom f n 37 ((m, v) ∷ ps) ≡ eachFrom f n 37 ps
-slot-other f n m v k ps o h = ⊎-elim (λ a. absurd (omega (arith, a .0))) (λ b. each-other f n 37 (m, v) ps (b .1)) o
+pub slot-other : {X : Type 0} (f : Found → X) (n m v k : ℕ) (ps : List Pair) → Slot n m k → slots ≤ k → eachFrom f n slots ((m, v) ∷ ps) ≡ eachFrom f n slots ps
+slot-other f n m v k ps o h = ⊎-elim (λ a. absurd (omega (arith, a .0))) (λ b. each-other f n slots (m, v) ps (b .1)) o
 
 -- what stands at a place
 pub each-at : {X : Type 0} (f : Found → X) (n k i : ℕ) (d : X) (ps : List Pair) → i < k → getD (eachFrom f n k ps) i d ≡ f (findIn (n + i) ps)

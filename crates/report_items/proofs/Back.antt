@@ -31,7 +31,7 @@ use Rattle.reports.specs.Kinds.{kindOf, kindNumber, dabsKind, atcrbsKind}
 use Rattle.words.specs.Layout.{Field, fittingAll, fittingBy}
 use Rattle.reports.specs.Layouts.{Fits, layoutOf, lastWord}
 use Rattle.report_items.specs.declared.items.Item.the-variants as I
-use Rattle.report_items.specs.Items.{heightItems, lookup, itemOf}
+use Rattle.report_items.specs.Items.{last, heightItems, lookup, itemOf}
 use Rattle.report_items.specs.Given.{asSigned, itemFrom, told, valuesIn, plainGiven, cdGiven, mtdHeightGiven, rdasHeightGiven, dabsGiven, atcrbsGiven, built, builtFrom}
 use Rattle.report_items.proofs.Signed.{low, high}
 
@@ -112,7 +112,7 @@ word-fits (w ∷ l) (suc i) e = word-fits l i (both (fittingAll w) (fittingBy l)
 
 -- what the items say of a report, at one of their numbers
 abbrev Said : List Pair → Report → Type 0
-Said ps r = (n : ℕ) → 0 < n → n ≤ 36 → told ps n ≡ itemOf r n
+Said ps r = (n : ℕ) → 0 < n → n ≤ last → told ps n ≡ itemOf r n
 
 -- ---- four words
 

@@ -18,7 +18,7 @@ use Rattle.reports.specs.Kinds.{kindOf, kindNumber, dabsKind, atcrbsKind}
 use Rattle.reports.specs.Layouts.{Fits}
 use Rattle.report_items.specs.declared.items.Item.{Item}
 use Rattle.report_items.specs.declared.items.Item.the-variants as I
-use Rattle.report_items.specs.Items.{itemsOf, itemOf}
+use Rattle.report_items.specs.Items.{altitude, last, itemsOf, itemOf}
 use Rattle.report_items.specs.Given.{told, valuesIn, plainGiven, built, builtFrom, sameItem, agreeTo, agree, givenBy, given, unfit}
 use Rattle.report_items.specs.Claims.{ItemsOf, GivenExactly, NoneIsTaken}
 use Rattle.report_items.proofs.Back.{both, back}
@@ -128,11 +128,11 @@ module _ (r : Report) (fit : Fits signMagnitude r) (kind : ℕ) (items : List �
       let p = parts e in
       let b = p .2 in
       let n = both _ _ (p .1) in (
-        ⊎-elim (λ q. not-unfit (sym q ∙ b)) (λ q. sym q ∙ ap (λ (x : Report). kindNumber (kindOf x)) b) (kinded kind (isFound (findIn 31 ps)) (valuesIn ps)),
+        ⊎-elim (λ q. not-unfit (sym q ∙ b)) (λ q. sym q ∙ ap (λ (x : Report). kindNumber (kindOf x)) b) (kinded kind (isFound (findIn altitude ps)) (valuesIn ps)),
         record {
           whole = eqb-true _ _ (p .0);
           many = eqb-true _ _ (n .0) ∙ ap (λ (x : Report). length (itemsOf x)) b;
-          each = each-of r (told ps) 36 (ap (λ (x : Report). agreeTo 36 x (told ps)) (sym b) ∙ both _ _ (n .1) .0);
+          each = each-of r (told ps) last (ap (λ (x : Report). agreeTo last x (told ps)) (sym b) ∙ both _ _ (n .1) .0);
         },
       )
 
@@ -141,7 +141,7 @@ module _ (r : Report) (fit : Fits signMagnitude r) (kind : ℕ) (items : List �
   here (k, i) =
       let b : builtFrom kind ps ≡ r = ap (λ (x : ℕ). builtFrom x ps) k ∙ back ps r fit (i .each) in
       let a : agree (builtFrom kind ps) ps ≡ true =
-      ap (λ (x : Report). agree x ps) b ∙ picked _ _ (eq-eqb _ _ (i .many)) ∙ picked _ _ (of-each r (told ps) 36 (i .each)) in
+      ap (λ (x : Report). agree x ps) b ∙ picked _ _ (eq-eqb _ _ (i .many)) ∙ picked _ _ (of-each r (told ps) last (i .each)) in
       picked _ _ (eq-eqb _ _ (i .whole)) ∙ picked _ _ a ∙ b
 
 pub given-exactly : GivenExactly

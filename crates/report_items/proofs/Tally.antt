@@ -15,7 +15,7 @@ use Rattle.reports.specs.declared.Report.{Report}
 use Rattle.reports.specs.declared.Report.the-variants as R
 use Rattle.report_items.specs.declared.items.Item.{Item}
 use Rattle.report_items.specs.declared.items.Item.the-variants as I
-use Rattle.report_items.specs.Items.{itemsOf, itemOf, isOf}
+use Rattle.report_items.specs.Items.{last, itemsOf, itemOf, isOf}
 use Rattle.report_items.specs.Given.{asSigned, itemTold, sameItem, agreeTo}
 use Rattle.report_items.proofs.Back.{both}
 
@@ -109,7 +109,7 @@ module _ (r : Report) (said : ℕ → Item) where
 
 -- ---- a report's own
 
-own-tally : (r : Report) → tallyTo 36 (itemOf r) ≡ length (itemsOf r)
+own-tally : (r : Report) → tallyTo last (itemOf r) ≡ length (itemsOf r)
 unfolding tallyTo
 own-tally (R.Search s) = refl
 own-tally (R.Strobe s) = refl
@@ -118,7 +118,7 @@ own-tally (R.Status s) = refl
 own-tally (R.Rtqc s) = refl
 own-tally (R.Dabs d) = go (d .height) refl
   where
-    go : (h : Height) → d .height ≡ h → tallyTo 36 (itemOf (R.Dabs d)) ≡ length (itemsOf (R.Dabs d))
+    go : (h : Height) → d .height ≡ h → tallyTo last (itemOf (R.Dabs d)) ≡ length (itemsOf (R.Dabs d))
     go (H.Altitude z) e = rw e refl
     go (H.Carried n) e = rw e refl
     go (H.Cd m n) e = rw e refl
@@ -126,7 +126,7 @@ own-tally (R.Dabs d) = go (d .height) refl
     go (H.Rdas m n) e = rw e refl
 own-tally (R.Atcrbs a) = go (a .height) refl
   where
-    go : (h : Height) → a .height ≡ h → tallyTo 36 (itemOf (R.Atcrbs a)) ≡ length (itemsOf (R.Atcrbs a))
+    go : (h : Height) → a .height ≡ h → tallyTo last (itemOf (R.Atcrbs a)) ≡ length (itemsOf (R.Atcrbs a))
     go (H.Altitude z) e = rw e refl
     go (H.Carried n) e = rw e refl
     go (H.Cd m n) e = rw e refl
@@ -136,14 +136,14 @@ own-tally (R.Mtd m) = refl
 own-tally (R.Rdas x) = refl
 
 -- the test by what stands and how many is the test of all
-pub by-tally : (r : Report) (said : ℕ → Item) (n : ℕ) → standTo 36 r said ≡ true → n ≡ tallyTo 36 said → eqb n (length (itemsOf r)) ≡ agreeTo 36 r said
+pub by-tally : (r : Report) (said : ℕ → Item) (n : ℕ) → standTo last r said ≡ true → n ≡ tallyTo last said → eqb n (length (itemsOf r)) ≡ agreeTo last r said
 by-tally r said n s e =
-    by-test (agreeTo 36 r said)
-    (λ t. eq-eqb n (length (itemsOf r)) (e ∙ sym (all-stand r said 36 t .1) ∙ own-tally r) ∙ sym t)
-    (λ t. ne-eqb n (length (itemsOf r)) (λ q. never (sym t ∙ as-many r said 36 s .1 (own-tally r ∙ sym q ∙ e))) ∙ sym t)
+    by-test (agreeTo last r said)
+    (λ t. eq-eqb n (length (itemsOf r)) (e ∙ sym (all-stand r said last t .1) ∙ own-tally r) ∙ sym t)
+    (λ t. ne-eqb n (length (itemsOf r)) (λ q. never (sym t ∙ as-many r said last s .1 (own-tally r ∙ sym q ∙ e))) ∙ sym t)
   where
     never : false ≡ true → ⊥
     never h = let z : _≡_ {A = ℕ} 0 1 = cc in omega arith
 
-pub by-one : (r : Report) (said : ℕ → Item) → standTo 36 r said ≡ false → agreeTo 36 r said ≡ false
-by-one r said s = by-test (agreeTo 36 r said) (λ t. sym (all-stand r said 36 t .0 ∙ sym t) ∙ s) (λ t. t)
+pub by-one : (r : Report) (said : ℕ → Item) → standTo last r said ≡ false → agreeTo last r said ≡ false
+by-one r said s = by-test (agreeTo last r said) (λ t. sym (all-stand r said last t .0 ∙ sym t) ∙ s) (λ t. t)

@@ -9,14 +9,14 @@ use Rattle.reports.specs.declared.Report.{Report}
 use Rattle.reports.specs.Altitude.{signMagnitude}
 use Rattle.reports.specs.Kinds.{kindOf, kindNumber}
 use Rattle.reports.specs.Layouts.{Fits}
-use Rattle.report_items.specs.Items.{itemsOf, itemOf}
+use Rattle.report_items.specs.Items.{last, itemsOf, itemOf}
 use Rattle.report_items.specs.Given.{told, given, unfit}
 
 -- the items are those of a report: whole, as many as it has, and for each item's number what it has
 pub record ItemsOf (r : Report) (items : List ℕ) : Type 0 where
   pub whole : length items % 16 ≡ 0
   pub many : length (pairsIn items) ≡ length (itemsOf r)
-  pub each : (n : ℕ) → 0 < n → n ≤ 36 → told (pairsIn items) n ≡ itemOf r n
+  pub each : (n : ℕ) → 0 < n → n ≤ last → told (pairsIn items) n ≡ itemOf r n
 
 -- a report that the writer takes is given by its own kind and its own items, in any order, and by nothing else
 abbrev pub GivenExactly : Type 0

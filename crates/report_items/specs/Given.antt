@@ -11,7 +11,7 @@ use Rattle.words.specs.Tests.{all}
 use Rattle.pairs.specs.declared.Found.{Found}
 use Rattle.pairs.specs.declared.Found.the-variants as F
 use Rattle.pairs.specs.declared.Told.{Told}
-use Rattle.pairs.specs.Pairs.{Pair, pairsIn, findIn, valueOf, isFound, eachFrom}
+use Rattle.pairs.specs.Pairs.{Pair, pairsIn, slots, findIn, valueOf, isFound, eachFrom}
 use Rattle.reports.specs.declared.Search.{Search}
 use Rattle.reports.specs.declared.Strobe.{Strobe}
 use Rattle.reports.specs.declared.Map.{Map}
@@ -52,7 +52,7 @@ itemTold t n = cond (getD (t .there) n false) (I.Of (asSigned (2 ^ 63) (getD (t 
 
 -- the eight bytes as they stand, for every item's number, and 0 which is none's
 unfoldable pub valuesIn : List Pair → List ℕ
-valuesIn ps = eachFrom valueOf 0 37 ps
+valuesIn ps = eachFrom valueOf 0 slots ps
 
 -- ---- the record that values make: nothing is tested here
 
@@ -248,7 +248,7 @@ agreeTo (suc n) r said = cond (sameItem (itemOf r (suc n)) (said (suc n))) (agre
 
 -- by the pairs, and there are as many: so none is foreign, and none is there twice
 unfoldable pub agree : Report → List Pair → Bool
-agree r ps = all (eqb (length ps) (length (itemsOf r)) ∷ agreeTo 36 r (told ps) ∷ [])
+agree r ps = all (eqb (length ps) (length (itemsOf r)) ∷ agreeTo N.last r (told ps) ∷ [])
 
 -- the record of a kind's number and these pairs
 unfoldable pub givenBy : ℕ → List Pair → Report

@@ -7,7 +7,7 @@ use Prim.Native.Nat.{ℕ, suc, _+_, _-_, _*_, _/_, _≤_, _<_}
 use lib.ListN.{length, drop, set, replicate}
 use Rattle.pairs.specs.declared.Found.{Found}
 use Rattle.pairs.specs.declared.Found.the-variants as F
-use Rattle.pairs.specs.Pairs.{Pair, eight, pairs, pairsIn, findIn, isFound, valueOf, eachFrom, toldFrom, Slot}
+use Rattle.pairs.specs.Pairs.{Pair, eight, pairs, pairsIn, findIn, isFound, valueOf, eachFrom, toldFrom, Slot, slots}
 use Rattle.pairs.proofs.Laws.{pairs-before, slot-told, slot-other}
 use Rattle.pairs.proofs.gather.Statement.{statement}
 use Rattle.pairs.proofs.gather.Tie as tie
@@ -26,7 +26,7 @@ one-more s left m e h =
     ∙ ap (λ (x : ℕ). (eight (drop (16 * m) s), eight (drop (16 * m + 8) s)) ∷ pairs (length s / 16 - left) (drop x s)) n
 
 -- none yet
-none : {X : Type 0} (f : Found → X) (n : ℕ) (s : List ℕ) {l : List X} → l ≡ replicate 37 (f F.Missing) → l ≡ eachFrom f n 37 (behind s (length s / 16))
+none : {X : Type 0} (f : Found → X) (n : ℕ) (s : List ℕ) {l : List X} → l ≡ replicate slots (f F.Missing) → l ≡ eachFrom f n slots (behind s (length s / 16))
 unfolding pairs eachFrom findIn
 none f n s e =
     let z : length s / 16 - length s / 16 ≡ 0 = omega arith in
@@ -34,28 +34,28 @@ none f n s e =
 
 -- it tells of one of the numbers, or of none
 module _ {X : Type 0} (f : Found → X) (first : ℕ) (s : List ℕ) (left n k : ℕ) (l : List X) (h : 0 < left) (m : left ≤ length s / 16)
-    (e : l ≡ eachFrom f first 37 (behind s left)) (p : n ≡ eight (drop (16 * (left - 1)) s)) (o : Slot first n k) where
+    (e : l ≡ eachFrom f first slots (behind s left)) (p : n ≡ eight (drop (16 * (left - 1)) s)) (o : Slot first n k) where
   q : left ≡ suc (left - 1)
   q = omega arith
 
-  tells : (v : ℕ) → v ≡ eight (drop (16 * (left - 1) + 8) s) → k < 37 → set l k (f (F.Value v)) ≡ eachFrom f first 37 (behind s (left - 1))
+  tells : (v : ℕ) → v ≡ eight (drop (16 * (left - 1) + 8) s) → k < slots → set l k (f (F.Value v)) ≡ eachFrom f first slots (behind s (left - 1))
   tells v w a =
       ap (λ (x : List X). set x k (f (F.Value v))) e
       ∙ slot-told f first n v k (behind s left) o a
-      ∙ ap (λ (x : ℕ). eachFrom f first 37 ((x, v) ∷ behind s left)) p
-      ∙ ap (λ (x : ℕ). eachFrom f first 37 ((eight (drop (16 * (left - 1)) s), x) ∷ behind s left)) w
-      ∙ ap (λ (x : List Pair). eachFrom f first 37 x) (sym (one-more s left (left - 1) q m))
+      ∙ ap (λ (x : ℕ). eachFrom f first slots ((x, v) ∷ behind s left)) p
+      ∙ ap (λ (x : ℕ). eachFrom f first slots ((eight (drop (16 * (left - 1)) s), x) ∷ behind s left)) w
+      ∙ ap (λ (x : List Pair). eachFrom f first slots x) (sym (one-more s left (left - 1) q m))
 
-  leaves : 37 ≤ k → l ≡ eachFrom f first 37 (behind s (left - 1))
+  leaves : slots ≤ k → l ≡ eachFrom f first slots (behind s (left - 1))
   leaves a =
       e
       ∙ sym (slot-other f first n (eight (drop (16 * (left - 1) + 8) s)) k (behind s left) o a)
-      ∙ ap (λ (x : ℕ). eachFrom f first 37 ((x, eight (drop (16 * (left - 1) + 8) s)) ∷ behind s left)) p
-      ∙ ap (λ (x : List Pair). eachFrom f first 37 x) (sym (one-more s left (left - 1) q m))
+      ∙ ap (λ (x : ℕ). eachFrom f first slots ((x, eight (drop (16 * (left - 1) + 8) s)) ∷ behind s left)) p
+      ∙ ap (λ (x : List Pair). eachFrom f first slots x) (sym (one-more s left (left - 1) q m))
 
 abbrev Inv-loop : tie.InvT-loop
 Inv-loop items first there₀ values₀ left₀ there values left =
-    (left ≤ length items / 16) × (there ≡ eachFrom isFound first 37 (behind items left)) × (values ≡ eachFrom valueOf first 37 (behind items left))
+    (left ≤ length items / 16) × (there ≡ eachFrom isFound first slots (behind items left)) × (values ≡ eachFrom valueOf first slots (behind items left))
 
 abbrev μ-loop : tie.MeasureT-loop
 μ-loop items first there₀ values₀ left₀ there values left = left

@@ -9,7 +9,7 @@ use lib.ListN.{length}
 use borrow.Author.Needs.{needs}
 use Rattle.words.proofs.Tests.{picked, passed}
 use Rattle.report_items.specs.declared.items.Item.{Item}
-use Rattle.report_items.specs.Items.{itemOf, itemsOf, isOf}
+use Rattle.report_items.specs.Items.{last, itemOf, itemsOf, isOf}
 use Rattle.report_items.specs.Given.{itemTold}
 use Rattle.report_items.proofs.Tally.{tallyTo, stands, standTo, stands-by, one-by, stand-next, tally-next, stand-none, tally-none, by-tally, by-one}
 use Rattle.report_items.proofs.given.agrees.Statement.{statement}
@@ -20,18 +20,15 @@ told there values = itemTold (record { there = there; values = values })
 
 abbrev Inv-loop : tie.InvT-loop
 Inv-loop report size there values count₀ n₀ count n =
-    (count + n ≤ 36)
-    × (standTo n report (told there values) ≡ standTo 36 report (told there values))
-    × (count + tallyTo n (told there values) ≡ tallyTo 36 (told there values))
+    (count + n ≤ last)
+    × (standTo n report (told there values) ≡ standTo last report (told there values))
+    × (count + tallyTo n (told there values) ≡ tallyTo last (told there values))
 
 abbrev μ-loop : tie.MeasureT-loop
 μ-loop report size there values count₀ n₀ count n = n
 
 loop-holds : tie.Need-loop-holds Inv-loop μ-loop
 loop-holds c = (omega arith, refl, omega arith)
-
-cast-k : tie.Need-cast-k Inv-loop μ-loop
-cast-k c = omega arith
 
 array-read-stands : tie.Need-array-read-stands Inv-loop μ-loop
 array-read-stands c = omega arith
@@ -103,7 +100,7 @@ returns-2 c =
     let a = c .before .before .before .before .args in
     let z : l .n ≡ 0 = omega arith in
     let s : length (itemsOf (a .report)) ≡ a .size = search needs in
-    let m : l .count ≡ tallyTo 36 (itemTold (a .told)) = omega (arith, l .inv .2, tally-none (a .report) (itemTold (a .told)) (l .n) z) in
+    let m : l .count ≡ tallyTo last (itemTold (a .told)) = omega (arith, l .inv .2, tally-none (a .report) (itemTold (a .told)) (l .n) z) in
     ap (eqb (l .count)) (sym s)
     ∙ by-tally (a .report) (itemTold (a .told)) (l .count) (sym (l .inv .1) ∙ stand-none (a .report) (itemTold (a .told)) (l .n) z) m
 
@@ -114,7 +111,6 @@ agrees-spec =
     Inv-loop
     μ-loop
     loop-holds
-    cast-k
     array-read-stands
     mul-stands
     array-read-stands-2

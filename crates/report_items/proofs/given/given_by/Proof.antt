@@ -7,7 +7,7 @@ use lib.ListN.{length, getD}
 use Rattle.pairs.specs.declared.Told.{Told}
 use Rattle.pairs.specs.Pairs.{Pair, pairsIn, eachFrom, toldFrom}
 use Rattle.reports.specs.declared.Report.{Report}
-use Rattle.report_items.specs.Items.{itemsOf}
+use Rattle.report_items.specs.Items.{altitude, last, itemsOf}
 use Rattle.report_items.specs.Given.{told, valuesIn, itemTold, agreeTo, built, builtFrom}
 use Rattle.report_items.proofs.Builds.{by-count, by-items, by-all, gathered}
 use borrow.Author.Needs.{needs}
@@ -22,9 +22,9 @@ returns c =
     ∙ sym (by-count (a .kind) (pairsIn (a .items .now)) (λ e. c .before .if1 .taken (n .count .ensures ∙ e ∙ n .before .size-of .ensures _ _)))
 
 -- the record is the one that the pairs make
-by-told : (kind : ℕ) (ps : List Pair) (t : Told) → t ≡ toldFrom 0 ps → built kind (getD (t .there) 31 false) (t .values) ≡ builtFrom kind ps
+by-told : (kind : ℕ) (ps : List Pair) (t : Told) → t ≡ toldFrom 0 ps → built kind (getD (t .there) altitude false) (t .values) ≡ builtFrom kind ps
 unfolding toldFrom eachFrom valuesIn
-by-told kind ps t e = ap (λ (x : Told). built kind (getD (x .there) 31 false) (x .values)) e
+by-told kind ps t e = ap (λ (x : Told). built kind (getD (x .there) altitude false) (x .values)) e
 
 is : (c : tie.After-built-of) →
     let a = c .before .before .before .before .before .before .before .before .args in
@@ -50,8 +50,8 @@ agrees-requires : tie.Need-agrees-requires
 agrees-requires c κs = sized c
 
 -- the test by what is gathered is the test by the pairs
-tested : (r : Report) (ps : List Pair) (t : Told) (b : Bool) → t ≡ toldFrom 0 ps → b ≡ agreeTo 36 r (itemTold t) → agreeTo 36 r (told ps) ≡ b
-tested r ps t b e h = sym (gathered r ps) ∙ ap (λ (x : Told). agreeTo 36 r (itemTold x)) (sym e) ∙ sym h
+tested : (r : Report) (ps : List Pair) (t : Told) (b : Bool) → t ≡ toldFrom 0 ps → b ≡ agreeTo last r (itemTold t) → agreeTo last r (told ps) ≡ b
+tested r ps t b e h = sym (gathered r ps) ∙ ap (λ (x : Told). agreeTo last r (itemTold x)) (sym e) ∙ sym h
 
 returns-2 : tie.Need-returns-2
 returns-2 c =
