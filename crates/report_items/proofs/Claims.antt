@@ -15,7 +15,7 @@ use Rattle.pairs.specs.Pairs.{Pair, pairsIn, findIn, isFound}
 use Rattle.reports.specs.declared.Report.{Report}
 use Rattle.reports.specs.Altitude.{signMagnitude}
 use Rattle.reports.specs.Kinds.{kindOf, kindNumber, dabsKind, atcrbsKind}
-use Rattle.reports.specs.Layouts.{Fits}
+use Rattle.reports.specs.Layouts.{Fits, Takes}
 use Rattle.report_items.specs.declared.items.Item.{Item}
 use Rattle.report_items.specs.declared.items.Item.the-variants as I
 use Rattle.report_items.specs.Items.{altitude, last, itemsOf, itemOf}
@@ -105,13 +105,17 @@ kinded kind high v =
 
 -- ---- what is given
 
-module _ (r : Report) (fit : Fits signMagnitude r) (kind : ℕ) (items : List ℕ) where
+-- what the writer takes fits
+takes-fits : (r : Report) → Takes signMagnitude r → Fits signMagnitude r
+takes-fits r h = h
+
+module _ (r : Report) (taken : Takes signMagnitude r) (kind : ℕ) (items : List ℕ) where
   ps : List Pair
   ps = pairsIn items
 
-  -- no record is none that fits
+  -- no record is none that the writer takes
   not-unfit : {X : Type 0} → unfit ≡ r → X
-  not-unfit e = absurd (none-is-taken (subst (λ (x : Report). Fits signMagnitude x) (sym e) fit))
+  not-unfit e = absurd (none-is-taken (subst (λ (x : Report). Takes signMagnitude x) (sym e) taken))
 
   parts : given kind items ≡ r → (eqb (length items % 16) 0 ≡ true) × (agree (builtFrom kind ps) ps ≡ true) × (builtFrom kind ps ≡ r)
   unfolding given givenBy ps
@@ -139,10 +143,10 @@ module _ (r : Report) (fit : Fits signMagnitude r) (kind : ℕ) (items : List �
   here : (kind ≡ kindNumber (kindOf r)) × ItemsOf r items → given kind items ≡ r
   unfolding given givenBy agree ps
   here (k, i) =
-      let b : builtFrom kind ps ≡ r = ap (λ (x : ℕ). builtFrom x ps) k ∙ back ps r fit (i .each) in
+      let b : builtFrom kind ps ≡ r = ap (λ (x : ℕ). builtFrom x ps) k ∙ back ps r (takes-fits r taken) (i .each) in
       let a : agree (builtFrom kind ps) ps ≡ true =
       ap (λ (x : Report). agree x ps) b ∙ picked _ _ (eq-eqb _ _ (i .many)) ∙ picked _ _ (of-each r (told ps) last (i .each)) in
       picked _ _ (eq-eqb _ _ (i .whole)) ∙ picked _ _ a ∙ b
 
 pub given-exactly : GivenExactly
-given-exactly r fit kind items = (there r fit kind items, here r fit kind items)
+given-exactly r taken kind items = (there r taken kind items, here r taken kind items)

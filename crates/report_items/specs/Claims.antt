@@ -8,7 +8,7 @@ use Rattle.pairs.specs.Pairs.{pairsIn}
 use Rattle.reports.specs.declared.Report.{Report}
 use Rattle.reports.specs.Altitude.{signMagnitude}
 use Rattle.reports.specs.Kinds.{kindOf, kindNumber}
-use Rattle.reports.specs.Layouts.{Fits}
+use Rattle.reports.specs.Layouts.{Takes}
 use Rattle.report_items.specs.Items.{last, itemsOf, itemOf}
 use Rattle.report_items.specs.Given.{told, given, unfit}
 
@@ -21,9 +21,9 @@ pub record ItemsOf (r : Report) (items : List ℕ) : Type 0 where
 -- a report that the writer takes is given by its own kind and its own items, in any order, and by nothing else
 abbrev pub GivenExactly : Type 0
 GivenExactly =
-    (r : Report) → Fits signMagnitude r
+    (r : Report) → Takes signMagnitude r
     → (kind : ℕ) (items : List ℕ) → (given kind items ≡ r) ↔ ((kind ≡ kindNumber (kindOf r)) × ItemsOf r items)
 
 -- what stands for no record is refused by the writer
 abbrev pub NoneIsTaken : Type 0
-NoneIsTaken = Fits signMagnitude unfit → ⊥
+NoneIsTaken = Takes signMagnitude unfit → ⊥
