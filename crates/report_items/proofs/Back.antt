@@ -5,11 +5,11 @@ use mathlib.Core.List.{List, [], _∷_}
 use Prim.Native.Nat.{ℕ, zero, suc, _-_, _/_, _%_, _≤_, _<_}
 use native.Mathlib.Nat.{mod-eq-of-lt}
 use native.Mathlib.Omega.{arith}
-use borrow.Author.Tests.{ltb-true, ltb-false, leb-true}
-use lib.Dec.{eqb, leb, ltb, lit<, lit≤}
+use borrow.Author.Tests.{ltb-true, ltb-false}
+use lib.Dec.{eqb, ltb, lit<, lit≤}
 use lib.IntN.{ℤ, pos, negsuc, natAbs}
 use lib.ListN.{getD}
-use Rattle.words.proofs.Tests.{picked, passed, by-test}
+use Rattle.words.proofs.Tests.{picked, by-test}
 use Rattle.pairs.specs.declared.Found.{Found}
 use Rattle.pairs.specs.declared.Found.the-variants as F
 use Rattle.pairs.specs.Pairs.{Pair, findIn, valueOf, isFound, eachFrom}
@@ -26,13 +26,14 @@ use Rattle.reports.specs.declared.Mtd.{Mtd}
 use Rattle.reports.specs.declared.Rdas.{Rdas}
 use Rattle.reports.specs.declared.Report.{Report}
 use Rattle.reports.specs.declared.Report.the-variants as R
-use Rattle.reports.specs.Altitude.{signMagnitude}
+use Rattle.reports.specs.Altitude.{AltitudeForm}
 use Rattle.reports.specs.Kinds.{kindOf, kindNumber, dabsKind, atcrbsKind}
 use Rattle.words.specs.Layout.{Field, fittingAll, fittingBy}
 use Rattle.reports.specs.Layouts.{Fits, layoutOf, lastWord}
 use Rattle.report_items.specs.declared.items.Item.the-variants as I
 use Rattle.report_items.specs.Items.{last, heightItems, lookup, itemOf}
 use Rattle.report_items.specs.Given.{asSigned, itemFrom, told, valuesIn, plainGiven, cdGiven, mtdHeightGiven, rdasHeightGiven, dabsGiven, atcrbsGiven, built, builtFrom}
+use Rattle.report_items.specs.Claims.{InSixteenBits, Narrow}
 use Rattle.report_items.proofs.Signed.{low, high}
 
 -- ---- one value
@@ -62,22 +63,24 @@ found-not : (f : Found) → itemFrom f ≡ I.Missing → isFound f ≡ false
 found-not (F.Value v) e = let y : _≡_ {A = ℕ} 0 1 = cc in absurd (omega arith)
 found-not F.Missing e = refl
 
--- a number that is small enough for an altitude is one that sixteen bits hold
-signed-small : (v : ℕ) (z : ℤ) → natAbs z ≤ 2047 → asSigned 9223372036854775808 v ≡ z → asSigned 32768 v ≡ z
-signed-small v z s e =
+-- a number that sixteen bits hold is held by them
+signed-small : (v : ℕ) (z : ℤ) → InSixteenBits z → asSigned 9223372036854775808 v ≡ z → asSigned 32768 v ≡ z
+signed-small v (pos n) s e =
+    let q : v ≡ n = signed-pos v n e in
+    low 32768 v (omega arith) ∙ ap pos q
+signed-small v (negsuc n) s e =
     by-test (ltb v 9223372036854775808)
     (λ t.
-    let q : pos v ≡ z = sym (low 9223372036854775808 v (ltb-true _ _ t)) ∙ e in
-    let a : v ≡ natAbs z = ap natAbs q in
-    low 32768 v (omega arith) ∙ q)
+    let q : pos v ≡ negsuc n = sym (low 9223372036854775808 v (ltb-true _ _ t)) ∙ e in
+    let z : _≡_ {A = ℕ} 0 1 = cc in
+    absurd (omega arith))
     (λ t.
     let l : 9223372036854775808 ≤ v = ltb-false _ _ t in
-    let m : 18446744073709551615 - v < 9223372036854775808 = omega arith in
-    let q : negsuc (18446744073709551615 - v) ≡ z = sym (high 9223372036854775808 v l m) ∙ e in
-    let a : suc (18446744073709551615 - v) ≡ natAbs z = ap natAbs q in
+    let q : negsuc (18446744073709551615 - v) ≡ negsuc n = sym (high 9223372036854775808 v l (omega arith)) ∙ e in
+    let m : 18446744073709551615 - v ≡ n = cc in
     high 32768 v (omega arith) (omega arith) ∙ q)
 
-found-small : (f : Found) (z : ℤ) → natAbs z ≤ 2047 → itemFrom f ≡ I.Of z → asSigned 32768 (valueOf f) ≡ z
+found-small : (f : Found) (z : ℤ) → InSixteenBits z → itemFrom f ≡ I.Of z → asSigned 32768 (valueOf f) ≡ z
 found-small (F.Value v) z s e = let q : asSigned 9223372036854775808 v ≡ z = cc in signed-small v z s q
 found-small F.Missing z s e = let y : _≡_ {A = ℕ} 0 1 = cc in absurd (omega arith)
 
@@ -116,8 +119,8 @@ Said ps r = (n : ℕ) → 0 < n → n ≤ last → told ps n ≡ itemOf r n
 
 -- ---- four words
 
-module _ (ps : List Pair) where
-  search-back : (s : Search) → Fits signMagnitude (R.Search s) → Said ps (R.Search s) → builtFrom 101 ps ≡ R.Search s
+module _ (form : AltitudeForm) (narrow : Narrow form) (ps : List Pair) where
+  search-back : (s : Search) → Fits form (R.Search s) → Said ps (R.Search s) → builtFrom 101 ps ≡ R.Search s
   unfolding built valuesIn eachFrom
   search-back s f t =
       let a = both _ _ f in
@@ -142,7 +145,7 @@ module _ (ps : List Pair) where
       )
       refl
 
-  strobe-back : (s : Strobe) → Fits signMagnitude (R.Strobe s) → Said ps (R.Strobe s) → builtFrom 102 ps ≡ R.Strobe s
+  strobe-back : (s : Strobe) → Fits form (R.Strobe s) → Said ps (R.Strobe s) → builtFrom 102 ps ≡ R.Strobe s
   unfolding built valuesIn eachFrom
   strobe-back s f t =
       let a = both _ _ f in
@@ -163,7 +166,7 @@ module _ (ps : List Pair) where
       )
       refl
 
-  map-back : (m : Map) → Fits signMagnitude (R.Map m) → Said ps (R.Map m) → builtFrom 103 ps ≡ R.Map m
+  map-back : (m : Map) → Fits form (R.Map m) → Said ps (R.Map m) → builtFrom 103 ps ≡ R.Map m
   unfolding built valuesIn eachFrom
   map-back m f t =
       let z = both _ _ f in
@@ -185,7 +188,7 @@ module _ (ps : List Pair) where
       )
       refl
 
-  status-back : (s : Status) → Fits signMagnitude (R.Status s) → Said ps (R.Status s) → builtFrom 104 ps ≡ R.Status s
+  status-back : (s : Status) → Fits form (R.Status s) → Said ps (R.Status s) → builtFrom 104 ps ≡ R.Status s
   unfolding built valuesIn eachFrom
   status-back s f t =
       let a = both _ _ f in
@@ -204,7 +207,7 @@ module _ (ps : List Pair) where
       )
       refl
 
-  rtqc-back : (s : Rtqc) → Fits signMagnitude (R.Rtqc s) → Said ps (R.Rtqc s) → builtFrom 105 ps ≡ R.Rtqc s
+  rtqc-back : (s : Rtqc) → Fits form (R.Rtqc s) → Said ps (R.Rtqc s) → builtFrom 105 ps ≡ R.Rtqc s
   unfolding built valuesIn eachFrom
   rtqc-back s f t =
       let a = both _ _ f in
@@ -226,13 +229,6 @@ module _ (ps : List Pair) where
 
   -- ---- seven words: bits 79 to 90
 
-  altitude-small : (z : ℤ) → signMagnitude .bitsOf z < 4096 → natAbs z ≤ 2047
-  altitude-small z h =
-      by-test (leb (natAbs z) 2047) (λ t. leb-true _ _ t)
-      (λ t.
-      let e : signMagnitude .bitsOf z ≡ 4096 = passed _ _ t in
-      absurd (omega arith))
-
   -- the form that the kind's number says
   abbrev heightFor : Height → Height
   heightFor (Ht.Altitude z) = plainGiven (isFound (findIn 31 ps)) (valuesIn ps)
@@ -241,13 +237,13 @@ module _ (ps : List Pair) where
   heightFor (Ht.Mtd m n) = mtdHeightGiven (valuesIn ps)
   heightFor (Ht.Rdas m n) = rdasHeightGiven (valuesIn ps)
 
-  height-back : (h : Height) → fittingAll (lastWord signMagnitude h) ≡ true
+  height-back : (h : Height) → fittingAll (lastWord form h) ≡ true
       → told ps 7 ≡ lookup 7 (heightItems h) → told ps 18 ≡ lookup 18 (heightItems h) → told ps 31 ≡ lookup 31 (heightItems h)
       → told ps 32 ≡ lookup 32 (heightItems h) → told ps 33 ≡ lookup 33 (heightItems h)
       → heightFor h ≡ h
   unfolding valuesIn eachFrom told
   height-back (Ht.Altitude z) f t7 t18 t31 t32 t33 =
-      let small : natAbs z ≤ 2047 = altitude-small z (one _ _ f) in
+      let small : InSixteenBits z = narrow z (one _ _ f) in
       rw (found-has (findIn 31 ps) z t31, found-small (findIn 31 ps) z small t31) refl
   height-back (Ht.Carried n) f t7 t18 t31 t32 t33 =
       let small : n < 4096 = one _ _ f in
@@ -280,7 +276,7 @@ module _ (ps : List Pair) where
 
   -- ---- seven words
 
-  dabs-fields : (d : Dabs) → Fits signMagnitude (R.Dabs d) → Said ps (R.Dabs d) → dabsGiven (valuesIn ps) (d .height) ≡ d
+  dabs-fields : (d : Dabs) → Fits form (R.Dabs d) → Said ps (R.Dabs d) → dabsGiven (valuesIn ps) (d .height) ≡ d
   unfolding valuesIn eachFrom
   dabs-fields d f t =
       let a = both _ _ f in
@@ -308,15 +304,15 @@ module _ (ps : List Pair) where
       )
       refl
 
-  dabs-back : (d : Dabs) → Fits signMagnitude (R.Dabs d) → Said ps (R.Dabs d) → builtFrom (kindNumber (dabsKind (d .height))) ps ≡ R.Dabs d
+  dabs-back : (d : Dabs) → Fits form (R.Dabs d) → Said ps (R.Dabs d) → builtFrom (kindNumber (dabsKind (d .height))) ps ≡ R.Dabs d
   dabs-back d f t =
-      let last : fittingAll (lastWord signMagnitude (d .height)) ≡ true = word-fits (layoutOf signMagnitude (R.Dabs d)) 6 f in
+      let last : fittingAll (lastWord form (d .height)) ≡ true = word-fits (layoutOf form (R.Dabs d)) 6 f in
       dabs-built (d .height)
       ∙ ap (λ (h : Height). R.Dabs (dabsGiven (valuesIn ps) h))
       (height-back (d .height) last (t 7 (lit< tt) (lit≤ tt)) (t 18 (lit< tt) (lit≤ tt)) (t 31 (lit< tt) (lit≤ tt)) (t 32 (lit< tt) (lit≤ tt)) (t 33 (lit< tt) (lit≤ tt)))
       ∙ ap R.Dabs (dabs-fields d f t)
 
-  atcrbs-fields : (a : Atcrbs) → Fits signMagnitude (R.Atcrbs a) → Said ps (R.Atcrbs a) → atcrbsGiven (valuesIn ps) (a .height) ≡ a
+  atcrbs-fields : (a : Atcrbs) → Fits form (R.Atcrbs a) → Said ps (R.Atcrbs a) → atcrbsGiven (valuesIn ps) (a .height) ≡ a
   unfolding valuesIn eachFrom
   atcrbs-fields a f t =
       let w = both _ _ f in
@@ -349,15 +345,15 @@ module _ (ps : List Pair) where
       )
       refl
 
-  atcrbs-back : (a : Atcrbs) → Fits signMagnitude (R.Atcrbs a) → Said ps (R.Atcrbs a) → builtFrom (kindNumber (atcrbsKind (a .height))) ps ≡ R.Atcrbs a
+  atcrbs-back : (a : Atcrbs) → Fits form (R.Atcrbs a) → Said ps (R.Atcrbs a) → builtFrom (kindNumber (atcrbsKind (a .height))) ps ≡ R.Atcrbs a
   atcrbs-back a f t =
-      let last : fittingAll (lastWord signMagnitude (a .height)) ≡ true = word-fits (layoutOf signMagnitude (R.Atcrbs a)) 6 f in
+      let last : fittingAll (lastWord form (a .height)) ≡ true = word-fits (layoutOf form (R.Atcrbs a)) 6 f in
       atcrbs-built (a .height)
       ∙ ap (λ (h : Height). R.Atcrbs (atcrbsGiven (valuesIn ps) h))
       (height-back (a .height) last (t 7 (lit< tt) (lit≤ tt)) (t 18 (lit< tt) (lit≤ tt)) (t 31 (lit< tt) (lit≤ tt)) (t 32 (lit< tt) (lit≤ tt)) (t 33 (lit< tt) (lit≤ tt)))
       ∙ ap R.Atcrbs (atcrbs-fields a f t)
 
-  mtd-back : (m : Mtd) → Fits signMagnitude (R.Mtd m) → Said ps (R.Mtd m) → builtFrom 114 ps ≡ R.Mtd m
+  mtd-back : (m : Mtd) → Fits form (R.Mtd m) → Said ps (R.Mtd m) → builtFrom 114 ps ≡ R.Mtd m
   unfolding built valuesIn eachFrom
   mtd-back m f t =
       let w = both _ _ f in
@@ -392,7 +388,7 @@ module _ (ps : List Pair) where
       )
       refl
 
-  rdas-back : (x : Rdas) → Fits signMagnitude (R.Rdas x) → Said ps (R.Rdas x) → builtFrom 115 ps ≡ R.Rdas x
+  rdas-back : (x : Rdas) → Fits form (R.Rdas x) → Said ps (R.Rdas x) → builtFrom 115 ps ≡ R.Rdas x
   unfolding built valuesIn eachFrom
   rdas-back x f t =
       let w = both _ _ f in
@@ -418,7 +414,7 @@ module _ (ps : List Pair) where
       )
       refl
 
-  pub back : (r : Report) → Fits signMagnitude r → Said ps r → builtFrom (kindNumber (kindOf r)) ps ≡ r
+  pub back : (r : Report) → Fits form r → Said ps r → builtFrom (kindNumber (kindOf r)) ps ≡ r
   back (R.Search s) f t = search-back s f t
   back (R.Strobe s) f t = strobe-back s f t
   back (R.Map m) f t = map-back m f t
