@@ -14,10 +14,10 @@ abbrev pub version : ℕ
 version = 2
 
 -- what a place has that is no report
-abbrev pub refusedKind : ℕ
+abbrev refusedKind : ℕ
 refusedKind = 120
 
-abbrev pub endKind : ℕ
+abbrev endKind : ℕ
 endKind = 121
 
 abbrev pub kindNumberOf : What → ℕ

@@ -114,8 +114,8 @@ pub extern "C" fn siamrung_has(bytes: &[u8], place: usize, item: u32) -> u32
 {
     let o = line_reader::bytes::read(bytes, place);
     let what = o.what;
-    let found = item_in(what, item);
-    match found {
+    let own = item_in(what, item);
+    match own {
         Item::Of(_) => 1,
         Item::Missing => 0,
     }
@@ -128,8 +128,8 @@ pub extern "C" fn siamrung_item(bytes: &[u8], place: usize, item: u32) -> i64
 {
     let o = line_reader::bytes::read(bytes, place);
     let what = o.what;
-    let found = item_in(what, item);
-    match found {
+    let own = item_in(what, item);
+    match own {
         Item::Of(z) => z,
         Item::Missing => 0,
     }
@@ -160,8 +160,8 @@ pub extern "C" fn siamrung_has_values(bytes: &[u8], place: usize) -> u32
 {
     let o = line_reader::bytes::read(bytes, place);
     let what = o.what;
-    let found = values_in(what);
-    match found {
+    let values = values_in(what);
+    match values {
         Values::Measured(_) => 1,
         Values::Nothing => 0,
     }
@@ -174,8 +174,8 @@ pub extern "C" fn siamrung_nmi(bytes: &[u8], place: usize) -> f64
 {
     let o = line_reader::bytes::read(bytes, place);
     let what = o.what;
-    let found = values_in(what);
-    match found {
+    let values = values_in(what);
+    match values {
         Values::Measured(m) => m.range,
         Values::Nothing => nothing(),
     }
@@ -187,8 +187,8 @@ pub extern "C" fn siamrung_degrees(bytes: &[u8], place: usize) -> f64
 {
     let o = line_reader::bytes::read(bytes, place);
     let what = o.what;
-    let found = values_in(what);
-    match found {
+    let values = values_in(what);
+    match values {
         Values::Measured(m) => m.azimuth,
         Values::Nothing => nothing(),
     }
@@ -200,8 +200,8 @@ pub extern "C" fn siamrung_seconds(bytes: &[u8], place: usize) -> f64
 {
     let o = line_reader::bytes::read(bytes, place);
     let what = o.what;
-    let found = values_in(what);
-    match found {
+    let values = values_in(what);
+    match values {
         Values::Measured(m) => m.time,
         Values::Nothing => nothing(),
     }

@@ -9,7 +9,7 @@ use lib.ListN.{length, drop}
 use Rattle.bits.specs.Bits.{bitsOf}
 use Rattle.pairs.specs.declared.Found.{Found}
 use Rattle.pairs.specs.declared.Found.the-variants as F
-use Rattle.pairs.specs.declared.Told.{Told}
+use Rattle.pairs.specs.declared.Gathered.{Gathered}
 
 abbrev pub Pair : Type 0
 Pair = ℕ × ℕ
@@ -51,8 +51,8 @@ abbrev pub slots : ℕ
 slots = 37
 
 -- of those from n on
-unfoldable pub toldFrom : ℕ → List Pair → Told
-toldFrom n ps = record { there = eachFrom isFound n slots ps; values = eachFrom valueOf n slots ps }
+unfoldable pub gatheredFrom : ℕ → List Pair → Gathered
+gatheredFrom n ps = record { there = eachFrom isFound n slots ps; values = eachFrom valueOf n slots ps }
 
 -- k is the place of the number m among those, or slots and m is none of them
 abbrev pub Slot : ℕ → ℕ → ℕ → Type 0

@@ -6,7 +6,7 @@ ghost use Prim.Native.Nat.{_+_, _%_, _≤_};
 ghost use lib.Dec.{eqb};
 ghost use lib.ListN.{length, drop};
 ghost use Rattle.bits.specs.Bits.{bitsOf};
-ghost use Rattle.pairs.specs.Pairs.{pairsIn, Slot, toldFrom};
+ghost use Rattle.pairs.specs.Pairs.{pairsIn, Slot, gatheredFrom};
 
 pub enum Found {
     Value(u64),
@@ -17,7 +17,7 @@ pub enum Found {
 pub const SLOTS: usize = 37;
 
 // What is found for each of SLOTS numbers: whether there is a value, and the value, 0 where there is none.
-pub struct Told {
+pub struct Gathered {
     pub there: [bool; SLOTS],
     pub values: [u64; SLOTS],
 }
@@ -55,10 +55,10 @@ fn slot(first: u64, number: u64) -> usize
     if k < SLOTS { k } else { SLOTS }
 }
 
-// What is told of the SLOTS numbers from `first` on. One pass over the slice, the last pair first: of those with the same number the
+// What is found for the SLOTS numbers from `first` on. One pass over the slice, the last pair first: of those with the same number the
 // first one stays.
-pub fn gather(items: &[u8], first: u64) -> Told
-    ensures { λ r. ⌜ r ≡ toldFrom first (pairsIn (now (items .entry))) ⌝ }
+pub fn gather(items: &[u8], first: u64) -> Gathered
+    ensures { λ r. ⌜ r ≡ gatheredFrom first (pairsIn (now (items .entry))) ⌝ }
 {
     let mut there = [false; SLOTS];
     let mut values = [0u64; SLOTS];
@@ -71,5 +71,5 @@ pub fn gather(items: &[u8], first: u64) -> Told
             values[k] = eight(items, 16 * left + 8);
         }
     }
-    Told { there, values }
+    Gathered { there, values }
 }

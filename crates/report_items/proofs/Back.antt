@@ -32,7 +32,7 @@ use Rattle.words.specs.Layout.{Field, fittingAll, fittingBy}
 use Rattle.reports.specs.Layouts.{Fits, layoutOf, lastWord}
 use Rattle.report_items.specs.declared.items.Item.the-variants as I
 use Rattle.report_items.specs.Items.{last, heightItems, lookup, itemOf}
-use Rattle.report_items.specs.Given.{asSigned, itemFrom, told, valuesIn, plainGiven, cdGiven, mtdHeightGiven, rdasHeightGiven, dabsGiven, atcrbsGiven, built, builtFrom}
+use Rattle.report_items.specs.Given.{asSigned, itemFrom, itemGiven, valuesIn, plainGiven, cdGiven, mtdHeightGiven, rdasHeightGiven, dabsGiven, atcrbsGiven, built, builtFrom}
 use Rattle.report_items.specs.Claims.{InSixteenBits, Narrow}
 use Rattle.report_items.proofs.Signed.{low, high}
 
@@ -87,14 +87,14 @@ found-small F.Missing z s e = let y : _≡_ {A = ℕ} 0 1 = cc in absurd (omega 
 -- ---- the values of the items of a list
 
 module _ (ps : List Pair) where
-  count-back : (n k : ℕ) (w : ℕ) → told ps n ≡ I.Of (pos k) → k < w → valueOf (findIn n ps) % w ≡ k
-  unfolding told
+  count-back : (n k : ℕ) (w : ℕ) → itemGiven ps n ≡ I.Of (pos k) → k < w → valueOf (findIn n ps) % w ≡ k
+  unfolding itemGiven
   count-back n k w e h =
       let b : valueOf (findIn n ps) ≡ k = found-count (findIn n ps) k e in
       rw b (mod-eq-of-lt h)
 
-  flag-back : (n : ℕ) (b : Bool) → told ps n ≡ I.Of (pos (cond b 1 0)) → eqb (valueOf (findIn n ps)) 1 ≡ b
-  unfolding told
+  flag-back : (n : ℕ) (b : Bool) → itemGiven ps n ≡ I.Of (pos (cond b 1 0)) → eqb (valueOf (findIn n ps)) 1 ≡ b
+  unfolding itemGiven
   flag-back n true e = rw (found-count (findIn n ps) 1 e) refl
   flag-back n false e = rw (found-count (findIn n ps) 0 e) refl
 
@@ -115,7 +115,7 @@ word-fits (w ∷ l) (suc i) e = word-fits l i (both (fittingAll w) (fittingBy l)
 
 -- what the items say of a report, at one of their numbers
 abbrev Said : List Pair → Report → Type 0
-Said ps r = (n : ℕ) → 0 < n → n ≤ last → told ps n ≡ itemOf r n
+Said ps r = (n : ℕ) → 0 < n → n ≤ last → itemGiven ps n ≡ itemOf r n
 
 -- ---- four words
 
@@ -238,10 +238,10 @@ module _ (form : AltitudeForm) (narrow : Narrow form) (ps : List Pair) where
   heightFor (Ht.Rdas m n) = rdasHeightGiven (valuesIn ps)
 
   height-back : (h : Height) → fittingAll (lastWord form h) ≡ true
-      → told ps 7 ≡ lookup 7 (heightItems h) → told ps 18 ≡ lookup 18 (heightItems h) → told ps 31 ≡ lookup 31 (heightItems h)
-      → told ps 32 ≡ lookup 32 (heightItems h) → told ps 33 ≡ lookup 33 (heightItems h)
+      → itemGiven ps 7 ≡ lookup 7 (heightItems h) → itemGiven ps 18 ≡ lookup 18 (heightItems h) → itemGiven ps 31 ≡ lookup 31 (heightItems h)
+      → itemGiven ps 32 ≡ lookup 32 (heightItems h) → itemGiven ps 33 ≡ lookup 33 (heightItems h)
       → heightFor h ≡ h
-  unfolding valuesIn eachFrom told
+  unfolding valuesIn eachFrom itemGiven
   height-back (Ht.Altitude z) f t7 t18 t31 t32 t33 =
       let small : InSixteenBits z = narrow z (one _ _ f) in
       rw (found-has (findIn 31 ps) z t31, found-small (findIn 31 ps) z small t31) refl

@@ -19,7 +19,7 @@ use Rattle.reports.specs.Layouts.{Fits, Takes}
 use Rattle.report_items.specs.declared.items.Item.{Item}
 use Rattle.report_items.specs.declared.items.Item.the-variants as I
 use Rattle.report_items.specs.Items.{altitude, last, itemsOf, itemOf}
-use Rattle.report_items.specs.Given.{told, valuesIn, plainGiven, built, builtFrom, sameItem, agreeTo, agree, givenBy, given, unfit}
+use Rattle.report_items.specs.Given.{itemGiven, valuesIn, plainGiven, built, builtFrom, sameItem, agreeTo, agree, givenBy, given, unfit}
 use Rattle.report_items.specs.Claims.{ItemsOf, InSixteenBits, Narrow, SignMagnitudeIsNarrow, GivenExactly, NoneIsTaken}
 use Rattle.report_items.proofs.Back.{both, back}
 
@@ -147,7 +147,7 @@ module _ (form : AltitudeForm) (narrow : Narrow form) (r : Report) (taken : Take
         record {
           whole = eqb-true _ _ (p .0);
           many = eqb-true _ _ (n .0) ∙ ap (λ (x : Report). length (itemsOf x)) b;
-          each = each-of r (told ps) last (ap (λ (x : Report). agreeTo last x (told ps)) (sym b) ∙ both _ _ (n .1) .0);
+          each = each-of r (itemGiven ps) last (ap (λ (x : Report). agreeTo last x (itemGiven ps)) (sym b) ∙ both _ _ (n .1) .0);
         },
       )
 
@@ -156,7 +156,7 @@ module _ (form : AltitudeForm) (narrow : Narrow form) (r : Report) (taken : Take
   here (k, i) =
       let b : builtFrom kind ps ≡ r = ap (λ (x : ℕ). builtFrom x ps) k ∙ back form narrow ps r (takes-fits form r taken) (i .each) in
       let a : agree (builtFrom kind ps) ps ≡ true =
-      ap (λ (x : Report). agree x ps) b ∙ picked _ _ (eq-eqb _ _ (i .many)) ∙ picked _ _ (of-each r (told ps) last (i .each)) in
+      ap (λ (x : Report). agree x ps) b ∙ picked _ _ (eq-eqb _ _ (i .many)) ∙ picked _ _ (of-each r (itemGiven ps) last (i .each)) in
       picked _ _ (eq-eqb _ _ (i .whole)) ∙ picked _ _ a ∙ b
 
 pub given-exactly : GivenExactly

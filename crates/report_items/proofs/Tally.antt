@@ -1,4 +1,4 @@
--- Items that a report has as they are told, and that are as many as it has, are all that it has. Assumes nothing.
+-- Items that a report has as they are given, and that are as many as it has, are all that it has. Assumes nothing.
 use Prim.Native.Nat.{ℕ, zero, suc, _+_, _-_, _^_, _≤_, _<_}
 use mathlib.Core.Path.{_≡_, refl, sym, _∙_}
 use mathlib.Core.Bool.{Bool, true, false, cond}
@@ -8,7 +8,7 @@ use lib.IntN.{ℤ}
 use lib.ListN.{length, getD}
 use borrow.Author.Tests.{eq-eqb, ne-eqb}
 use Rattle.words.proofs.Tests.{picked, by-test}
-use Rattle.pairs.specs.declared.Told.{Told}
+use Rattle.pairs.specs.declared.Gathered.{Gathered}
 use Rattle.reports.specs.declared.Height.{Height}
 use Rattle.reports.specs.declared.Height.the-variants as H
 use Rattle.reports.specs.declared.Report.{Report}
@@ -16,7 +16,7 @@ use Rattle.reports.specs.declared.Report.the-variants as R
 use Rattle.report_items.specs.declared.items.Item.{Item}
 use Rattle.report_items.specs.declared.items.Item.the-variants as I
 use Rattle.report_items.specs.Items.{last, itemsOf, itemOf, isOf}
-use Rattle.report_items.specs.Given.{asSigned, itemTold, sameItem, agreeTo}
+use Rattle.report_items.specs.Given.{asSigned, itemGathered, sameItem, agreeTo}
 use Rattle.report_items.proofs.Back.{both}
 
 -- how many of the numbers 1 to n something is said of
@@ -48,17 +48,17 @@ stands-same I.Missing (I.Of y) e = let z : _≡_ {A = ℕ} 0 1 = cc in absurd (o
 stands-same I.Missing I.Missing e = (omega arith, λ h. refl)
 
 -- of what is gathered
-pub stands-by : (own : Item) (t : Told) (n : ℕ)
-    → cond (getD (t .there) n false) (sameItem own (I.Of (asSigned (2 ^ 63) (getD (t .values) n 0)))) true ≡ stands own (itemTold t n)
-unfolding itemTold
+pub stands-by : (own : Item) (t : Gathered) (n : ℕ)
+    → cond (getD (t .there) n false) (sameItem own (I.Of (asSigned (2 ^ 63) (getD (t .values) n 0)))) true ≡ stands own (itemGathered t n)
+unfolding itemGathered
 stands-by own t n = go (getD (t .there) n false) (asSigned (2 ^ 63) (getD (t .values) n 0))
   where
     go : (b : Bool) (z : ℤ) → cond b (sameItem own (I.Of z)) true ≡ stands own (cond b (I.Of z) I.Missing)
     go true z = refl
     go false z = refl
 
-pub one-by : (t : Told) (n : ℕ) → cond (getD (t .there) n false) 1 0 ≡ isOf (itemTold t n)
-unfolding itemTold
+pub one-by : (t : Gathered) (n : ℕ) → cond (getD (t .there) n false) 1 0 ≡ isOf (itemGathered t n)
+unfolding itemGathered
 one-by t n = go (getD (t .there) n false) (asSigned (2 ^ 63) (getD (t .values) n 0))
   where
     go : (b : Bool) (z : ℤ) → cond b 1 0 ≡ isOf (cond b (I.Of z) I.Missing)

@@ -11,13 +11,13 @@ use Rattle.reports.specs.Altitude.{AltitudeForm, signMagnitude}
 use Rattle.reports.specs.Kinds.{kindOf, kindNumber}
 use Rattle.reports.specs.Layouts.{Takes}
 use Rattle.report_items.specs.Items.{last, itemsOf, itemOf}
-use Rattle.report_items.specs.Given.{told, given, unfit}
+use Rattle.report_items.specs.Given.{itemGiven, given, unfit}
 
 -- the items are those of a report: whole, as many as it has, and for each item's number what it has
 pub record ItemsOf (r : Report) (items : List ℕ) : Type 0 where
   pub whole : length items % 16 ≡ 0
   pub many : length (pairsIn items) ≡ length (itemsOf r)
-  pub each : (n : ℕ) → 0 < n → n ≤ last → told (pairsIn items) n ≡ itemOf r n
+  pub each : (n : ℕ) → 0 < n → n ≤ last → itemGiven (pairsIn items) n ≡ itemOf r n
 
 -- -32768 to 32767: what sixteen bits hold with a sign
 abbrev pub InSixteenBits : ℤ → Type 0

@@ -10,7 +10,7 @@ ghost use Prim.Native.Nat.{ℕ, _^_, _≤_};
 ghost use lib.ListN.{length};
 ghost use Rattle.pairs.specs.Pairs.{pairsIn};
 ghost use Rattle.report_items.specs.Items.{last, itemOf, itemsOf};
-ghost use Rattle.report_items.specs.Given.{asSigned, itemTold, searchGiven, strobeGiven, mapGiven, statusGiven, rtqcGiven, plainGiven, cdGiven, mtdHeightGiven, rdasHeightGiven, dabsGiven, atcrbsGiven, mtdGiven, rdasGiven, unfit, built, sameNumber, sameItem, agreeTo, givenBy, given};
+ghost use Rattle.report_items.specs.Given.{asSigned, itemGathered, searchGiven, strobeGiven, mapGiven, statusGiven, rtqcGiven, plainGiven, cdGiven, mtdHeightGiven, rdasHeightGiven, dabsGiven, atcrbsGiven, mtdGiven, rdasGiven, unfit, built, sameNumber, sameItem, agreeTo, givenBy, given};
 use crate::items::Item;
 use crate::items::item_of;
 use crate::numbers;
@@ -20,8 +20,8 @@ use measures::FineAzimuth;
 use measures::FineRange;
 use measures::RunLength;
 use measures::Time;
+use pairs::Gathered;
 use pairs::SLOTS;
-use pairs::Told;
 use reports::Atcrbs;
 use reports::Dabs;
 use reports::Height;
@@ -366,7 +366,7 @@ fn same(a: Item, b: Item) -> bool
     }
 }
 
-// A value that is told of a number is what the report has there.
+// A value that is given for a number is what the report has there.
 fn stands(report: Report, n: usize, there: bool, v: u64) -> bool
     ensures { λ r. ⌜ r ≡ cond there (sameItem (itemOf report n) (Item.Of (asSigned (2 ^ 63) v))) true ⌝ }
 {
@@ -384,13 +384,13 @@ fn one(there: bool) -> usize
     if there { 1 } else { 0 }
 }
 
-// For each item number the report, of so many items, has what is told of it: whatever is told stands in the report, and so many are told.
-fn agrees(report: Report, size: usize, told: Told) -> bool
+// For each number the report, of so many items, has what is given for it: whatever is given stands in the report, and so many are given.
+fn agrees(report: Report, size: usize, gathered: Gathered) -> bool
     requires { ⌜ length (itemsOf report) ≡ size ⌝ }
-    ensures { λ r. ⌜ r ≡ agreeTo last report (itemTold told) ⌝ }
+    ensures { λ r. ⌜ r ≡ agreeTo last report (itemGathered gathered) ⌝ }
 {
-    let there = told.there;
-    let values = told.values;
+    let there = gathered.there;
+    let values = gathered.values;
     let mut count: usize = 0;
     let mut n = numbers::LAST;
     while 0 < n {
@@ -412,11 +412,11 @@ fn given_by(kind: u32, items: &[u8]) -> Report
     if pairs::count(items) != size {
         return no_record();
     }
-    let told = pairs::gather(items, 0);
-    let there = told.there;
-    let values = told.values;
+    let gathered = pairs::gather(items, 0);
+    let there = gathered.there;
+    let values = gathered.values;
     let report = built_of(kind, there[numbers::ALTITUDE], values);
-    if agrees(report, size, told) {
+    if agrees(report, size, gathered) {
         report
     } else {
         no_record()

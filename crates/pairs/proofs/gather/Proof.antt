@@ -1,4 +1,4 @@
--- `pairs::gather` meets its contract: what is told by the pairs behind those that are left. Assumes nothing.
+-- `pairs::gather` meets its contract: what is found among the pairs behind those that are left. Assumes nothing.
 use borrow.Author.Needs.{needs}
 use native.Mathlib.Omega.{arith}
 use mathlib.Core.Path.{_≡_, refl, sym, ap, _∙_}
@@ -7,8 +7,8 @@ use Prim.Native.Nat.{ℕ, suc, _+_, _-_, _*_, _/_, _≤_, _<_}
 use lib.ListN.{length, drop, set, replicate}
 use Rattle.pairs.specs.declared.Found.{Found}
 use Rattle.pairs.specs.declared.Found.the-variants as F
-use Rattle.pairs.specs.Pairs.{Pair, eight, pairs, pairsIn, findIn, isFound, valueOf, eachFrom, toldFrom, Slot, slots}
-use Rattle.pairs.proofs.Laws.{pairs-before, slot-told, slot-other}
+use Rattle.pairs.specs.Pairs.{Pair, eight, pairs, pairsIn, findIn, isFound, valueOf, eachFrom, gatheredFrom, Slot, slots}
+use Rattle.pairs.proofs.Laws.{pairs-before, slot-anew, slot-other}
 use Rattle.pairs.proofs.gather.Statement.{statement}
 use Rattle.pairs.proofs.gather.Tie as tie
 
@@ -32,16 +32,16 @@ none f n s e =
     let z : length s / 16 - length s / 16 ≡ 0 = omega arith in
     rw z e
 
--- it tells of one of the numbers, or of none
+-- it is a pair of one of the numbers, or of none
 module _ {X : Type 0} (f : Found → X) (first : ℕ) (s : List ℕ) (left n k : ℕ) (l : List X) (h : 0 < left) (m : left ≤ length s / 16)
     (e : l ≡ eachFrom f first slots (behind s left)) (p : n ≡ eight (drop (16 * (left - 1)) s)) (o : Slot first n k) where
   q : left ≡ suc (left - 1)
   q = omega arith
 
-  tells : (v : ℕ) → v ≡ eight (drop (16 * (left - 1) + 8) s) → k < slots → set l k (f (F.Value v)) ≡ eachFrom f first slots (behind s (left - 1))
-  tells v w a =
+  sets : (v : ℕ) → v ≡ eight (drop (16 * (left - 1) + 8) s) → k < slots → set l k (f (F.Value v)) ≡ eachFrom f first slots (behind s (left - 1))
+  sets v w a =
       ap (λ (x : List X). set x k (f (F.Value v))) e
-      ∙ slot-told f first n v k (behind s left) o a
+      ∙ slot-anew f first n v k (behind s left) o a
       ∙ ap (λ (x : ℕ). eachFrom f first slots ((x, v) ∷ behind s left)) p
       ∙ ap (λ (x : ℕ). eachFrom f first slots ((eight (drop (16 * (left - 1)) s), x) ∷ behind s left)) w
       ∙ ap (λ (x : List Pair). eachFrom f first slots x) (sym (one-more s left (left - 1) q m))
@@ -106,8 +106,8 @@ loop-again c =
     let n = t .before .eight .result in
     let p = t .before .eight .ensures in (
       omega arith,
-      tells isFound (a .first) (a .items .now) (l .left) n _ (l .there) (omega arith) (omega arith) (l .inv .1) p (t .slot .ensures) _ (c .eight2 .ensures) (omega arith),
-      tells valueOf (a .first) (a .items .now) (l .left) n _ (l .values) (omega arith) (omega arith) (l .inv .2) p (t .slot .ensures) _ (c .eight2 .ensures) (omega arith),
+      sets isFound (a .first) (a .items .now) (l .left) n _ (l .there) (omega arith) (omega arith) (l .inv .1) p (t .slot .ensures) _ (c .eight2 .ensures) (omega arith),
+      sets valueOf (a .first) (a .items .now) (l .left) n _ (l .values) (omega arith) (omega arith) (l .inv .2) p (t .slot .ensures) _ (c .eight2 .ensures) (omega arith),
     )
 
 loop-less-2 : tie.Need-loop-less-2 Inv-loop μ-loop
@@ -126,7 +126,7 @@ loop-again-2 c =
     )
 
 returns : tie.Need-returns Inv-loop μ-loop
-unfolding toldFrom pairsIn
+unfolding gatheredFrom pairsIn
 returns c =
     let l = c .before .loop in
     let s = c .before .before .before .args .items .now in

@@ -10,7 +10,7 @@ use Rattle.host.proofs.line.siamrung_item.Statement.{statement}
 use Rattle.host.proofs.line.siamrung_item.Tie as tie
 
 returns : tie.Need-returns
-returns c = toZ-ofZ {w = w64} {z = c .before .found .given .0 .0} (search needs) ∙ sym (ap valueOf (c .before .found .given .1)) ∙ ap valueOf (c .before .before .before .item-in .ensures) ∙ ap (λ (o : Outcome). valueOf (itemAt (o .what) (c .before .before .before .before .before .before .args .item))) (c .before .before .before .before .read .ensures)
+returns c = toZ-ofZ {w = w64} {z = c .before .own .given .0 .0} (search needs) ∙ sym (ap valueOf (c .before .own .given .1)) ∙ ap valueOf (c .before .before .before .item-in .ensures) ∙ ap (λ (o : Outcome). valueOf (itemAt (o .what) (c .before .before .before .before .before .before .args .item))) (c .before .before .before .before .read .ensures)
 
 returns-2 : tie.Need-returns-2
 returns-2 c = sym (ap valueOf (c .enum-told .given .1)) ∙ ap valueOf (c .before .before .item-in .ensures) ∙ ap (λ (o : Outcome). valueOf (itemAt (o .what) (c .before .before .before .before .before .args .item))) (c .before .before .before .read .ensures)
