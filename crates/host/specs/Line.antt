@@ -1,5 +1,5 @@
--- What each call that reads a line answers, from the outcome at the place. The numbers of kinds are those of reports; these of what is no
--- report are ours. Definitions only.
+-- What each call that reads a line answers, from the outcome at the place. A report's kind has its number from reports; what is no report has
+-- its number here. Definitions only.
 use Prim.Native.Nat.{ℕ}
 use Rattle.refusals.specs.Numbers.{lineNumber}
 use Rattle.reports.specs.Kinds.{kindOf, kindNumber}
@@ -13,7 +13,7 @@ use Rattle.report_items.specs.Items.{itemOf}
 abbrev pub version : ℕ
 version = 2
 
--- what a place has that is no report
+-- the kind of what is no report
 abbrev refusedKind : ℕ
 refusedKind = 120
 

@@ -16,15 +16,18 @@ use reports::kinds;
 use reports::values;
 use reports::values::Values;
 
-const VERSION: u32 = 2;
-
 // ---- the kind of what is no report; reports::kinds has the others
 
 const REFUSED: u32 = 120;
 
 const END: u32 = 121;
 
-// The version of these calls. It changes when a call is added; none is ever changed or taken away.
+// ---- the version of these calls
+
+// It grows with each change of a call and with each new one.
+const VERSION: u32 = 2;
+
+// Numbers keep their meaning. A call whose meaning would change under the same arguments gets a new name instead.
 #[no_mangle]
 pub extern "C" fn siamrung_version() -> u32
     ensures { λ r. ⌜ r ≡ version ⌝ }

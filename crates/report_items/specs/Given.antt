@@ -42,7 +42,7 @@ abbrev pub itemFrom : Found → Item
 itemFrom (F.Value v) = I.Of (asSigned (2 ^ 63) v)
 itemFrom F.Missing = I.Missing
 
--- of an item's number
+-- what is given for an item's number
 unfoldable pub itemGiven : List Pair → ℕ → Item
 itemGiven ps n = itemFrom (findIn n ps)
 
@@ -200,7 +200,7 @@ rdasGiven v = record {
   «false_target» = flagOf v N.falseTarget;
 }
 
--- no record: the second word of a Status has no sixteen bits
+-- no record: the second word of a Status has twelve bits, and 65535 takes sixteen
 abbrev pub unfit : Report
 unfit = R.Status record { test = false; faa = false; af = false; second = 65535; third = 0; fourth = 0 }
 

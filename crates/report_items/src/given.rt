@@ -2,7 +2,7 @@
 // their values are, a record is built from them, cut to its fields; then the record's own items are held against those given, and counted. So
 // one test finds a value that was cut, a flag that is neither 0 nor 1, an item that is missing, foreign or given twice; what fails stands for
 // one record that the writer refuses.
-// Relies on pairs for the items' values, items for a record's own.
+// Relies on pairs for the items' values, items for a record's own, numbers and reports::kinds for their numbers.
 ghost use mathlib.Core.Path.{_≡_};
 ghost use mathlib.Core.Bool.{Bool, true, cond};
 ghost use mathlib.Core.List.{List};
@@ -270,7 +270,7 @@ fn rdas_given(v: [u64; SLOTS]) -> Rdas
     }
 }
 
-// What is no record: the second word of a Status has no sixteen bits, so the writer refuses it with number 11.
+// What is no record: the second word of a Status has twelve bits, and 65535 takes sixteen, so the writer refuses it with number 11.
 fn no_record() -> Report
     ensures { λ r. ⌜ r ≡ unfit ⌝ }
 {
