@@ -7,26 +7,6 @@ use borrow.Author.Needs.{needs}
 use Rattle.report_items.proofs.given.built_of.Statement.{statement}
 use Rattle.report_items.proofs.given.built_of.Tie as tie
 
-returns : tie.Need-returns
-unfolding built
-returns c = rw (c .before .match .keys1) (ap R.Search (c .search-given .ensures))
-
-returns-2 : tie.Need-returns-2
-unfolding built
-returns-2 c = rw (c .before .match .keys2) (ap R.Strobe (c .strobe-given .ensures))
-
-returns-3 : tie.Need-returns-3
-unfolding built
-returns-3 c = rw (c .before .match .keys3) (ap R.Map (c .map-given .ensures))
-
-returns-4 : tie.Need-returns-4
-unfolding built
-returns-4 c = rw (c .before .match .keys4) (ap R.Status (c .status-given .ensures))
-
-returns-5 : tie.Need-returns-5
-unfolding built
-returns-5 c = rw (c .before .match .keys5) (ap R.Rtqc (c .rtqc-given .ensures))
-
 returns-6 : tie.Need-returns-6
 unfolding built
 returns-6 c =
@@ -75,19 +55,8 @@ returns-13 c =
     rw (c .before .before .match .keys13)
     (ap R.Atcrbs (c .atcrbs-given4 .ensures ∙ ap (atcrbsGiven (c .before .before .before .args .v)) (c .before .rdas-height-given2 .ensures)))
 
-returns-14 : tie.Need-returns-14
-unfolding built
-returns-14 c = rw (c .before .match .keys14) (ap R.Mtd (c .mtd-given .ensures))
-
-returns-15 : tie.Need-returns-15
-unfolding built
-returns-15 c = rw (c .before .match .keys15) (ap R.Rdas (c .rdas-given .ensures))
-
-returns-16 : tie.Need-returns-16
-unfolding built
-returns-16 c = search (needs, ne-eqb, c .no-record .ensures)
-
 pub built-of-spec : {M : Type 1} → statement M
+unfolding built
 built-of-spec =
     tie.close
     (tie.spec
@@ -115,11 +84,11 @@ built-of-spec =
     (λ c κs. search needs)
     (λ c κs. search needs)
     (λ c κs. search needs)
-    returns
-    returns-2
-    returns-3
-    returns-4
-    returns-5
+    (λ c. rw (c .before .match .keys1) (ap R.Search (c .search-given .ensures)))
+    (λ c. rw (c .before .match .keys2) (ap R.Strobe (c .strobe-given .ensures)))
+    (λ c. rw (c .before .match .keys3) (ap R.Map (c .map-given .ensures)))
+    (λ c. rw (c .before .match .keys4) (ap R.Status (c .status-given .ensures)))
+    (λ c. rw (c .before .match .keys5) (ap R.Rtqc (c .rtqc-given .ensures)))
     returns-6
     returns-7
     returns-8
@@ -128,6 +97,6 @@ built-of-spec =
     returns-11
     returns-12
     returns-13
-    returns-14
-    returns-15
-    returns-16)
+    (λ c. rw (c .before .match .keys14) (ap R.Mtd (c .mtd-given .ensures)))
+    (λ c. rw (c .before .match .keys15) (ap R.Rdas (c .rdas-given .ensures)))
+    (λ c. search (needs, ne-eqb, c .no-record .ensures)))

@@ -18,18 +18,6 @@ held h n = lookup n (heightItems h)
 returns : tie.Need-returns
 returns c = c .altitude-item .ensures ∙ ap (λ (z : ℤ). held (Altitude z) (c .before .before .before .before .args .item)) (toZ-ofZ {w = w16} {z = c .before .before .h .given .0 .0} (search needs)) ∙ sym (ap (λ (h : Height). held h (c .before .before .before .before .args .item)) (c .before .before .h .given .1))
 
-returns-2 : tie.Need-returns-2
-returns-2 c = c .carried-item .ensures ∙ sym (ap (λ (h : Height). held h (c .before .before .before .before .args .item)) (c .before .before .h2 .given .1))
-
-returns-3 : tie.Need-returns-3
-returns-3 c = c .cd-item .ensures ∙ sym (ap (λ (h : Height). held h (c .before .before .before .before .args .item)) (c .before .before .h3 .given .1))
-
-returns-4 : tie.Need-returns-4
-returns-4 c = c .quality-item .ensures ∙ sym (ap (λ (h : Height). held h (c .before .before .before .before .args .item)) (c .before .before .h4 .given .1))
-
-returns-5 : tie.Need-returns-5
-returns-5 c = c .quality-item2 .ensures ∙ sym (ap (λ (h : Height). held h (c .before .before .before .before .args .item)) (c .before .before .h5 .given .1))
-
 pub height-item-spec : {M : Type 1} → statement M
 height-item-spec =
     tie.close
@@ -45,7 +33,7 @@ height-item-spec =
     (λ c. search needs)
     (λ c κs. search needs)
     returns
-    returns-2
-    returns-3
-    returns-4
-    returns-5)
+    (λ c. c .carried-item .ensures ∙ sym (ap (λ (h : Height). held h (c .before .before .before .before .args .item)) (c .before .before .h2 .given .1)))
+    (λ c. c .cd-item .ensures ∙ sym (ap (λ (h : Height). held h (c .before .before .before .before .args .item)) (c .before .before .h3 .given .1)))
+    (λ c. c .quality-item .ensures ∙ sym (ap (λ (h : Height). held h (c .before .before .before .before .args .item)) (c .before .before .h4 .given .1)))
+    (λ c. c .quality-item2 .ensures ∙ sym (ap (λ (h : Height). held h (c .before .before .before .before .args .item)) (c .before .before .h5 .given .1))))
