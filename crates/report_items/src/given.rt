@@ -339,30 +339,13 @@ fn same_number(x: i64, y: i64) -> bool
     x == y
 }
 
-fn same_as(x: i64, b: Item) -> bool
-    ensures { λ r. ⌜ r ≡ sameItem (Item.Of x) b ⌝ }
+// An item is there and has this value.
+fn same(own: Item, y: i64) -> bool
+    ensures { λ r. ⌜ r ≡ sameItem own (Item.Of y) ⌝ }
 {
-    match b {
-        Item::Of(y) => same_number(x, y),
+    match own {
+        Item::Of(x) => same_number(x, y),
         Item::Missing => false,
-    }
-}
-
-fn is_missing(b: Item) -> bool
-    ensures { λ r. ⌜ r ≡ sameItem Item.Missing b ⌝ }
-{
-    match b {
-        Item::Of(_) => false,
-        Item::Missing => true,
-    }
-}
-
-fn same(a: Item, b: Item) -> bool
-    ensures { λ r. ⌜ r ≡ sameItem a b ⌝ }
-{
-    match a {
-        Item::Of(x) => same_as(x, b),
-        Item::Missing => is_missing(b),
     }
 }
 
@@ -371,8 +354,7 @@ fn stands(report: Report, n: usize, there: bool, v: u64) -> bool
     ensures { λ r. ⌜ r ≡ cond there (sameItem (itemOf report n) (Item.Of (asSigned (2 ^ 63) v))) true ⌝ }
 {
     if there {
-        let own = item_of(report, n);
-        same(own, Item::Of(signed_of(v)))
+        same(item_of(report, n), signed_of(v))
     } else {
         true
     }
