@@ -2,6 +2,8 @@
 -- its number here. Definitions only.
 use Prim.Native.Nat.{ℕ}
 use Rattle.refusals.specs.Numbers.{lineNumber}
+use Rattle.measures.specs.declared.Measured.{Measured}
+use Rattle.measures.specs.Exact.{AllExact}
 use Rattle.reports.specs.Kinds.{kindOf, kindNumber}
 use Rattle.reports.specs.Values.{Counted, counts, none, countedOf}
 use Rattle.lines.specs.declared.What.{What}
@@ -60,3 +62,7 @@ azimuthOf none = 0
 abbrev pub timeOf : Counted → ℕ
 timeOf (counts r a t) = t
 timeOf none = 0
+
+-- the record has these values, all of them 0 where there are none
+abbrev pub Shows : Counted → Measured → Type 0
+Shows k m = AllExact (rangeOf k) (azimuthOf k) (timeOf k) m

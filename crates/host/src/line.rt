@@ -7,8 +7,11 @@ ghost use Rattle.lines.specs.Bytes.{readBytes};
 ghost use Rattle.reports.specs.Altitude.{signMagnitude};
 ghost use Rattle.reports.specs.Values.{Yields};
 ghost use Rattle.report_items.specs.Items.{isOf, valueOf};
-ghost use Rattle.host.specs.Line.{version, kindNumberOf, refusalOf, itemAt, countedAt, has, rangeOf, azimuthOf, timeOf};
+ghost use Rattle.host.specs.Line.{version, kindNumberOf, refusalOf, itemAt, countedAt, has, rangeOf, azimuthOf, timeOf, Shows};
 use lines::What;
+use measures::CoarseAzimuth;
+use measures::CoarseRange;
+use measures::Measured;
 use measures::Time;
 use report_items::items;
 use report_items::items::Item;
@@ -101,9 +104,11 @@ pub extern "C" fn siamrung_named(bytes: &[u8], place: usize) -> usize
 
 // ---- the fields of a report
 
-fn item_in(what: What, item: u32) -> Item
-    ensures { λ r. ⌜ r ≡ itemAt what item ⌝ }
+fn item_at(bytes: &[u8], place: usize, item: u32) -> Item
+    ensures { λ r. ⌜ r ≡ itemAt (readBytes signMagnitude (now (bytes .entry)) place .what) item ⌝ }
 {
+    let o = line_reader::bytes::read(bytes, place);
+    let what = o.what;
     match what {
         What::Accepted(report) => items::item_of(report, item as usize),
         What::Refused(_) => Item::Missing,
@@ -115,9 +120,7 @@ fn item_in(what: What, item: u32) -> Item
 pub extern "C" fn siamrung_has(bytes: &[u8], place: usize, item: u32) -> u32
     ensures { λ r. ⌜ r ≡ isOf (itemAt (readBytes signMagnitude (now (bytes .entry)) place .what) item) ⌝ }
 {
-    let o = line_reader::bytes::read(bytes, place);
-    let what = o.what;
-    let own = item_in(what, item);
+    let own = item_at(bytes, place, item);
     match own {
         Item::Of(_) => 1,
         Item::Missing => 0,
@@ -129,9 +132,7 @@ pub extern "C" fn siamrung_has(bytes: &[u8], place: usize, item: u32) -> u32
 pub extern "C" fn siamrung_item(bytes: &[u8], place: usize, item: u32) -> i64
     ensures { λ r. ⌜ r ≡ valueOf (itemAt (readBytes signMagnitude (now (bytes .entry)) place .what) item) ⌝ }
 {
-    let o = line_reader::bytes::read(bytes, place);
-    let what = o.what;
-    let own = item_in(what, item);
+    let own = item_at(bytes, place, item);
     match own {
         Item::Of(z) => z,
         Item::Missing => 0,
@@ -140,9 +141,11 @@ pub extern "C" fn siamrung_item(bytes: &[u8], place: usize, item: u32) -> i64
 
 // ---- range, azimuth and time as floats
 
-fn values_in(what: What) -> Values
-    ensures { λ r. ⌜ Yields (countedAt what) r ⌝ }
+fn values_at(bytes: &[u8], place: usize) -> Values
+    ensures { λ r. ⌜ Yields (countedAt (readBytes signMagnitude (now (bytes .entry)) place .what)) r ⌝ }
 {
+    let o = line_reader::bytes::read(bytes, place);
+    let what = o.what;
     match what {
         What::Accepted(report) => values::values_of(report),
         What::Refused(_) => Values::Nothing,
@@ -150,62 +153,48 @@ fn values_in(what: What) -> Values
     }
 }
 
-// Plus zero.
-fn nothing() -> f64
-    ensures { λ r. ⌜ Exact 0 r ⌝ }
-{
-    Time(0).seconds()
-}
-
 #[no_mangle]
 pub extern "C" fn siamrung_has_values(bytes: &[u8], place: usize) -> u32
     ensures { λ r. ⌜ r ≡ has (countedAt (readBytes signMagnitude (now (bytes .entry)) place .what)) ⌝ }
 {
-    let o = line_reader::bytes::read(bytes, place);
-    let what = o.what;
-    let values = values_in(what);
+    let values = values_at(bytes, place);
     match values {
         Values::Measured(_) => 1,
         Values::Nothing => 0,
     }
 }
 
-// Plus zero where there is no range, which siamrung_has_values tells; so for the next two.
+// All plus zero where there are none, which siamrung_has_values tells.
+fn measured_at(bytes: &[u8], place: usize) -> Measured
+    ensures { λ r. ⌜ Shows (countedAt (readBytes signMagnitude (now (bytes .entry)) place .what)) r ⌝ }
+{
+    let values = values_at(bytes, place);
+    match values {
+        Values::Measured(m) => m,
+        Values::Nothing => Measured::coarse(CoarseRange(0), CoarseAzimuth(0), Time(0)),
+    }
+}
+
 #[no_mangle]
 pub extern "C" fn siamrung_nmi(bytes: &[u8], place: usize) -> f64
     ensures { λ r. ⌜ Exact (rangeOf (countedAt (readBytes signMagnitude (now (bytes .entry)) place .what))) r ⌝ }
 {
-    let o = line_reader::bytes::read(bytes, place);
-    let what = o.what;
-    let values = values_in(what);
-    match values {
-        Values::Measured(m) => m.range,
-        Values::Nothing => nothing(),
-    }
+    let m = measured_at(bytes, place);
+    m.range
 }
 
 #[no_mangle]
 pub extern "C" fn siamrung_degrees(bytes: &[u8], place: usize) -> f64
     ensures { λ r. ⌜ Exact (azimuthOf (countedAt (readBytes signMagnitude (now (bytes .entry)) place .what))) r ⌝ }
 {
-    let o = line_reader::bytes::read(bytes, place);
-    let what = o.what;
-    let values = values_in(what);
-    match values {
-        Values::Measured(m) => m.azimuth,
-        Values::Nothing => nothing(),
-    }
+    let m = measured_at(bytes, place);
+    m.azimuth
 }
 
 #[no_mangle]
 pub extern "C" fn siamrung_seconds(bytes: &[u8], place: usize) -> f64
     ensures { λ r. ⌜ Exact (timeOf (countedAt (readBytes signMagnitude (now (bytes .entry)) place .what))) r ⌝ }
 {
-    let o = line_reader::bytes::read(bytes, place);
-    let what = o.what;
-    let values = values_in(what);
-    match values {
-        Values::Measured(m) => m.time,
-        Values::Nothing => nothing(),
-    }
+    let m = measured_at(bytes, place);
+    m.time
 }
