@@ -65,39 +65,6 @@ loop-holds c =
     let s = c .before .args .items .now in
     (omega arith, none isFound _ s refl, none valueOf _ s refl)
 
-sub-left : tie.Need-sub-left Inv-loop μ-loop
-sub-left c = omega arith
-
-mul-eight : tie.Need-mul-eight Inv-loop μ-loop
-mul-eight c = omega arith
-
-eight-requires : tie.Need-eight-requires Inv-loop μ-loop
-eight-requires c κs = omega arith
-
-slot-requires : tie.Need-slot-requires Inv-loop μ-loop
-slot-requires c κs = search needs
-
-array-write-there : tie.Need-array-write-there Inv-loop μ-loop
-array-write-there c = omega arith
-
-mul-eight-2 : tie.Need-mul-eight-2 Inv-loop μ-loop
-mul-eight-2 c = omega arith
-
-add-eight : tie.Need-add-eight Inv-loop μ-loop
-add-eight c = omega arith
-
-eight-requires-2 : tie.Need-eight-requires-2 Inv-loop μ-loop
-eight-requires-2 c κs = omega arith
-
-mul-values : tie.Need-mul-values Inv-loop μ-loop
-mul-values c = omega arith
-
-array-write-values : tie.Need-array-write-values Inv-loop μ-loop
-array-write-values c = omega arith
-
-loop-less : tie.Need-loop-less Inv-loop μ-loop
-loop-less c = omega arith
-
 loop-again : tie.Need-loop-again Inv-loop μ-loop
 loop-again c =
     let t = c .before .before in
@@ -109,9 +76,6 @@ loop-again c =
       sets isFound (a .first) (a .items .now) (l .left) n _ (l .there) (omega arith) (omega arith) (l .inv .1) p (t .slot .ensures) _ (c .eight2 .ensures) (omega arith),
       sets valueOf (a .first) (a .items .now) (l .left) n _ (l .values) (omega arith) (omega arith) (l .inv .2) p (t .slot .ensures) _ (c .eight2 .ensures) (omega arith),
     )
-
-loop-less-2 : tie.Need-loop-less-2 Inv-loop μ-loop
-loop-less-2 c = omega arith
 
 loop-again-2 : tie.Need-loop-again-2 Inv-loop μ-loop
 loop-again-2 c =
@@ -142,18 +106,18 @@ gather-spec =
     Inv-loop
     μ-loop
     loop-holds
-    sub-left
-    mul-eight
-    eight-requires
-    slot-requires
-    array-write-there
-    mul-eight-2
-    add-eight
-    eight-requires-2
-    mul-values
-    array-write-values
-    loop-less
+    (λ c. omega arith)
+    (λ c. omega arith)
+    (λ c κs. omega arith)
+    (λ c κs. search needs)
+    (λ c. omega arith)
+    (λ c. omega arith)
+    (λ c. omega arith)
+    (λ c κs. omega arith)
+    (λ c. omega arith)
+    (λ c. omega arith)
+    (λ c. omega arith)
     loop-again
-    loop-less-2
+    (λ c. omega arith)
     loop-again-2
     returns)

@@ -27,27 +27,6 @@ Inv-loop report size there values count₀ n₀ count n =
 abbrev μ-loop : tie.MeasureT-loop
 μ-loop report size there values count₀ n₀ count n = n
 
-loop-holds : tie.Need-loop-holds Inv-loop μ-loop
-loop-holds c = (omega arith, refl, omega arith)
-
-array-read-stands : tie.Need-array-read-stands Inv-loop μ-loop
-array-read-stands c = omega arith
-
-mul-stands : tie.Need-mul-stands Inv-loop μ-loop
-mul-stands c = omega arith
-
-array-read-stands-2 : tie.Need-array-read-stands-2 Inv-loop μ-loop
-array-read-stands-2 c = omega arith
-
-stands-requires : tie.Need-stands-requires Inv-loop μ-loop
-stands-requires c κs = search needs
-
-array-read-one : tie.Need-array-read-one Inv-loop μ-loop
-array-read-one c = omega arith
-
-one-requires : tie.Need-one-requires Inv-loop μ-loop
-one-requires c κs = search needs
-
 -- what the test at n says
 test : (c : tie.After-stands Inv-loop μ-loop) →
     let l = c .before .before .loop in
@@ -63,15 +42,6 @@ counted : (c : tie.After-one Inv-loop μ-loop) →
     let t = c .before .before in
     c .one .result ≡ isOf (itemGathered (t .before .before .before .before .before .args .gathered) (t .before .before .loop .n))
 counted c = let t = c .before .before in c .one .ensures .0 ∙ one-by (t .before .before .before .before .before .args .gathered) (t .before .before .loop .n)
-
-add-count : tie.Need-add-count Inv-loop μ-loop
-add-count c = omega arith
-
-sub-n : tie.Need-sub-n Inv-loop μ-loop
-sub-n c = omega arith
-
-loop-less : tie.Need-loop-less Inv-loop μ-loop
-loop-less c = omega arith
 
 loop-again : tie.Need-loop-again Inv-loop μ-loop
 loop-again c =
@@ -110,16 +80,16 @@ agrees-spec =
     (tie.spec
     Inv-loop
     μ-loop
-    loop-holds
-    array-read-stands
-    mul-stands
-    array-read-stands-2
-    stands-requires
-    array-read-one
-    one-requires
-    add-count
-    sub-n
-    loop-less
+    (λ c. (omega arith, refl, omega arith))
+    (λ c. omega arith)
+    (λ c. omega arith)
+    (λ c. omega arith)
+    (λ c κs. search needs)
+    (λ c. omega arith)
+    (λ c κs. search needs)
+    (λ c. omega arith)
+    (λ c. omega arith)
+    (λ c. omega arith)
     loop-again
     returns
     returns-2)

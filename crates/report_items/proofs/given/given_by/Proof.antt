@@ -46,9 +46,6 @@ many c =
     let n = c .before .before .before .before in
     sym (n .before .count .ensures) ∙ n .if1 .left ∙ sym (sized c)
 
-agrees-requires : tie.Need-agrees-requires
-agrees-requires c κs = sized c
-
 -- the test by what is gathered is the test by the pairs
 tested : (r : Report) (ps : List Pair) (t : Gathered) (b : Bool) → t ≡ gatheredFrom 0 ps → b ≡ agreeTo last r (itemGathered t) → agreeTo last r (itemGiven ps) ≡ b
 tested r ps t b e h = sym (gathered r ps) ∙ ap (λ (x : Gathered). agreeTo last r (itemGathered x)) (sym e) ∙ sym h
@@ -75,7 +72,7 @@ given-by-spec =
     (λ c κs. search needs)
     (λ c. search needs)
     (λ c κs. search needs)
-    agrees-requires
+    (λ c κs. sized c)
     (λ c κs. search needs)
     returns-2
     returns-3)
