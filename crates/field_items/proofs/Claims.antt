@@ -9,7 +9,7 @@ use lib.Dec.{eqb}
 use lib.ListN.{length}
 use borrow.Author.Tests.{eq-eqb, ne-eqb, eqb-true}
 use Rattle.pairs.specs.declared.Found.{Found}
-use Rattle.pairs.specs.Pairs.{Pair, pairsIn, findIn, toldFrom}
+use Rattle.pairs.specs.Pairs.{Pair, pairsIn, findIn, gatheredFrom}
 use Rattle.fields.specs.declared.Place.{Place}
 use Rattle.fields.specs.declared.Place.the-variants.{At, Nowhere}
 use Rattle.fields.specs.declared.Field.{Field}
@@ -33,15 +33,15 @@ inside : (x : ℕ) (f : Field) (n : ℕ) → (n ≡ 237 → ⊥) → findIn n (i
 unfolding findIn
 inside x f n z = rw (ne-eqb 237 n (λ e. z (sym e))) refl
 
-told-sensor : (ps : List Pair) → foundIn (toldFrom 201 ps) 237 ≡ findIn 237 ps
+told-sensor : (ps : List Pair) → foundIn (gatheredFrom 201 ps) 237 ≡ findIn 237 ps
 told-sensor ps = found-of ps 237 (omega arith) (omega arith)
 
 -- what is made of them
-made-of : (r : Record) (ps : List Pair) → ((n : ℕ) → findIn n ps ≡ findIn n (itemsOf r)) → recordGiven (toldFrom 201 ps) (placeNo (fieldIn r)) ≡ r
+made-of : (r : Record) (ps : List Pair) → ((n : ℕ) → findIn n ps ≡ findIn n (itemsOf r)) → recordGiven (gatheredFrom 201 ps) (placeNo (fieldIn r)) ≡ r
 unfolding findIn
-made-of (Single f) ps h = ap (λ (x : Found). relayBy x (fieldGiven (toldFrom 201 ps) (placeNo f))) (told-sensor ps ∙ h 237 ∙ no-sensor f) ∙ ap Single (made f ps (λ n z. h n))
+made-of (Single f) ps h = ap (λ (x : Found). relayBy x (fieldGiven (gatheredFrom 201 ps) (placeNo f))) (told-sensor ps ∙ h 237 ∙ no-sensor f) ∙ ap Single (made f ps (λ n z. h n))
 made-of (Relay x f) ps h =
-    ap (λ (y : Found). relayBy y (fieldGiven (toldFrom 201 ps) (placeNo f))) (told-sensor ps ∙ h 237) ∙ ap (Relay x) (made f ps (λ n z. h n ∙ inside x f n z))
+    ap (λ (y : Found). relayBy y (fieldGiven (gatheredFrom 201 ps) (placeNo f))) (told-sensor ps ∙ h 237) ∙ ap (Relay x) (made f ps (λ n z. h n ∙ inside x f n z))
 
 pub own-items : OwnItems
 unfolding given checkedAt fits
@@ -53,13 +53,13 @@ own-items r s l h m =
 -- ---- what is made of what is given
 
 -- a record that it fits
-held : (t : ℕ) (s : List ℕ) (r : Record) → length s % 16 ≡ 0 → fits t (length (pairsIn s)) (toldFrom 201 (pairsIn s)) r ≡ true → Holds s r × (innerOf r ≡ t)
+held : (t : ℕ) (s : List ℕ) (r : Record) → length s % 16 ≡ 0 → fits t (length (pairsIn s)) (gatheredFrom 201 (pairsIn s)) r ≡ true → Holds s r × (innerOf r ≡ t)
 unfolding fits
 held t s r w e =
     let ps = pairsIn s in
     let qs = itemsOf r in
-    let a = both (eqb (innerOf r) t) (eqb (length ps) (length qs) && covers (toldFrom 201 ps) qs) e in
-    let b = both (eqb (length ps) (length qs)) (covers (toldFrom 201 ps) qs) (a .1) in
+    let a = both (eqb (innerOf r) t) (eqb (length ps) (length qs) && covers (gatheredFrom 201 ps) qs) e in
+    let b = both (eqb (length ps) (length qs)) (covers (gatheredFrom 201 ps) qs) (a .1) in
     let m = eqb-true (length ps) (length qs) (b .0) in
     let c : Covers ps qs = covers-is ps qs (record-apart r) (b .1) in
     (record { whole = w; many = m; each = nothing-else qs ps (record-apart r) c m }, eqb-true (innerOf r) t (a .0))
@@ -68,7 +68,7 @@ module _ (t : ℕ) (s l : List ℕ) where
   abbrev Wanted : Record → Type 0
   Wanted r = (r ≡ unfit) ⊎ (Holds s r × (innerOf r ≡ t) × (length l ≡ 240))
 
-  chosen : (r : Record) (b : Bool) → fits t (length (pairsIn s)) (toldFrom 201 (pairsIn s)) r ≡ b → length s % 16 ≡ 0 → length l ≡ 240 → Wanted (cond b r unfit)
+  chosen : (r : Record) (b : Bool) → fits t (length (pairsIn s)) (gatheredFrom 201 (pairsIn s)) r ≡ b → length s % 16 ≡ 0 → length l ≡ 240 → Wanted (cond b r unfit)
   chosen r true e w m = let h = held t s r w e in inr (h .0, h .1, m)
   chosen r false e w m = inl refl
 
@@ -76,8 +76,8 @@ module _ (t : ℕ) (s l : List ℕ) where
   unfolding checkedAt
   placed Nowhere w m = inl refl
   placed (At i) w m =
-      let r = recordGiven (toldFrom 201 (pairsIn s)) i in
-      chosen r (fits t (length (pairsIn s)) (toldFrom 201 (pairsIn s)) r) refl w m
+      let r = recordGiven (gatheredFrom 201 (pairsIn s)) i in
+      chosen r (fits t (length (pairsIn s)) (gatheredFrom 201 (pairsIn s)) r) refl w m
 
   counted-off : (b : Bool) → eqb (length s % 16) 0 ≡ b → length l ≡ 240 → Wanted (cond b (byPlace unfit (checkedAt t (pairsIn s)) (placeOf t)) unfit)
   counted-off true e m = placed (placeOf t) (eqb-true _ _ e) m

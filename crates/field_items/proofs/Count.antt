@@ -11,7 +11,7 @@ use lib.ListN.{length}
 use borrow.Author.Tests.{eq-eqb, ne-eqb, eqb-true}
 use Rattle.pairs.specs.declared.Found.{Found}
 use Rattle.pairs.specs.declared.Found.the-variants.{Value, Missing}
-use Rattle.pairs.specs.Pairs.{Pair, findIn, toldFrom}
+use Rattle.pairs.specs.Pairs.{Pair, findIn, gatheredFrom}
 use Rattle.fields.specs.declared.Field.{Field}
 use Rattle.fields.specs.declared.Field.the-variants as F
 use Rattle.fields.specs.declared.Record.{Record}
@@ -142,12 +142,12 @@ both true b e = (refl, e)
 both false b e = absurd (let z : _≡_ {A = ℕ} 0 1 = cc in omega arith)
 
 -- what is told covers the items that the test says it covers
-pub covers-is : (ps qs : List Pair) → T (apart qs) → covers (toldFrom 201 ps) qs ≡ true → Covers ps qs
+pub covers-is : (ps qs : List Pair) → T (apart qs) → covers (gatheredFrom 201 ps) qs ≡ true → Covers ps qs
 unfolding findIn covers
 covers-is ps [] t e n v f = absurd (let z : _≡_ {A = ℕ} 0 1 = cc in omega arith)
 covers-is ps (q ∷ qs) t e n v f =
     let i = first q qs t in
-    let b = both (sameFound (foundIn (toldFrom 201 ps) (q .0)) (Value (q .1))) (covers (toldFrom 201 ps) qs) e in
+    let b = both (sameFound (foundIn (gatheredFrom 201 ps) (q .0)) (Value (q .1))) (covers (gatheredFrom 201 ps) qs) e in
     go (ℕ-discrete (q .0) n) (sym (found-of ps (q .0) (i .0) (i .1)) ∙ same-is _ _ (b .0)) (covers-is ps qs (i .3) (b .1) n v)
   where
     go : Dec (q .0 ≡ n) → findIn (q .0) ps ≡ Value (q .1) → (findIn n qs ≡ Value v → findIn n ps ≡ Value v) → findIn n ps ≡ Value v
@@ -155,12 +155,12 @@ covers-is ps (q ∷ qs) t e n v f =
     go (no d) g h = h (sym (past q qs n d) ∙ f)
 
 -- and the test says it of all that it covers
-pub is-covered : (ps qs : List Pair) → T (apart qs) → Covers ps qs → covers (toldFrom 201 ps) qs ≡ true
+pub is-covered : (ps qs : List Pair) → T (apart qs) → Covers ps qs → covers (gatheredFrom 201 ps) qs ≡ true
 unfolding covers
 is-covered ps [] t h = refl
 is-covered ps (q ∷ qs) t h =
     let i = first q qs t in
-    let g : foundIn (toldFrom 201 ps) (q .0) ≡ Value (q .1) = found-of ps (q .0) (i .0) (i .1) ∙ h (q .0) (q .1) (here q qs (q .0) refl) in
+    let g : foundIn (gatheredFrom 201 ps) (q .0) ≡ Value (q .1) = found-of ps (q .0) (i .0) (i .1) ∙ h (q .0) (q .1) (here q qs (q .0) refl) in
     rw (g, eq-eqb (q .1) (q .1) refl) (is-covered ps qs (i .3) (behind q qs ps (i .2) h))
 
 -- ---- a record's items

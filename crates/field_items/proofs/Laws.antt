@@ -11,7 +11,7 @@ use lib.Seq.{drop-cons}
 use borrow.Author.Tests.{eq-eqb, ne-eqb}
 use Rattle.bits.specs.Bits.{bitsOf}
 use Rattle.pairs.specs.declared.Found.the-variants.{Value, Missing}
-use Rattle.pairs.specs.declared.Told.{Told}
+use Rattle.pairs.specs.declared.Gathered.{Gathered}
 use Rattle.pairs.specs.Pairs.{findIn}
 use Rattle.fields.specs.declared.Field.{Field}
 use Rattle.fields.specs.declared.Field.the-variants as F
@@ -43,7 +43,7 @@ module _ (ks vs : List ℕ) (i : ℕ) (h : i < length ks) (l : i < length vs) wh
       go false = rw (ne-eqb (getD ks i 0) n e) refl
 
   -- what is told covers the parts from i on
-  pub covers-step : (t : Told) →
+  pub covers-step : (t : Gathered) →
       covers t (pairsBy (drop i ks) (drop i vs))
       ≡ (cond (eqb (getD ks i 0) 0) true (sameFound (foundIn t (getD ks i 0)) (Value (getD vs i 0))) && covers t (pairsBy (drop (i + 1) ks) (drop (i + 1) vs)))
   unfolding covers

@@ -10,7 +10,7 @@ use lib.ListN.{getD}
 use borrow.Author.Tests.{le-leb}
 use Rattle.pairs.specs.declared.Found.{Found}
 use Rattle.pairs.specs.declared.Found.the-variants.{Value, Missing}
-use Rattle.pairs.specs.Pairs.{Pair, findIn, isFound, valueOf, toldFrom}
+use Rattle.pairs.specs.Pairs.{Pair, findIn, isFound, valueOf, gatheredFrom}
 use Rattle.pairs.proofs.Laws.{each-at}
 use Rattle.fields.specs.declared.Place.the-variants.{At}
 use Rattle.fields.specs.declared.Field.{Field}
@@ -96,8 +96,8 @@ no-sensor (F.TestResponse a) = refl
 no-sensor (F.ControllerAlert a b c d e f g h i j) = refl
 
 -- what is gathered says of an item what the pairs say
-pub found-of : (ps : List Pair) (n : ℕ) → 201 ≤ n → n ≤ 237 → foundIn (toldFrom 201 ps) n ≡ findIn n ps
-unfolding foundIn toldFrom
+pub found-of : (ps : List Pair) (n : ℕ) → 201 ≤ n → n ≤ 237 → foundIn (gatheredFrom 201 ps) n ≡ findIn n ps
+unfolding foundIn gatheredFrom
 found-of ps n l h =
     let e : 201 + (n - 201) ≡ n = omega arith in
     rw (le-leb 201 n l, each-at isFound 201 37 (n - 201) false ps (omega arith), each-at valueOf 201 37 (n - 201) 0 ps (omega arith), e) (whole (findIn n ps))
@@ -108,14 +108,14 @@ found-of ps n l h =
 
 -- such an item, where it is not the sensor
 says : (f : Field) (ps : List Pair) → ((n : ℕ) → (n ≡ 237 → ⊥) → findIn n ps ≡ findIn n (fieldItems f)) → (n : ℕ) → T (leb 201 n && leb n 236)
-    → foundIn (toldFrom 201 ps) n ≡ findIn n (fieldItems f)
+    → foundIn (gatheredFrom 201 ps) n ≡ findIn n (fieldItems f)
 says f ps h n t =
     let l = leb→le 201 n (both-left (leb 201 n) (leb n 236) t) in
     let m = leb→le n 236 (both-right (leb 201 n) (leb n 236) t) in
     found-of ps n l (omega arith) ∙ h n (λ e. omega arith)
 
 -- pairs that say of each item but the sensor what the field says make the field
-pub made : (f : Field) (ps : List Pair) → ((n : ℕ) → (n ≡ 237 → ⊥) → findIn n ps ≡ findIn n (fieldItems f)) → fieldGiven (toldFrom 201 ps) (placeNo f) ≡ f
+pub made : (f : Field) (ps : List Pair) → ((n : ℕ) → (n ≡ 237 → ⊥) → findIn n ps ≡ findIn n (fieldItems f)) → fieldGiven (gatheredFrom 201 ps) (placeNo f) ≡ f
 unfolding fieldGiven fieldAt findIn pairsBy fieldItems placeFrom rows table itemTable itemsAt
 made (F.TacticalUplink a b c d e) ps q = rw (says (F.TacticalUplink a b c d e) ps q 201 tt, says (F.TacticalUplink a b c d e) ps q 202 tt, says (F.TacticalUplink a b c d e) ps q 203 tt, says (F.TacticalUplink a b c d e) ps q 204 tt, says (F.TacticalUplink a b c d e) ps q 205 tt) refl
 made (F.ElmUplink a b c d f) ps q = rw (says (F.ElmUplink a b c d f) ps q 201 tt, says (F.ElmUplink a b c d f) ps q 202 tt, says (F.ElmUplink a b c d f) ps q 203 tt, says (F.ElmUplink a b c d f) ps q 204 tt, says (F.ElmUplink a b c d f) ps q 206 tt) refl

@@ -16,7 +16,7 @@ use fields::Record;
 use fields::records;
 use fields::table;
 use pairs::Found;
-use pairs::Told;
+use pairs::Gathered;
 
 // The first item's number: there are thirty-seven.
 const FIRST: u64 = 201;
@@ -24,7 +24,7 @@ const FIRST: u64 = 201;
 // ---- the record
 
 // What is told of an item; nothing of a number that is none.
-fn found(told: Told, item: u64) -> Found
+fn found(told: Gathered, item: u64) -> Found
     ensures { λ r. ⌜ r ≡ foundIn told item ⌝ }
 {
     let there = told.there;
@@ -43,14 +43,14 @@ fn found(told: Told, item: u64) -> Found
     }
 }
 
-fn value(told: Told, item: u64) -> u64
+fn value(told: Gathered, item: u64) -> u64
     ensures { λ r. ⌜ r ≡ valueOf (foundIn told item) ⌝ }
 {
     items::value(found(told, item))
 }
 
 // The field of the type at place i, of what is told of its items.
-fn field_given(told: Told, i: usize) -> Field
+fn field_given(told: Gathered, i: usize) -> Field
     requires { ⌜ i < 22 ⌝ }
     ensures { λ r. ⌜ r ≡ fieldGiven told i ⌝ }
 {
@@ -71,7 +71,7 @@ fn field_given(told: Told, i: usize) -> Field
 }
 
 // A sensor that is given makes a relay of it.
-fn record_given(told: Told, i: usize) -> Record
+fn record_given(told: Gathered, i: usize) -> Record
     requires { ⌜ i < 22 ⌝ }
     ensures { λ r. ⌜ r ≡ recordGiven told i ⌝ }
 {
@@ -89,7 +89,7 @@ fn record_given(told: Told, i: usize) -> Record
 // ---- the comparison
 
 // An item is told, with this value.
-fn tells(told: Told, item: u64, value: u64) -> bool
+fn tells(told: Gathered, item: u64, value: u64) -> bool
     ensures { λ r. ⌜ r ≡ sameFound (foundIn told item) (Found.Value value) ⌝ }
 {
     let f = found(told, item);
@@ -100,7 +100,7 @@ fn tells(told: Told, item: u64, value: u64) -> bool
 }
 
 // A part is no item, or is told with this value.
-fn tells_part(told: Told, item: u64, value: u64) -> bool
+fn tells_part(told: Gathered, item: u64, value: u64) -> bool
     ensures { λ r. ⌜ r ≡ cond (eqb item 0) true (sameFound (foundIn told item) (Found.Value value)) ⌝ }
 {
     if item == 0 {
@@ -111,7 +111,7 @@ fn tells_part(told: Told, item: u64, value: u64) -> bool
 }
 
 // All of these parts that are items are told, with these values.
-fn tells_parts(told: Told, items: [u64; 11], v: [u64; 11]) -> bool
+fn tells_parts(told: Gathered, items: [u64; 11], v: [u64; 11]) -> bool
     ensures { λ r. ⌜ r ≡ covers told (pairsBy items v) ⌝ }
 {
     let mut i: usize = 0;
@@ -125,7 +125,7 @@ fn tells_parts(told: Told, items: [u64; 11], v: [u64; 11]) -> bool
     true
 }
 
-fn tells_field(told: Told, f: Field) -> bool
+fn tells_field(told: Gathered, f: Field) -> bool
     ensures { λ r. ⌜ r ≡ covers told (fieldItems f) ⌝ }
 {
     let v = records::numbers(f);
@@ -136,7 +136,7 @@ fn tells_field(told: Told, f: Field) -> bool
 }
 
 // Each of the record's items is told, with its value.
-fn tells_all(told: Told, r: Record) -> bool
+fn tells_all(told: Gathered, r: Record) -> bool
     ensures { λ b. ⌜ b ≡ covers told (itemsOf r) ⌝ }
 {
     match r {
@@ -152,7 +152,7 @@ fn tells_all(told: Told, r: Record) -> bool
 }
 
 // Of so many pairs what they tell are the items of this record, and the type is the record's.
-fn fits(code: u32, count: usize, told: Told, r: Record) -> bool
+fn fits(code: u32, count: usize, told: Gathered, r: Record) -> bool
     ensures { λ b. ⌜ b ≡ fits code count told r ⌝ }
 {
     if items::inner(r) != code {
@@ -171,7 +171,7 @@ fn unfit() -> Record
     Record::Single(Field::AtcFailure { state: 0 })
 }
 
-fn checked_by(code: u32, count: usize, told: Told, i: usize) -> Record
+fn checked_by(code: u32, count: usize, told: Gathered, i: usize) -> Record
     requires { ⌜ i < 22 ⌝ }
     ensures { λ r. ⌜ r ≡ checkedBy code count told i ⌝ }
 {

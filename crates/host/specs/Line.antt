@@ -1,7 +1,9 @@
--- What each call that reads a line answers, from the outcome at the place. The numbers of kinds are those of reports; these of what is no
--- report are ours. Definitions only.
+-- What each call that reads a line answers, from the outcome at the place. A report's kind has its number from reports; what is no report has
+-- its number here. Definitions only.
 use Prim.Native.Nat.{ℕ}
 use Rattle.refusals.specs.Numbers.{lineNumber}
+use Rattle.measures.specs.declared.Measured.{Measured}
+use Rattle.measures.specs.Exact.{AllExact}
 use Rattle.reports.specs.Kinds.{kindOf, kindNumber}
 use Rattle.reports.specs.Values.{Counted, counts, none, countedOf}
 use Rattle.lines.specs.declared.What.{What}
@@ -13,11 +15,11 @@ use Rattle.report_items.specs.Items.{itemOf}
 abbrev pub version : ℕ
 version = 2
 
--- what a place has that is no report
-abbrev pub refusedKind : ℕ
+-- the kind of what is no report
+abbrev refusedKind : ℕ
 refusedKind = 120
 
-abbrev pub endKind : ℕ
+abbrev endKind : ℕ
 endKind = 121
 
 abbrev pub kindNumberOf : What → ℕ
@@ -60,3 +62,7 @@ azimuthOf none = 0
 abbrev pub timeOf : Counted → ℕ
 timeOf (counts r a t) = t
 timeOf none = 0
+
+-- the record has these values, all of them 0 where there are none
+abbrev pub Shows : Counted → Measured → Type 0
+Shows k m = AllExact (rangeOf k) (azimuthOf k) (timeOf k) m

@@ -4,7 +4,7 @@ use mathlib.Core.Path.{_≡_}
 use mathlib.Core.List.{List}
 use Rattle.refusals.specs.Numbers.{lineNumber}
 use Rattle.reports.specs.declared.Report.{Report}
-use Rattle.reports.specs.Altitude.{signMagnitude}
+use Rattle.reports.specs.Altitude.{AltitudeForm}
 use Rattle.reports.specs.Layouts.{wordsOf}
 use Rattle.lines.specs.declared.Wrote.{Wrote}
 use Rattle.lines.specs.declared.Wrote.the-variants as W
@@ -20,7 +20,7 @@ abbrev pub writeRefusal : Wrote → ℕ
 writeRefusal (W.Next next) = 0
 writeRefusal (W.Refused q p) = lineNumber q
 
--- a call that writes this report
-pub record Writes (bytes : List ℕ) (place : ℕ) (r : Report) (answer : ℕ) (exit : List ℕ) : Type 0 where
-  pub answers : answer ≡ placeAfter place (writeBytes signMagnitude bytes place r)
-  pub leaves : exit ≡ bytesLeft (writeBytes signMagnitude bytes place r) bytes place (wordsOf signMagnitude r)
+-- a call that writes this report, with the altitude in this form
+pub record Writes (form : AltitudeForm) (bytes : List ℕ) (place : ℕ) (r : Report) (answer : ℕ) (exit : List ℕ) : Type 0 where
+  pub answers : answer ≡ placeAfter place (writeBytes form bytes place r)
+  pub leaves : exit ≡ bytesLeft (writeBytes form bytes place r) bytes place (wordsOf form r)

@@ -7,8 +7,11 @@ ghost use Rattle.lines.specs.Bytes.{readBytes};
 ghost use Rattle.reports.specs.Altitude.{signMagnitude};
 ghost use Rattle.reports.specs.Values.{Yields};
 ghost use Rattle.report_items.specs.Items.{isOf, valueOf};
-ghost use Rattle.host.specs.Line.{version, kindNumberOf, refusalOf, itemAt, countedAt, has, rangeOf, azimuthOf, timeOf};
+ghost use Rattle.host.specs.Line.{version, kindNumberOf, refusalOf, itemAt, countedAt, has, rangeOf, azimuthOf, timeOf, Shows};
 use lines::What;
+use measures::CoarseAzimuth;
+use measures::CoarseRange;
+use measures::Measured;
 use measures::Time;
 use report_items::items;
 use report_items::items::Item;
@@ -16,12 +19,23 @@ use reports::kinds;
 use reports::values;
 use reports::values::Values;
 
-// The version of these calls. It changes when a call is added; none is ever changed or taken away.
+// ---- the kind of what is no report; reports::kinds has the others
+
+const REFUSED: u32 = 120;
+
+const END: u32 = 121;
+
+// ---- the version of these calls
+
+// It grows with each change of a call and with each new one.
+const VERSION: u32 = 2;
+
+// Numbers keep their meaning. A call whose meaning would change under the same arguments gets a new name instead.
 #[no_mangle]
 pub extern "C" fn siamrung_version() -> u32
     ensures { λ r. ⌜ r ≡ version ⌝ }
 {
-    2
+    VERSION
 }
 
 // ---- what stands at a place
@@ -31,8 +45,8 @@ fn kind_number(what: What) -> u32
 {
     match what {
         What::Accepted(report) => kinds::kind_of(report).number() as u32,
-        What::Refused(_) => 120,
-        What::End => 121,
+        What::Refused(_) => REFUSED,
+        What::End => END,
     }
 }
 
@@ -90,11 +104,13 @@ pub extern "C" fn siamrung_named(bytes: &[u8], place: usize) -> usize
 
 // ---- the fields of a report
 
-fn item_in(what: What, item: u32) -> Item
-    ensures { λ r. ⌜ r ≡ itemAt what item ⌝ }
+fn item_at(bytes: &[u8], place: usize, item: u32) -> Item
+    ensures { λ r. ⌜ r ≡ itemAt (readBytes signMagnitude (now (bytes .entry)) place .what) item ⌝ }
 {
+    let o = line_reader::bytes::read(bytes, place);
+    let what = o.what;
     match what {
-        What::Accepted(report) => items::item_of(report, item),
+        What::Accepted(report) => items::item_of(report, item as usize),
         What::Refused(_) => Item::Missing,
         What::End => Item::Missing,
     }
@@ -104,10 +120,8 @@ fn item_in(what: What, item: u32) -> Item
 pub extern "C" fn siamrung_has(bytes: &[u8], place: usize, item: u32) -> u32
     ensures { λ r. ⌜ r ≡ isOf (itemAt (readBytes signMagnitude (now (bytes .entry)) place .what) item) ⌝ }
 {
-    let o = line_reader::bytes::read(bytes, place);
-    let what = o.what;
-    let found = item_in(what, item);
-    match found {
+    let own = item_at(bytes, place, item);
+    match own {
         Item::Of(_) => 1,
         Item::Missing => 0,
     }
@@ -118,10 +132,8 @@ pub extern "C" fn siamrung_has(bytes: &[u8], place: usize, item: u32) -> u32
 pub extern "C" fn siamrung_item(bytes: &[u8], place: usize, item: u32) -> i64
     ensures { λ r. ⌜ r ≡ valueOf (itemAt (readBytes signMagnitude (now (bytes .entry)) place .what) item) ⌝ }
 {
-    let o = line_reader::bytes::read(bytes, place);
-    let what = o.what;
-    let found = item_in(what, item);
-    match found {
+    let own = item_at(bytes, place, item);
+    match own {
         Item::Of(z) => z,
         Item::Missing => 0,
     }
@@ -129,9 +141,11 @@ pub extern "C" fn siamrung_item(bytes: &[u8], place: usize, item: u32) -> i64
 
 // ---- range, azimuth and time as floats
 
-fn values_in(what: What) -> Values
-    ensures { λ r. ⌜ Yields (countedAt what) r ⌝ }
+fn values_at(bytes: &[u8], place: usize) -> Values
+    ensures { λ r. ⌜ Yields (countedAt (readBytes signMagnitude (now (bytes .entry)) place .what)) r ⌝ }
 {
+    let o = line_reader::bytes::read(bytes, place);
+    let what = o.what;
     match what {
         What::Accepted(report) => values::values_of(report),
         What::Refused(_) => Values::Nothing,
@@ -139,62 +153,48 @@ fn values_in(what: What) -> Values
     }
 }
 
-// Plus zero.
-fn nothing() -> f64
-    ensures { λ r. ⌜ Exact 0 r ⌝ }
-{
-    Time(0).seconds()
-}
-
 #[no_mangle]
 pub extern "C" fn siamrung_has_values(bytes: &[u8], place: usize) -> u32
     ensures { λ r. ⌜ r ≡ has (countedAt (readBytes signMagnitude (now (bytes .entry)) place .what)) ⌝ }
 {
-    let o = line_reader::bytes::read(bytes, place);
-    let what = o.what;
-    let found = values_in(what);
-    match found {
+    let values = values_at(bytes, place);
+    match values {
         Values::Measured(_) => 1,
         Values::Nothing => 0,
     }
 }
 
-// Plus zero where there is no range, which siamrung_has_values tells; so for the next two.
+// All plus zero where there are none, which siamrung_has_values tells.
+fn measured_at(bytes: &[u8], place: usize) -> Measured
+    ensures { λ r. ⌜ Shows (countedAt (readBytes signMagnitude (now (bytes .entry)) place .what)) r ⌝ }
+{
+    let values = values_at(bytes, place);
+    match values {
+        Values::Measured(m) => m,
+        Values::Nothing => Measured::coarse(CoarseRange(0), CoarseAzimuth(0), Time(0)),
+    }
+}
+
 #[no_mangle]
 pub extern "C" fn siamrung_nmi(bytes: &[u8], place: usize) -> f64
     ensures { λ r. ⌜ Exact (rangeOf (countedAt (readBytes signMagnitude (now (bytes .entry)) place .what))) r ⌝ }
 {
-    let o = line_reader::bytes::read(bytes, place);
-    let what = o.what;
-    let found = values_in(what);
-    match found {
-        Values::Measured(m) => m.range,
-        Values::Nothing => nothing(),
-    }
+    let m = measured_at(bytes, place);
+    m.range
 }
 
 #[no_mangle]
 pub extern "C" fn siamrung_degrees(bytes: &[u8], place: usize) -> f64
     ensures { λ r. ⌜ Exact (azimuthOf (countedAt (readBytes signMagnitude (now (bytes .entry)) place .what))) r ⌝ }
 {
-    let o = line_reader::bytes::read(bytes, place);
-    let what = o.what;
-    let found = values_in(what);
-    match found {
-        Values::Measured(m) => m.azimuth,
-        Values::Nothing => nothing(),
-    }
+    let m = measured_at(bytes, place);
+    m.azimuth
 }
 
 #[no_mangle]
 pub extern "C" fn siamrung_seconds(bytes: &[u8], place: usize) -> f64
     ensures { λ r. ⌜ Exact (timeOf (countedAt (readBytes signMagnitude (now (bytes .entry)) place .what))) r ⌝ }
 {
-    let o = line_reader::bytes::read(bytes, place);
-    let what = o.what;
-    let found = values_in(what);
-    match found {
-        Values::Measured(m) => m.time,
-        Values::Nothing => nothing(),
-    }
+    let m = measured_at(bytes, place);
+    m.time
 }

@@ -12,7 +12,7 @@ use report_items::given;
 // Refused, the place given; siamrung_write_refusal tells.
 #[no_mangle]
 pub extern "C" fn siamrung_write(bytes: &mut [u8], place: usize, kind: u32, items: &[u8]) -> usize
-    ensures { λ r. ⌜ Writes (now (bytes .entry)) place (given kind (now (items .entry))) r (now (bytes .exit)) ⌝ }
+    ensures { λ r. ⌜ Writes signMagnitude (now (bytes .entry)) place (given kind (now (items .entry))) r (now (bytes .exit)) ⌝ }
 {
     let report = given::given(kind, items);
     let wrote = line_writer::bytes::write(bytes, place, report);

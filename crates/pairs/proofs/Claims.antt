@@ -1,11 +1,11 @@
 -- The claims of specs/Claims.antt: bytes laid out high byte first read as the numbers. Assumes nothing.
-use mathlib.Core.Path.{_≡_, refl, sym, ap, _∙_}
+use mathlib.Core.Path.{_≡_, refl, ap, _∙_}
 use mathlib.Core.List.{List, [], _∷_, _++_}
-use Prim.Native.Nat.{ℕ, zero, suc, _+_, _*_, _/_, _%_, _^_, _≤_, _<_}
+use Prim.Native.Nat.{ℕ, _+_, _*_, _/_, _%_, _^_, _<_}
 use native.Mathlib.Omega.{arith}
-use lib.ListN.{length, drop, getD}
+use lib.ListN.{length, getD}
 use Rattle.bits.specs.Bits.{bitsOf, Bytes}
-use Rattle.bits.proofs.Laws.{bitsOf-join, bitsOf-none, byte-bits}
+use Rattle.bits.proofs.Laws.{bitsOf-join, byte-bits}
 use Rattle.pairs.specs.Pairs.{Pair, eight, pairs, pairsIn}
 use Rattle.pairs.specs.Claims.{eightBytes, bytesOf, Held, Given}
 

@@ -9,7 +9,7 @@ use lib.ListN.{length, drop}
 use Rattle.bits.specs.Bits.{bitsOf}
 use Rattle.pairs.specs.declared.Found.{Found}
 use Rattle.pairs.specs.declared.Found.the-variants as F
-use Rattle.pairs.specs.declared.Told.{Told}
+use Rattle.pairs.specs.declared.Gathered.{Gathered}
 
 abbrev pub Pair : Type 0
 Pair = ℕ × ℕ
@@ -46,10 +46,14 @@ unfoldable pub eachFrom : {X : Type 0} → (Found → X) → ℕ → ℕ → Lis
 eachFrom f n zero ps = []
 eachFrom f n (suc k) ps = f (findIn n ps) ∷ eachFrom f (suc n) k ps
 
--- of the thirty-seven numbers from n on
-unfoldable pub toldFrom : ℕ → List Pair → Told
-toldFrom n ps = record { there = eachFrom isFound n 37 ps; values = eachFrom valueOf n 37 ps }
+-- so many are asked for at once
+abbrev pub slots : ℕ
+slots = 37
 
--- k is the place of the number m among those, or 37 and m is none of them
+-- of those from n on
+unfoldable pub gatheredFrom : ℕ → List Pair → Gathered
+gatheredFrom n ps = record { there = eachFrom isFound n slots ps; values = eachFrom valueOf n slots ps }
+
+-- k is the place of the number m among those, or slots and m is none of them
 abbrev pub Slot : ℕ → ℕ → ℕ → Type 0
-Slot n m k = ((k < 37) × (n + k ≡ m)) ⊎ ((k ≡ 37) × ((m < n) ⊎ (n + 37 ≤ m)))
+Slot n m k = ((k < slots) × (n + k ≡ m)) ⊎ ((k ≡ slots) × ((m < n) ⊎ (n + slots ≤ m)))

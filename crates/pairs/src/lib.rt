@@ -6,17 +6,20 @@ ghost use Prim.Native.Nat.{_+_, _%_, _≤_};
 ghost use lib.Dec.{eqb};
 ghost use lib.ListN.{length, drop};
 ghost use Rattle.bits.specs.Bits.{bitsOf};
-ghost use Rattle.pairs.specs.Pairs.{pairsIn, Slot, toldFrom};
+ghost use Rattle.pairs.specs.Pairs.{pairsIn, Slot, gatheredFrom};
 
 pub enum Found {
     Value(u64),
     Missing,
 }
 
-// What is found for each of thirty-seven numbers: whether there is a value, and the value, 0 where there is none.
-pub struct Told {
-    pub there: [bool; 37],
-    pub values: [u64; 37],
+// So many numbers are asked for at once: as many as a report or a field has, whichever has more.
+pub const SLOTS: usize = 37;
+
+// What is found for each of SLOTS numbers: whether there is a value, and the value, 0 where there is none.
+pub struct Gathered {
+    pub there: [bool; SLOTS],
+    pub values: [u64; SLOTS],
 }
 
 // The slice is whole pairs: sixteen bytes each, and none left.
@@ -41,32 +44,32 @@ fn eight(items: &[u8], at: usize) -> u64
     bits::read(&items[at..], 0, 64)
 }
 
-// Which of the thirty-seven numbers from `first` on a number is, counted from 0; 37 where it is none of them.
+// Which of the SLOTS numbers from `first` on a number is, counted from 0; SLOTS where it is none of them.
 fn slot(first: u64, number: u64) -> usize
     ensures { λ r. ⌜ Slot first number r ⌝ }
 {
     if number < first {
-        return 37;
+        return SLOTS;
     }
-    let k = number - first;
-    if k < 37 { k as usize } else { 37 }
+    let k = (number - first) as usize;
+    if k < SLOTS { k } else { SLOTS }
 }
 
-// What is told of the thirty-seven numbers from `first` on. One pass over the slice, the last pair first: of those with the same number the
+// What is found for the SLOTS numbers from `first` on. One pass over the slice, the last pair first: of those with the same number the
 // first one stays.
-pub fn gather(items: &[u8], first: u64) -> Told
-    ensures { λ r. ⌜ r ≡ toldFrom first (pairsIn (now (items .entry))) ⌝ }
+pub fn gather(items: &[u8], first: u64) -> Gathered
+    ensures { λ r. ⌜ r ≡ gatheredFrom first (pairsIn (now (items .entry))) ⌝ }
 {
-    let mut there = [false; 37];
-    let mut values = [0u64; 37];
+    let mut there = [false; SLOTS];
+    let mut values = [0u64; SLOTS];
     let mut left = items.len() / 16;
     while 0 < left {
         left -= 1;
         let k = slot(first, eight(items, 16 * left));
-        if k < 37 {
+        if k < SLOTS {
             there[k] = true;
             values[k] = eight(items, 16 * left + 8);
         }
     }
-    Told { there, values }
+    Gathered { there, values }
 }

@@ -10,11 +10,11 @@ use borrow.Author.Tests.{eq-eqb, ne-eqb}
 use Rattle.words.proofs.Tests.{picked, passed}
 use Rattle.pairs.specs.declared.Found.{Found}
 use Rattle.pairs.specs.declared.Found.the-variants as F
-use Rattle.pairs.specs.Pairs.{Pair, findIn, isFound, valueOf, toldFrom}
+use Rattle.pairs.specs.Pairs.{Pair, findIn, isFound, valueOf, slots, gatheredFrom}
 use Rattle.pairs.proofs.Laws.{each-at}
 use Rattle.reports.specs.declared.Report.{Report}
-use Rattle.report_items.specs.Items.{itemOf, itemsOf}
-use Rattle.report_items.specs.Given.{asSigned, itemFrom, told, itemTold, sameItem, agreeTo, agree, builtFrom, unfit, givenBy}
+use Rattle.report_items.specs.Items.{last, itemOf, itemsOf}
+use Rattle.report_items.specs.Given.{asSigned, itemFrom, itemGiven, itemGathered, sameItem, agreeTo, agree, builtFrom, unfit, givenBy}
 use Rattle.report_items.specs.declared.items.Item.{Item}
 use Rattle.report_items.specs.declared.items.Item.the-variants as I
 
@@ -28,17 +28,17 @@ module _ (kind : ℕ) (ps : List Pair) (r : Report) (is : r ≡ builtFrom kind p
   sizes : length (itemsOf r) ≡ length (itemsOf (builtFrom kind ps))
   sizes = ap (λ (x : Report). length (itemsOf x)) is
 
-  agreed : {t : Bool} → length ps ≡ length (itemsOf r) → agreeTo 36 r (told ps) ≡ t → agree (builtFrom kind ps) ps ≡ cond t true false
+  agreed : {t : Bool} → length ps ≡ length (itemsOf r) → agreeTo last r (itemGiven ps) ≡ t → agree (builtFrom kind ps) ps ≡ cond t true false
   unfolding agree
   agreed {t} n e =
       picked _ _ (eq-eqb (length ps) (length (itemsOf (builtFrom kind ps))) (n ∙ sizes))
-      ∙ ap (λ (x : Bool). cond x true false) (ap (λ (x : Report). agreeTo 36 x (told ps)) (sym is) ∙ e)
+      ∙ ap (λ (x : Bool). cond x true false) (ap (λ (x : Report). agreeTo last x (itemGiven ps)) (sym is) ∙ e)
 
-  pub by-items : length ps ≡ length (itemsOf r) → agreeTo 36 r (told ps) ≡ false → givenBy kind ps ≡ unfit
+  pub by-items : length ps ≡ length (itemsOf r) → agreeTo last r (itemGiven ps) ≡ false → givenBy kind ps ≡ unfit
   unfolding givenBy
   by-items n e = passed _ _ (agreed n e)
 
-  pub by-all : length ps ≡ length (itemsOf r) → agreeTo 36 r (told ps) ≡ true → givenBy kind ps ≡ r
+  pub by-all : length ps ≡ length (itemsOf r) → agreeTo last r (itemGiven ps) ≡ true → givenBy kind ps ≡ r
   unfolding givenBy
   by-all n e = picked _ _ (agreed n e) ∙ sym is
 
@@ -49,10 +49,10 @@ item-from : (f : Found) → cond (isFound f) (I.Of (asSigned (2 ^ 63) (valueOf f
 item-from (F.Value v) = refl
 item-from F.Missing = refl
 
-told-of : (ps : List Pair) (n : ℕ) → n ≤ 36 → itemTold (toldFrom 0 ps) n ≡ told ps n
-unfolding itemTold toldFrom told
-told-of ps n h =
-    rw (each-at isFound 0 37 n false ps (omega arith), each-at valueOf 0 37 n 0 ps (omega arith), zero-add n) (item-from (findIn n ps))
+gathered-is : (ps : List Pair) (n : ℕ) → n ≤ last → itemGathered (gatheredFrom 0 ps) n ≡ itemGiven ps n
+unfolding itemGathered gatheredFrom itemGiven
+gathered-is ps n h =
+    rw (each-at isFound 0 slots n false ps (omega arith), each-at valueOf 0 slots n 0 ps (omega arith), zero-add n) (item-from (findIn n ps))
 
 same-to : (m : ℕ) (r : Report) (f g : ℕ → Item) → ((n : ℕ) → n ≤ m → f n ≡ g n) → agreeTo m r f ≡ agreeTo m r g
 unfolding agreeTo
@@ -61,5 +61,5 @@ same-to (suc m) r f g h =
     ap (λ (x : Item). cond (sameItem (itemOf r (suc m)) x) (agreeTo m r f) false) (h (suc m) (omega arith))
     ∙ ap (λ (b : Bool). cond (sameItem (itemOf r (suc m)) (g (suc m))) b false) (same-to m r f g (λ n l. h n (omega arith)))
 
-pub gathered : (r : Report) (ps : List Pair) → agreeTo 36 r (itemTold (toldFrom 0 ps)) ≡ agreeTo 36 r (told ps)
-gathered r ps = same-to 36 r (itemTold (toldFrom 0 ps)) (told ps) (told-of ps)
+pub gathered : (r : Report) (ps : List Pair) → agreeTo last r (itemGathered (gatheredFrom 0 ps)) ≡ agreeTo last r (itemGiven ps)
+gathered r ps = same-to last r (itemGathered (gatheredFrom 0 ps)) (itemGiven ps) (gathered-is ps)

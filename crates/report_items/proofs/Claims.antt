@@ -6,25 +6,36 @@ use mathlib.Core.Logic.{_⊎_, inl, inr, ⊎-elim}
 use Prim.Native.Nat.{ℕ, zero, suc, _%_, _≤_, _<_}
 use native.Mathlib.Omega.{arith}
 use native.Mathlib.Decide.{decLt}
-use borrow.Author.Tests.{eq-eqb, eqb-true}
-use lib.Dec.{eqb}
-use lib.IntN.{pos, negsuc}
+use borrow.Author.Tests.{eq-eqb, eqb-true, leb-true}
+use lib.Dec.{eqb, leb}
+use lib.IntN.{ℤ, pos, negsuc, natAbs}
 use lib.ListN.{length}
 use Rattle.words.proofs.Tests.{picked, passed, by-test}
 use Rattle.pairs.specs.Pairs.{Pair, pairsIn, findIn, isFound}
 use Rattle.reports.specs.declared.Report.{Report}
-use Rattle.reports.specs.Altitude.{signMagnitude}
+use Rattle.reports.specs.Altitude.{AltitudeForm, signMagnitude}
 use Rattle.reports.specs.Kinds.{kindOf, kindNumber, dabsKind, atcrbsKind}
-use Rattle.reports.specs.Layouts.{Fits}
+use Rattle.reports.specs.Layouts.{Fits, Takes}
 use Rattle.report_items.specs.declared.items.Item.{Item}
 use Rattle.report_items.specs.declared.items.Item.the-variants as I
-use Rattle.report_items.specs.Items.{itemsOf, itemOf}
-use Rattle.report_items.specs.Given.{told, valuesIn, plainGiven, built, builtFrom, sameItem, agreeTo, agree, givenBy, given, unfit}
-use Rattle.report_items.specs.Claims.{ItemsOf, GivenExactly, NoneIsTaken}
+use Rattle.report_items.specs.Items.{altitude, last, itemsOf, itemOf}
+use Rattle.report_items.specs.Given.{itemGiven, valuesIn, plainGiven, built, builtFrom, sameItem, agreeTo, agree, givenBy, given, unfit}
+use Rattle.report_items.specs.Claims.{ItemsOf, InSixteenBits, Narrow, SignMagnitudeIsNarrow, GivenExactly, NoneIsTaken}
 use Rattle.report_items.proofs.Back.{both, back}
 
 pub none-is-taken : NoneIsTaken
-none-is-taken e = let z : _≡_ {A = ℕ} 0 1 = cc in omega arith
+none-is-taken form e = let z : _≡_ {A = ℕ} 0 1 = cc in omega arith
+
+pub sign-magnitude-is-narrow : SignMagnitudeIsNarrow
+sign-magnitude-is-narrow z h =
+    by-test (leb (natAbs z) 2047) (λ t. small z (leb-true _ _ t))
+    (λ t.
+    let e : signMagnitude .bitsOf z ≡ 4096 = passed _ _ t in
+    absurd (omega arith))
+  where
+    small : (z : ℤ) → natAbs z ≤ 2047 → InSixteenBits z
+    small (pos n) l = omega arith
+    small (negsuc n) l = omega arith
 
 -- ---- the same item
 
@@ -105,13 +116,17 @@ kinded kind high v =
 
 -- ---- what is given
 
-module _ (r : Report) (fit : Fits signMagnitude r) (kind : ℕ) (items : List ℕ) where
+-- what the writer takes fits
+takes-fits : (form : AltitudeForm) (r : Report) → Takes form r → Fits form r
+takes-fits form r h = h
+
+module _ (form : AltitudeForm) (narrow : Narrow form) (r : Report) (taken : Takes form r) (kind : ℕ) (items : List ℕ) where
   ps : List Pair
   ps = pairsIn items
 
-  -- no record is none that fits
+  -- no record is none that the writer takes
   not-unfit : {X : Type 0} → unfit ≡ r → X
-  not-unfit e = absurd (none-is-taken (subst (λ (x : Report). Fits signMagnitude x) (sym e) fit))
+  not-unfit e = absurd (none-is-taken form (subst (λ (x : Report). Takes form x) (sym e) taken))
 
   parts : given kind items ≡ r → (eqb (length items % 16) 0 ≡ true) × (agree (builtFrom kind ps) ps ≡ true) × (builtFrom kind ps ≡ r)
   unfolding given givenBy ps
@@ -128,21 +143,21 @@ module _ (r : Report) (fit : Fits signMagnitude r) (kind : ℕ) (items : List �
       let p = parts e in
       let b = p .2 in
       let n = both _ _ (p .1) in (
-        ⊎-elim (λ q. not-unfit (sym q ∙ b)) (λ q. sym q ∙ ap (λ (x : Report). kindNumber (kindOf x)) b) (kinded kind (isFound (findIn 31 ps)) (valuesIn ps)),
+        ⊎-elim (λ q. not-unfit (sym q ∙ b)) (λ q. sym q ∙ ap (λ (x : Report). kindNumber (kindOf x)) b) (kinded kind (isFound (findIn altitude ps)) (valuesIn ps)),
         record {
           whole = eqb-true _ _ (p .0);
           many = eqb-true _ _ (n .0) ∙ ap (λ (x : Report). length (itemsOf x)) b;
-          each = each-of r (told ps) 36 (ap (λ (x : Report). agreeTo 36 x (told ps)) (sym b) ∙ both _ _ (n .1) .0);
+          each = each-of r (itemGiven ps) last (ap (λ (x : Report). agreeTo last x (itemGiven ps)) (sym b) ∙ both _ _ (n .1) .0);
         },
       )
 
   here : (kind ≡ kindNumber (kindOf r)) × ItemsOf r items → given kind items ≡ r
   unfolding given givenBy agree ps
   here (k, i) =
-      let b : builtFrom kind ps ≡ r = ap (λ (x : ℕ). builtFrom x ps) k ∙ back ps r fit (i .each) in
+      let b : builtFrom kind ps ≡ r = ap (λ (x : ℕ). builtFrom x ps) k ∙ back form narrow ps r (takes-fits form r taken) (i .each) in
       let a : agree (builtFrom kind ps) ps ≡ true =
-      ap (λ (x : Report). agree x ps) b ∙ picked _ _ (eq-eqb _ _ (i .many)) ∙ picked _ _ (of-each r (told ps) 36 (i .each)) in
+      ap (λ (x : Report). agree x ps) b ∙ picked _ _ (eq-eqb _ _ (i .many)) ∙ picked _ _ (of-each r (itemGiven ps) last (i .each)) in
       picked _ _ (eq-eqb _ _ (i .whole)) ∙ picked _ _ a ∙ b
 
 pub given-exactly : GivenExactly
-given-exactly r fit kind items = (there r fit kind items, here r fit kind items)
+given-exactly form narrow r taken kind items = (there form narrow r taken kind items, here form narrow r taken kind items)

@@ -1,4 +1,4 @@
--- Items that a report has as they are told, and that are as many as it has, are all that it has. Assumes nothing.
+-- Items that a report has as they are given, and that are as many as it has, are all that it has. Assumes nothing.
 use Prim.Native.Nat.{ℕ, zero, suc, _+_, _-_, _^_, _≤_, _<_}
 use mathlib.Core.Path.{_≡_, refl, sym, _∙_}
 use mathlib.Core.Bool.{Bool, true, false, cond}
@@ -8,15 +8,15 @@ use lib.IntN.{ℤ}
 use lib.ListN.{length, getD}
 use borrow.Author.Tests.{eq-eqb, ne-eqb}
 use Rattle.words.proofs.Tests.{picked, by-test}
-use Rattle.pairs.specs.declared.Told.{Told}
+use Rattle.pairs.specs.declared.Gathered.{Gathered}
 use Rattle.reports.specs.declared.Height.{Height}
 use Rattle.reports.specs.declared.Height.the-variants as H
 use Rattle.reports.specs.declared.Report.{Report}
 use Rattle.reports.specs.declared.Report.the-variants as R
 use Rattle.report_items.specs.declared.items.Item.{Item}
 use Rattle.report_items.specs.declared.items.Item.the-variants as I
-use Rattle.report_items.specs.Items.{itemsOf, itemOf, isOf}
-use Rattle.report_items.specs.Given.{asSigned, itemTold, sameItem, agreeTo}
+use Rattle.report_items.specs.Items.{last, itemsOf, itemOf, isOf}
+use Rattle.report_items.specs.Given.{asSigned, itemGathered, sameItem, agreeTo}
 use Rattle.report_items.proofs.Back.{both}
 
 -- how many of the numbers 1 to n something is said of
@@ -48,17 +48,17 @@ stands-same I.Missing (I.Of y) e = let z : _≡_ {A = ℕ} 0 1 = cc in absurd (o
 stands-same I.Missing I.Missing e = (omega arith, λ h. refl)
 
 -- of what is gathered
-pub stands-by : (own : Item) (t : Told) (n : ℕ)
-    → cond (getD (t .there) n false) (sameItem own (I.Of (asSigned (2 ^ 63) (getD (t .values) n 0)))) true ≡ stands own (itemTold t n)
-unfolding itemTold
+pub stands-by : (own : Item) (t : Gathered) (n : ℕ)
+    → cond (getD (t .there) n false) (sameItem own (I.Of (asSigned (2 ^ 63) (getD (t .values) n 0)))) true ≡ stands own (itemGathered t n)
+unfolding itemGathered
 stands-by own t n = go (getD (t .there) n false) (asSigned (2 ^ 63) (getD (t .values) n 0))
   where
     go : (b : Bool) (z : ℤ) → cond b (sameItem own (I.Of z)) true ≡ stands own (cond b (I.Of z) I.Missing)
     go true z = refl
     go false z = refl
 
-pub one-by : (t : Told) (n : ℕ) → cond (getD (t .there) n false) 1 0 ≡ isOf (itemTold t n)
-unfolding itemTold
+pub one-by : (t : Gathered) (n : ℕ) → cond (getD (t .there) n false) 1 0 ≡ isOf (itemGathered t n)
+unfolding itemGathered
 one-by t n = go (getD (t .there) n false) (asSigned (2 ^ 63) (getD (t .values) n 0))
   where
     go : (b : Bool) (z : ℤ) → cond b 1 0 ≡ isOf (cond b (I.Of z) I.Missing)
@@ -109,7 +109,7 @@ module _ (r : Report) (said : ℕ → Item) where
 
 -- ---- a report's own
 
-own-tally : (r : Report) → tallyTo 36 (itemOf r) ≡ length (itemsOf r)
+own-tally : (r : Report) → tallyTo last (itemOf r) ≡ length (itemsOf r)
 unfolding tallyTo
 own-tally (R.Search s) = refl
 own-tally (R.Strobe s) = refl
@@ -118,7 +118,7 @@ own-tally (R.Status s) = refl
 own-tally (R.Rtqc s) = refl
 own-tally (R.Dabs d) = go (d .height) refl
   where
-    go : (h : Height) → d .height ≡ h → tallyTo 36 (itemOf (R.Dabs d)) ≡ length (itemsOf (R.Dabs d))
+    go : (h : Height) → d .height ≡ h → tallyTo last (itemOf (R.Dabs d)) ≡ length (itemsOf (R.Dabs d))
     go (H.Altitude z) e = rw e refl
     go (H.Carried n) e = rw e refl
     go (H.Cd m n) e = rw e refl
@@ -126,7 +126,7 @@ own-tally (R.Dabs d) = go (d .height) refl
     go (H.Rdas m n) e = rw e refl
 own-tally (R.Atcrbs a) = go (a .height) refl
   where
-    go : (h : Height) → a .height ≡ h → tallyTo 36 (itemOf (R.Atcrbs a)) ≡ length (itemsOf (R.Atcrbs a))
+    go : (h : Height) → a .height ≡ h → tallyTo last (itemOf (R.Atcrbs a)) ≡ length (itemsOf (R.Atcrbs a))
     go (H.Altitude z) e = rw e refl
     go (H.Carried n) e = rw e refl
     go (H.Cd m n) e = rw e refl
@@ -136,14 +136,14 @@ own-tally (R.Mtd m) = refl
 own-tally (R.Rdas x) = refl
 
 -- the test by what stands and how many is the test of all
-pub by-tally : (r : Report) (said : ℕ → Item) (n : ℕ) → standTo 36 r said ≡ true → n ≡ tallyTo 36 said → eqb n (length (itemsOf r)) ≡ agreeTo 36 r said
+pub by-tally : (r : Report) (said : ℕ → Item) (n : ℕ) → standTo last r said ≡ true → n ≡ tallyTo last said → eqb n (length (itemsOf r)) ≡ agreeTo last r said
 by-tally r said n s e =
-    by-test (agreeTo 36 r said)
-    (λ t. eq-eqb n (length (itemsOf r)) (e ∙ sym (all-stand r said 36 t .1) ∙ own-tally r) ∙ sym t)
-    (λ t. ne-eqb n (length (itemsOf r)) (λ q. never (sym t ∙ as-many r said 36 s .1 (own-tally r ∙ sym q ∙ e))) ∙ sym t)
+    by-test (agreeTo last r said)
+    (λ t. eq-eqb n (length (itemsOf r)) (e ∙ sym (all-stand r said last t .1) ∙ own-tally r) ∙ sym t)
+    (λ t. ne-eqb n (length (itemsOf r)) (λ q. never (sym t ∙ as-many r said last s .1 (own-tally r ∙ sym q ∙ e))) ∙ sym t)
   where
     never : false ≡ true → ⊥
     never h = let z : _≡_ {A = ℕ} 0 1 = cc in omega arith
 
-pub by-one : (r : Report) (said : ℕ → Item) → standTo 36 r said ≡ false → agreeTo 36 r said ≡ false
-by-one r said s = by-test (agreeTo 36 r said) (λ t. sym (all-stand r said 36 t .0 ∙ sym t) ∙ s) (λ t. t)
+pub by-one : (r : Report) (said : ℕ → Item) → standTo last r said ≡ false → agreeTo last r said ≡ false
+by-one r said s = by-test (agreeTo last r said) (λ t. sym (all-stand r said last t .0 ∙ sym t) ∙ s) (λ t. t)

@@ -1,29 +1,43 @@
 -- What is claimed of the report that a C program gives. Statements only; proofs/Claims.antt proves them.
-use Prim.Native.Nat.{ℕ, _%_, _<_, _≤_}
+use Prim.Native.Nat.{ℕ, _%_, _^_, _<_, _≤_}
 use mathlib.Core.Path.{_≡_}
 use mathlib.Core.List.{List}
 use mathlib.Core.Logic.{_↔_}
+use lib.IntN.{ℤ, pos, negsuc}
 use lib.ListN.{length}
 use Rattle.pairs.specs.Pairs.{pairsIn}
 use Rattle.reports.specs.declared.Report.{Report}
-use Rattle.reports.specs.Altitude.{signMagnitude}
+use Rattle.reports.specs.Altitude.{AltitudeForm, signMagnitude}
 use Rattle.reports.specs.Kinds.{kindOf, kindNumber}
-use Rattle.reports.specs.Layouts.{Fits}
-use Rattle.report_items.specs.Items.{itemsOf, itemOf}
-use Rattle.report_items.specs.Given.{told, given, unfit}
+use Rattle.reports.specs.Layouts.{Takes}
+use Rattle.report_items.specs.Items.{last, itemsOf, itemOf}
+use Rattle.report_items.specs.Given.{itemGiven, given, unfit}
 
 -- the items are those of a report: whole, as many as it has, and for each item's number what it has
 pub record ItemsOf (r : Report) (items : List ℕ) : Type 0 where
   pub whole : length items % 16 ≡ 0
   pub many : length (pairsIn items) ≡ length (itemsOf r)
-  pub each : (n : ℕ) → 0 < n → n ≤ 36 → told (pairsIn items) n ≡ itemOf r n
+  pub each : (n : ℕ) → 0 < n → n ≤ last → itemGiven (pairsIn items) n ≡ itemOf r n
+
+-- -32768 to 32767: what sixteen bits hold with a sign
+abbrev pub InSixteenBits : ℤ → Type 0
+InSixteenBits (pos n) = n < 2 ^ 15
+InSixteenBits (negsuc n) = n < 2 ^ 15
+
+-- what is asked of a form of the altitude: whatever it can write, sixteen bits hold
+abbrev pub Narrow : AltitudeForm → Type 0
+Narrow form = (z : ℤ) → form .bitsOf z < 4096 → InSixteenBits z
+
+-- document 01's form is so
+abbrev pub SignMagnitudeIsNarrow : Type 0
+SignMagnitudeIsNarrow = Narrow signMagnitude
 
 -- a report that the writer takes is given by its own kind and its own items, in any order, and by nothing else
 abbrev pub GivenExactly : Type 0
 GivenExactly =
-    (r : Report) → Fits signMagnitude r
+    (form : AltitudeForm) → Narrow form → (r : Report) → Takes form r
     → (kind : ℕ) (items : List ℕ) → (given kind items ≡ r) ↔ ((kind ≡ kindNumber (kindOf r)) × ItemsOf r items)
 
 -- what stands for no record is refused by the writer
 abbrev pub NoneIsTaken : Type 0
-NoneIsTaken = Fits signMagnitude unfit → ⊥
+NoneIsTaken = (form : AltitudeForm) → Takes form unfit → ⊥

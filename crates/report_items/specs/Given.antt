@@ -10,8 +10,8 @@ use lib.ListN.{length, getD}
 use Rattle.words.specs.Tests.{all}
 use Rattle.pairs.specs.declared.Found.{Found}
 use Rattle.pairs.specs.declared.Found.the-variants as F
-use Rattle.pairs.specs.declared.Told.{Told}
-use Rattle.pairs.specs.Pairs.{Pair, pairsIn, findIn, valueOf, isFound, eachFrom}
+use Rattle.pairs.specs.declared.Gathered.{Gathered}
+use Rattle.pairs.specs.Pairs.{Pair, pairsIn, slots, findIn, valueOf, isFound, eachFrom}
 use Rattle.reports.specs.declared.Search.{Search}
 use Rattle.reports.specs.declared.Strobe.{Strobe}
 use Rattle.reports.specs.declared.Map.{Map}
@@ -42,25 +42,25 @@ abbrev pub itemFrom : Found → Item
 itemFrom (F.Value v) = I.Of (asSigned (2 ^ 63) v)
 itemFrom F.Missing = I.Missing
 
--- of an item's number
-unfoldable pub told : List Pair → ℕ → Item
-told ps n = itemFrom (findIn n ps)
+-- what is given for an item's number
+unfoldable pub itemGiven : List Pair → ℕ → Item
+itemGiven ps n = itemFrom (findIn n ps)
 
 -- the same of what is gathered for the numbers from 0 on
-unfoldable pub itemTold : Told → ℕ → Item
-itemTold t n = cond (getD (t .there) n false) (I.Of (asSigned (2 ^ 63) (getD (t .values) n 0))) I.Missing
+unfoldable pub itemGathered : Gathered → ℕ → Item
+itemGathered t n = cond (getD (t .there) n false) (I.Of (asSigned (2 ^ 63) (getD (t .values) n 0))) I.Missing
 
 -- the eight bytes as they stand, for every item's number, and 0 which is none's
 unfoldable pub valuesIn : List Pair → List ℕ
-valuesIn ps = eachFrom valueOf 0 37 ps
+valuesIn ps = eachFrom valueOf 0 slots ps
 
 -- ---- the record that values make: nothing is tested here
 
-abbrev pub flagOf : List ℕ → ℕ → Bool
+abbrev flagOf : List ℕ → ℕ → Bool
 flagOf v n = eqb (getD v n 0) 1
 
 -- of so many bits
-abbrev pub countOf : ℕ → List ℕ → ℕ → ℕ
+abbrev countOf : ℕ → List ℕ → ℕ → ℕ
 countOf k v n = getD v n 0 % 2 ^ k
 
 abbrev pub searchGiven : List ℕ → Search
@@ -200,7 +200,7 @@ rdasGiven v = record {
   «false_target» = flagOf v N.falseTarget;
 }
 
--- no record: the second word of a Status has no sixteen bits
+-- no record: the second word of a Status has twelve bits, and 65535 takes sixteen
 abbrev pub unfit : Report
 unfit = R.Status record { test = false; faa = false; af = false; second = 65535; third = 0; fourth = 0 }
 
@@ -248,7 +248,7 @@ agreeTo (suc n) r said = cond (sameItem (itemOf r (suc n)) (said (suc n))) (agre
 
 -- by the pairs, and there are as many: so none is foreign, and none is there twice
 unfoldable pub agree : Report → List Pair → Bool
-agree r ps = all (eqb (length ps) (length (itemsOf r)) ∷ agreeTo 36 r (told ps) ∷ [])
+agree r ps = all (eqb (length ps) (length (itemsOf r)) ∷ agreeTo N.last r (itemGiven ps) ∷ [])
 
 -- the record of a kind's number and these pairs
 unfoldable pub givenBy : ℕ → List Pair → Report

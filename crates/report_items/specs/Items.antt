@@ -133,6 +133,10 @@ doppler2 = 35
 abbrev pub ground : ℕ
 ground = 36
 
+-- the greatest of them: they are numbered from 1 on, without a gap
+abbrev pub last : ℕ
+last = ground
+
 -- ---- the items of each kind
 
 abbrev pub heightItems : Height → List Entry

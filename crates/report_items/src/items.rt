@@ -1,11 +1,12 @@
 // The items of a report: what a C program asks for by number. Every number is answered: an item that the report has not is Missing.
-// Relies on the records of reports.
+// Relies on the records of reports, numbers for the items.
 ghost use mathlib.Core.Path.{_≡_};
 ghost use mathlib.Core.Bool.{cond};
 ghost use lib.IntN.{pos};
 ghost use Rattle.reports.specs.declared.Height.the-variants as Ht;
 ghost use Rattle.reports.specs.declared.Report.the-variants as R;
 ghost use Rattle.report_items.specs.Items.{lookup, heightItems, itemOf};
+use crate::numbers;
 use measures::RunLength;
 use reports::Atcrbs;
 use reports::Dabs;
@@ -59,46 +60,46 @@ fn signed(z: i16) -> Item
 
 // ---- bits 79 to 90
 
-fn altitude_item(z: i16, item: u32) -> Item
+fn altitude_item(z: i16, item: usize) -> Item
     ensures { λ r. ⌜ r ≡ lookup item (heightItems (Ht.Altitude z)) ⌝ }
 {
     match item {
-        31 => signed(z),
+        numbers::ALTITUDE => signed(z),
         _ => Item::Missing,
     }
 }
 
-fn carried_item(n: u16, item: u32) -> Item
+fn carried_item(n: u16, item: usize) -> Item
     ensures { λ r. ⌜ r ≡ lookup item (heightItems (Ht.Carried n)) ⌝ }
 {
     match item {
-        32 => count(n),
+        numbers::CARRIED => count(n),
         _ => Item::Missing,
     }
 }
 
-fn cd_item(mode_c: bool, run: RunLength, item: u32) -> Item
+fn cd_item(mode_c: bool, run: RunLength, item: usize) -> Item
     ensures { λ r. ⌜ r ≡ lookup item (heightItems (Ht.Cd «mode_c» run)) ⌝ }
 {
     match item {
-        18 => flag(mode_c),
-        7 => small(run.0),
+        numbers::MODE_C => flag(mode_c),
+        numbers::RUN => small(run.0),
         _ => Item::Missing,
     }
 }
 
 // An MTD and an RDAS have the same items.
-fn quality_item(mode_c: bool, quality: u8, item: u32) -> Item
+fn quality_item(mode_c: bool, quality: u8, item: usize) -> Item
     ensures { λ r. ⌜ r ≡ lookup item (heightItems (Ht.Mtd «mode_c» quality)) ⌝ }
 {
     match item {
-        18 => flag(mode_c),
-        33 => small(quality),
+        numbers::MODE_C => flag(mode_c),
+        numbers::QUALITY => small(quality),
         _ => Item::Missing,
     }
 }
 
-fn height_item(h: Height, item: u32) -> Item
+fn height_item(h: Height, item: usize) -> Item
     ensures { λ r. ⌜ r ≡ lookup item (heightItems h) ⌝ }
 {
     match h {
@@ -112,169 +113,169 @@ fn height_item(h: Height, item: u32) -> Item
 
 // ---- four words
 
-fn search_item(s: Search, item: u32) -> Item
+fn search_item(s: Search, item: usize) -> Item
     ensures { λ r. ⌜ r ≡ itemOf (R.Search s) item ⌝ }
 {
     match item {
-        1 => flag(s.test),
-        2 => flag(s.faa),
-        3 => flag(s.af),
-        4 => count(s.range.0),
-        5 => count(s.azimuth.0),
-        8 => flag(s.aims),
-        9 => small(s.code),
-        7 => small(s.run.0),
-        6 => small(s.time.0),
+        numbers::TEST => flag(s.test),
+        numbers::FAA => flag(s.faa),
+        numbers::AF => flag(s.af),
+        numbers::RANGE => count(s.range.0),
+        numbers::AZIMUTH => count(s.azimuth.0),
+        numbers::AIMS => flag(s.aims),
+        numbers::AIMS_CODE => small(s.code),
+        numbers::RUN => small(s.run.0),
+        numbers::TIME => small(s.time.0),
         _ => Item::Missing,
     }
 }
 
-fn strobe_item(s: Strobe, item: u32) -> Item
+fn strobe_item(s: Strobe, item: usize) -> Item
     ensures { λ r. ⌜ r ≡ itemOf (R.Strobe s) item ⌝ }
 {
     match item {
-        1 => flag(s.test),
-        2 => flag(s.faa),
-        3 => flag(s.af),
-        4 => count(s.range.0),
-        5 => count(s.azimuth.0),
-        7 => small(s.run.0),
-        6 => small(s.time.0),
+        numbers::TEST => flag(s.test),
+        numbers::FAA => flag(s.faa),
+        numbers::AF => flag(s.af),
+        numbers::RANGE => count(s.range.0),
+        numbers::AZIMUTH => count(s.azimuth.0),
+        numbers::RUN => small(s.run.0),
+        numbers::TIME => small(s.time.0),
         _ => Item::Missing,
     }
 }
 
-fn map_item(m: Map, item: u32) -> Item
+fn map_item(m: Map, item: usize) -> Item
     ensures { λ r. ⌜ r ≡ itemOf (R.Map m) item ⌝ }
 {
     match item {
-        1 => flag(m.test),
-        10 => small(m.variation),
-        2 => flag(m.faa),
-        3 => flag(m.af),
-        11 => count(m.start.0),
-        5 => count(m.azimuth.0),
-        12 => count(m.stop.0),
+        numbers::TEST => flag(m.test),
+        numbers::VARIATION => small(m.variation),
+        numbers::FAA => flag(m.faa),
+        numbers::AF => flag(m.af),
+        numbers::START => count(m.start.0),
+        numbers::AZIMUTH => count(m.azimuth.0),
+        numbers::STOP => count(m.stop.0),
         _ => Item::Missing,
     }
 }
 
-fn status_item(s: Status, item: u32) -> Item
+fn status_item(s: Status, item: usize) -> Item
     ensures { λ r. ⌜ r ≡ itemOf (R.Status s) item ⌝ }
 {
     match item {
-        1 => flag(s.test),
-        2 => flag(s.faa),
-        3 => flag(s.af),
-        13 => count(s.second),
-        14 => count(s.third),
-        15 => count(s.fourth),
+        numbers::TEST => flag(s.test),
+        numbers::FAA => flag(s.faa),
+        numbers::AF => flag(s.af),
+        numbers::SECOND => count(s.second),
+        numbers::THIRD => count(s.third),
+        numbers::FOURTH => count(s.fourth),
         _ => Item::Missing,
     }
 }
 
-fn rtqc_item(s: Rtqc, item: u32) -> Item
+fn rtqc_item(s: Rtqc, item: usize) -> Item
     ensures { λ r. ⌜ r ≡ itemOf (R.Rtqc s) item ⌝ }
 {
     match item {
-        2 => flag(s.faa),
-        3 => flag(s.af),
-        4 => count(s.range.0),
-        5 => count(s.azimuth.0),
-        7 => small(s.run.0),
-        6 => small(s.time.0),
+        numbers::FAA => flag(s.faa),
+        numbers::AF => flag(s.af),
+        numbers::RANGE => count(s.range.0),
+        numbers::AZIMUTH => count(s.azimuth.0),
+        numbers::RUN => small(s.run.0),
+        numbers::TIME => small(s.time.0),
         _ => Item::Missing,
     }
 }
 
 // ---- seven words
 
-fn dabs_item(d: Dabs, item: u32) -> Item
+fn dabs_item(d: Dabs, item: usize) -> Item
     ensures { λ r. ⌜ r ≡ itemOf (R.Dabs d) item ⌝ }
 {
     let height = d.height;
     match item {
-        1 => flag(d.test),
-        16 => flag(d.primary),
-        19 => flag(d.spi),
-        20 => flag(d.reinforced),
-        21 => flag(d.code7700),
-        22 => flag(d.code7600),
-        2 => flag(d.faa),
-        4 => count(d.range.0),
-        5 => count(d.azimuth.0),
-        23 => flag(d.alert),
-        24 => flag(d.relay),
-        6 => small(d.time.0),
-        25 => large(d.address),
+        numbers::TEST => flag(d.test),
+        numbers::PRIMARY => flag(d.primary),
+        numbers::SPI => flag(d.spi),
+        numbers::REINFORCED => flag(d.reinforced),
+        numbers::CODE7700 => flag(d.code7700),
+        numbers::CODE7600 => flag(d.code7600),
+        numbers::FAA => flag(d.faa),
+        numbers::RANGE => count(d.range.0),
+        numbers::AZIMUTH => count(d.azimuth.0),
+        numbers::ALERT => flag(d.alert),
+        numbers::RELAY => flag(d.relay),
+        numbers::TIME => small(d.time.0),
+        numbers::ADDRESS => large(d.address),
         _ => height_item(height, item),
     }
 }
 
-fn atcrbs_item(a: Atcrbs, item: u32) -> Item
+fn atcrbs_item(a: Atcrbs, item: usize) -> Item
     ensures { λ r. ⌜ r ≡ itemOf (R.Atcrbs a) item ⌝ }
 {
     let height = a.height;
     match item {
-        1 => flag(a.test),
-        17 => flag(a.mode3a),
-        19 => flag(a.spi),
-        20 => flag(a.reinforced),
-        21 => flag(a.code7700),
-        22 => flag(a.code7600),
-        2 => flag(a.faa),
-        4 => count(a.range.0),
-        5 => count(a.azimuth.0),
-        26 => flag(a.confidence),
-        27 => flag(a.transition),
-        28 => flag(a.false_target),
-        24 => flag(a.relay),
-        6 => small(a.time.0),
-        29 => count(a.code),
-        30 => count(a.file),
+        numbers::TEST => flag(a.test),
+        numbers::MODE3A => flag(a.mode3a),
+        numbers::SPI => flag(a.spi),
+        numbers::REINFORCED => flag(a.reinforced),
+        numbers::CODE7700 => flag(a.code7700),
+        numbers::CODE7600 => flag(a.code7600),
+        numbers::FAA => flag(a.faa),
+        numbers::RANGE => count(a.range.0),
+        numbers::AZIMUTH => count(a.azimuth.0),
+        numbers::CONFIDENCE => flag(a.confidence),
+        numbers::TRANSITION => flag(a.transition),
+        numbers::FALSE_TARGET => flag(a.false_target),
+        numbers::RELAY => flag(a.relay),
+        numbers::TIME => small(a.time.0),
+        numbers::CODE => count(a.code),
+        numbers::FILE => count(a.file),
         _ => height_item(height, item),
     }
 }
 
-fn mtd_item(m: Mtd, item: u32) -> Item
+fn mtd_item(m: Mtd, item: usize) -> Item
     ensures { λ r. ⌜ r ≡ itemOf (R.Mtd m) item ⌝ }
 {
     match item {
-        1 => flag(m.test),
-        2 => flag(m.faa),
-        4 => count(m.range.0),
-        5 => count(m.azimuth.0),
-        8 => flag(m.aims),
-        6 => small(m.time.0),
-        34 => small(m.doppler1),
-        35 => small(m.doppler2),
-        30 => count(m.file),
-        33 => small(m.quality),
-        26 => small(m.confidence),
-        28 => flag(m.false_target),
-        36 => flag(m.ground),
+        numbers::TEST => flag(m.test),
+        numbers::FAA => flag(m.faa),
+        numbers::RANGE => count(m.range.0),
+        numbers::AZIMUTH => count(m.azimuth.0),
+        numbers::AIMS => flag(m.aims),
+        numbers::TIME => small(m.time.0),
+        numbers::DOPPLER1 => small(m.doppler1),
+        numbers::DOPPLER2 => small(m.doppler2),
+        numbers::FILE => count(m.file),
+        numbers::QUALITY => small(m.quality),
+        numbers::CONFIDENCE => small(m.confidence),
+        numbers::FALSE_TARGET => flag(m.false_target),
+        numbers::GROUND => flag(m.ground),
         _ => Item::Missing,
     }
 }
 
-fn rdas_item(x: Rdas, item: u32) -> Item
+fn rdas_item(x: Rdas, item: usize) -> Item
     ensures { λ r. ⌜ r ≡ itemOf (R.Rdas x) item ⌝ }
 {
     match item {
-        1 => flag(x.test),
-        2 => flag(x.faa),
-        4 => count(x.range.0),
-        5 => count(x.azimuth.0),
-        8 => flag(x.aims),
-        6 => small(x.time.0),
-        30 => count(x.file),
-        33 => small(x.quality),
-        28 => flag(x.false_target),
+        numbers::TEST => flag(x.test),
+        numbers::FAA => flag(x.faa),
+        numbers::RANGE => count(x.range.0),
+        numbers::AZIMUTH => count(x.azimuth.0),
+        numbers::AIMS => flag(x.aims),
+        numbers::TIME => small(x.time.0),
+        numbers::FILE => count(x.file),
+        numbers::QUALITY => small(x.quality),
+        numbers::FALSE_TARGET => flag(x.false_target),
         _ => Item::Missing,
     }
 }
 
-pub fn item_of(report: Report, item: u32) -> Item
+pub fn item_of(report: Report, item: usize) -> Item
     ensures { λ r. ⌜ r ≡ itemOf report item ⌝ }
 {
     match report {

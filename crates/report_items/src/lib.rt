@@ -3,3 +3,4 @@
 // Relies on reports for the records, measures for their counts, pairs for items in bytes.
 pub mod given; // given.rt: the report that a kind and items stand for
 pub mod items; // items.rt: the fields of a report, by number
+mod numbers; // numbers.rt: the number of each item

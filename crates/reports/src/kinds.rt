@@ -23,27 +23,58 @@ pub enum Kind {
     Rdas,
 }
 
+// ---- the number that a C program knows each kind by
+
+pub const SEARCH: u32 = 101;
+
+pub const STROBE: u32 = 102;
+
+pub const MAP: u32 = 103;
+
+pub const STATUS: u32 = 104;
+
+pub const RTQC: u32 = 105;
+
+pub const DABS: u32 = 106;
+
+pub const DABS_CD: u32 = 107;
+
+pub const DABS_MTD: u32 = 108;
+
+pub const DABS_RDAS: u32 = 109;
+
+pub const ATCRBS: u32 = 110;
+
+pub const ATCRBS_CD: u32 = 111;
+
+pub const ATCRBS_MTD: u32 = 112;
+
+pub const ATCRBS_RDAS: u32 = 113;
+
+pub const MTD: u32 = 114;
+
+pub const RDAS: u32 = 115;
+
 impl Kind {
-    // The number that a C program knows the kind by.
     pub fn number(self) -> u8
         ensures { λ r. ⌜ r ≡ kindNumber self ⌝ }
     {
         match self {
-            Kind::Search => 101,
-            Kind::Strobe => 102,
-            Kind::Map => 103,
-            Kind::Status => 104,
-            Kind::Rtqc => 105,
-            Kind::Dabs => 106,
-            Kind::DabsCd => 107,
-            Kind::DabsMtd => 108,
-            Kind::DabsRdas => 109,
-            Kind::Atcrbs => 110,
-            Kind::AtcrbsCd => 111,
-            Kind::AtcrbsMtd => 112,
-            Kind::AtcrbsRdas => 113,
-            Kind::Mtd => 114,
-            Kind::Rdas => 115,
+            Kind::Search => SEARCH as u8,
+            Kind::Strobe => STROBE as u8,
+            Kind::Map => MAP as u8,
+            Kind::Status => STATUS as u8,
+            Kind::Rtqc => RTQC as u8,
+            Kind::Dabs => DABS as u8,
+            Kind::DabsCd => DABS_CD as u8,
+            Kind::DabsMtd => DABS_MTD as u8,
+            Kind::DabsRdas => DABS_RDAS as u8,
+            Kind::Atcrbs => ATCRBS as u8,
+            Kind::AtcrbsCd => ATCRBS_CD as u8,
+            Kind::AtcrbsMtd => ATCRBS_MTD as u8,
+            Kind::AtcrbsRdas => ATCRBS_RDAS as u8,
+            Kind::Mtd => MTD as u8,
+            Kind::Rdas => RDAS as u8,
         }
     }
 }

@@ -4,8 +4,5 @@ use Rattle.pairs.proofs.Laws.{length-pairsIn}
 use Rattle.pairs.proofs.count.Statement.{statement}
 use Rattle.pairs.proofs.count.Tie as tie
 
-returns : tie.Need-returns
-returns c = sym (length-pairsIn _)
-
 pub count-spec : {M : Type 1} → statement M
-count-spec = tie.close (tie.spec returns)
+count-spec = tie.close (tie.spec (λ c. sym (length-pairsIn _)))

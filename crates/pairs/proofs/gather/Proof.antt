@@ -1,4 +1,4 @@
--- `pairs::gather` meets its contract: what is told by the pairs behind those that are left. Assumes nothing.
+-- `pairs::gather` meets its contract: what is found among the pairs behind those that are left. Assumes nothing.
 use borrow.Author.Needs.{needs}
 use native.Mathlib.Omega.{arith}
 use mathlib.Core.Path.{_≡_, refl, sym, ap, _∙_}
@@ -7,8 +7,8 @@ use Prim.Native.Nat.{ℕ, suc, _+_, _-_, _*_, _/_, _≤_, _<_}
 use lib.ListN.{length, drop, set, replicate}
 use Rattle.pairs.specs.declared.Found.{Found}
 use Rattle.pairs.specs.declared.Found.the-variants as F
-use Rattle.pairs.specs.Pairs.{Pair, eight, pairs, pairsIn, findIn, isFound, valueOf, eachFrom, toldFrom, Slot}
-use Rattle.pairs.proofs.Laws.{pairs-before, slot-told, slot-other}
+use Rattle.pairs.specs.Pairs.{Pair, eight, pairs, pairsIn, findIn, isFound, valueOf, eachFrom, gatheredFrom, Slot, slots}
+use Rattle.pairs.proofs.Laws.{pairs-before, slot-anew, slot-other}
 use Rattle.pairs.proofs.gather.Statement.{statement}
 use Rattle.pairs.proofs.gather.Tie as tie
 
@@ -26,36 +26,36 @@ one-more s left m e h =
     ∙ ap (λ (x : ℕ). (eight (drop (16 * m) s), eight (drop (16 * m + 8) s)) ∷ pairs (length s / 16 - left) (drop x s)) n
 
 -- none yet
-none : {X : Type 0} (f : Found → X) (n : ℕ) (s : List ℕ) {l : List X} → l ≡ replicate 37 (f F.Missing) → l ≡ eachFrom f n 37 (behind s (length s / 16))
+none : {X : Type 0} (f : Found → X) (n : ℕ) (s : List ℕ) {l : List X} → l ≡ replicate slots (f F.Missing) → l ≡ eachFrom f n slots (behind s (length s / 16))
 unfolding pairs eachFrom findIn
 none f n s e =
     let z : length s / 16 - length s / 16 ≡ 0 = omega arith in
     rw z e
 
--- it tells of one of the numbers, or of none
+-- it is a pair of one of the numbers, or of none
 module _ {X : Type 0} (f : Found → X) (first : ℕ) (s : List ℕ) (left n k : ℕ) (l : List X) (h : 0 < left) (m : left ≤ length s / 16)
-    (e : l ≡ eachFrom f first 37 (behind s left)) (p : n ≡ eight (drop (16 * (left - 1)) s)) (o : Slot first n k) where
+    (e : l ≡ eachFrom f first slots (behind s left)) (p : n ≡ eight (drop (16 * (left - 1)) s)) (o : Slot first n k) where
   q : left ≡ suc (left - 1)
   q = omega arith
 
-  tells : (v : ℕ) → v ≡ eight (drop (16 * (left - 1) + 8) s) → k < 37 → set l k (f (F.Value v)) ≡ eachFrom f first 37 (behind s (left - 1))
-  tells v w a =
+  sets : (v : ℕ) → v ≡ eight (drop (16 * (left - 1) + 8) s) → k < slots → set l k (f (F.Value v)) ≡ eachFrom f first slots (behind s (left - 1))
+  sets v w a =
       ap (λ (x : List X). set x k (f (F.Value v))) e
-      ∙ slot-told f first n v k (behind s left) o a
-      ∙ ap (λ (x : ℕ). eachFrom f first 37 ((x, v) ∷ behind s left)) p
-      ∙ ap (λ (x : ℕ). eachFrom f first 37 ((eight (drop (16 * (left - 1)) s), x) ∷ behind s left)) w
-      ∙ ap (λ (x : List Pair). eachFrom f first 37 x) (sym (one-more s left (left - 1) q m))
+      ∙ slot-anew f first n v k (behind s left) o a
+      ∙ ap (λ (x : ℕ). eachFrom f first slots ((x, v) ∷ behind s left)) p
+      ∙ ap (λ (x : ℕ). eachFrom f first slots ((eight (drop (16 * (left - 1)) s), x) ∷ behind s left)) w
+      ∙ ap (λ (x : List Pair). eachFrom f first slots x) (sym (one-more s left (left - 1) q m))
 
-  leaves : 37 ≤ k → l ≡ eachFrom f first 37 (behind s (left - 1))
+  leaves : slots ≤ k → l ≡ eachFrom f first slots (behind s (left - 1))
   leaves a =
       e
       ∙ sym (slot-other f first n (eight (drop (16 * (left - 1) + 8) s)) k (behind s left) o a)
-      ∙ ap (λ (x : ℕ). eachFrom f first 37 ((x, eight (drop (16 * (left - 1) + 8) s)) ∷ behind s left)) p
-      ∙ ap (λ (x : List Pair). eachFrom f first 37 x) (sym (one-more s left (left - 1) q m))
+      ∙ ap (λ (x : ℕ). eachFrom f first slots ((x, eight (drop (16 * (left - 1) + 8) s)) ∷ behind s left)) p
+      ∙ ap (λ (x : List Pair). eachFrom f first slots x) (sym (one-more s left (left - 1) q m))
 
 abbrev Inv-loop : tie.InvT-loop
 Inv-loop items first there₀ values₀ left₀ there values left =
-    (left ≤ length items / 16) × (there ≡ eachFrom isFound first 37 (behind items left)) × (values ≡ eachFrom valueOf first 37 (behind items left))
+    (left ≤ length items / 16) × (there ≡ eachFrom isFound first slots (behind items left)) × (values ≡ eachFrom valueOf first slots (behind items left))
 
 abbrev μ-loop : tie.MeasureT-loop
 μ-loop items first there₀ values₀ left₀ there values left = left
@@ -65,39 +65,6 @@ loop-holds c =
     let s = c .before .args .items .now in
     (omega arith, none isFound _ s refl, none valueOf _ s refl)
 
-sub-left : tie.Need-sub-left Inv-loop μ-loop
-sub-left c = omega arith
-
-mul-eight : tie.Need-mul-eight Inv-loop μ-loop
-mul-eight c = omega arith
-
-eight-requires : tie.Need-eight-requires Inv-loop μ-loop
-eight-requires c κs = omega arith
-
-slot-requires : tie.Need-slot-requires Inv-loop μ-loop
-slot-requires c κs = search needs
-
-array-write-there : tie.Need-array-write-there Inv-loop μ-loop
-array-write-there c = omega arith
-
-mul-eight-2 : tie.Need-mul-eight-2 Inv-loop μ-loop
-mul-eight-2 c = omega arith
-
-add-eight : tie.Need-add-eight Inv-loop μ-loop
-add-eight c = omega arith
-
-eight-requires-2 : tie.Need-eight-requires-2 Inv-loop μ-loop
-eight-requires-2 c κs = omega arith
-
-mul-values : tie.Need-mul-values Inv-loop μ-loop
-mul-values c = omega arith
-
-array-write-values : tie.Need-array-write-values Inv-loop μ-loop
-array-write-values c = omega arith
-
-loop-less : tie.Need-loop-less Inv-loop μ-loop
-loop-less c = omega arith
-
 loop-again : tie.Need-loop-again Inv-loop μ-loop
 loop-again c =
     let t = c .before .before in
@@ -106,12 +73,9 @@ loop-again c =
     let n = t .before .eight .result in
     let p = t .before .eight .ensures in (
       omega arith,
-      tells isFound (a .first) (a .items .now) (l .left) n _ (l .there) (omega arith) (omega arith) (l .inv .1) p (t .slot .ensures) _ (c .eight2 .ensures) (omega arith),
-      tells valueOf (a .first) (a .items .now) (l .left) n _ (l .values) (omega arith) (omega arith) (l .inv .2) p (t .slot .ensures) _ (c .eight2 .ensures) (omega arith),
+      sets isFound (a .first) (a .items .now) (l .left) n _ (l .there) (omega arith) (omega arith) (l .inv .1) p (t .slot .ensures) _ (c .eight2 .ensures) (omega arith),
+      sets valueOf (a .first) (a .items .now) (l .left) n _ (l .values) (omega arith) (omega arith) (l .inv .2) p (t .slot .ensures) _ (c .eight2 .ensures) (omega arith),
     )
-
-loop-less-2 : tie.Need-loop-less-2 Inv-loop μ-loop
-loop-less-2 c = omega arith
 
 loop-again-2 : tie.Need-loop-again-2 Inv-loop μ-loop
 loop-again-2 c =
@@ -126,7 +90,7 @@ loop-again-2 c =
     )
 
 returns : tie.Need-returns Inv-loop μ-loop
-unfolding toldFrom pairsIn
+unfolding gatheredFrom pairsIn
 returns c =
     let l = c .before .loop in
     let s = c .before .before .before .args .items .now in
@@ -142,18 +106,18 @@ gather-spec =
     Inv-loop
     μ-loop
     loop-holds
-    sub-left
-    mul-eight
-    eight-requires
-    slot-requires
-    array-write-there
-    mul-eight-2
-    add-eight
-    eight-requires-2
-    mul-values
-    array-write-values
-    loop-less
+    (λ c. omega arith)
+    (λ c. omega arith)
+    (λ c κs. omega arith)
+    (λ c κs. search needs)
+    (λ c. omega arith)
+    (λ c. omega arith)
+    (λ c. omega arith)
+    (λ c κs. omega arith)
+    (λ c. omega arith)
+    (λ c. omega arith)
+    (λ c. omega arith)
     loop-again
-    loop-less-2
+    (λ c. omega arith)
     loop-again-2
     returns)

@@ -1,13 +1,7 @@
 -- `host::line::kind_number` meets its contract, arm by arm. Assumes nothing.
-use mathlib.Core.Path.{ap, sym, _∙_}
-use Rattle.reports.specs.Kinds.{kindNumber}
-use Rattle.host.specs.Line.{kindNumberOf}
 use borrow.Author.Needs.{needs}
 use Rattle.host.proofs.line.kind_number.Statement.{statement}
 use Rattle.host.proofs.line.kind_number.Tie as tie
-
-returns : tie.Need-returns
-returns c = c .number .ensures ∙ ap kindNumber (c .before .kind-of .ensures) ∙ sym (ap kindNumberOf (c .before .before .before .what .given .1))
 
 pub kind-number-spec : {M : Type 1} → statement M
 kind-number-spec =
@@ -19,6 +13,6 @@ kind-number-spec =
     (λ c. search needs)
     (λ c. search needs)
     (λ c. search needs)
-    returns
+    (λ c. rw (c .before .before .before .what .given .1, ← c .before .kind-of .ensures) (c .number .ensures))
     (λ c. search needs)
     (λ c. search needs))

@@ -9,12 +9,12 @@ use Rattle.host.proofs.write.siamrung_write.Tie as tie
 returns : tie.Need-returns
 returns c =
     let w = c .before .before .before .before .before in
-    carried _ _ _ _ _ _ _ (w .before .before .given .ensures) (w .write .ensures) (ap (placeAfter _) (c .before .wrote .given .1))
+    carried (w .before .before .given .ensures) (w .write .ensures) (ap (placeAfter _) (c .before .wrote .given .1))
 
 returns-2 : tie.Need-returns-2
 returns-2 c =
     let w = c .before .before .before .before in
-    carried _ _ _ _ _ _ _ (w .before .before .given .ensures) (w .write .ensures) (ap (placeAfter _) (c .enum-told .given .1))
+    carried (w .before .before .given .ensures) (w .write .ensures) (ap (placeAfter _) (c .enum-told .given .1))
 
 pub siamrung-write-spec : {M : Type 1} → statement M
 siamrung-write-spec =

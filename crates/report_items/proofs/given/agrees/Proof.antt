@@ -9,72 +9,39 @@ use lib.ListN.{length}
 use borrow.Author.Needs.{needs}
 use Rattle.words.proofs.Tests.{picked, passed}
 use Rattle.report_items.specs.declared.items.Item.{Item}
-use Rattle.report_items.specs.Items.{itemOf, itemsOf, isOf}
-use Rattle.report_items.specs.Given.{itemTold}
+use Rattle.report_items.specs.Items.{last, itemOf, itemsOf, isOf}
+use Rattle.report_items.specs.Given.{itemGathered}
 use Rattle.report_items.proofs.Tally.{tallyTo, stands, standTo, stands-by, one-by, stand-next, tally-next, stand-none, tally-none, by-tally, by-one}
 use Rattle.report_items.proofs.given.agrees.Statement.{statement}
 use Rattle.report_items.proofs.given.agrees.Tie as tie
 
-abbrev told : List Bool → List ℕ → ℕ → Item
-told there values = itemTold (record { there = there; values = values })
+abbrev said : List Bool → List ℕ → ℕ → Item
+said there values = itemGathered (record { there = there; values = values })
 
 abbrev Inv-loop : tie.InvT-loop
 Inv-loop report size there values count₀ n₀ count n =
-    (count + n ≤ 36)
-    × (standTo n report (told there values) ≡ standTo 36 report (told there values))
-    × (count + tallyTo n (told there values) ≡ tallyTo 36 (told there values))
+    (count + n ≤ last)
+    × (standTo n report (said there values) ≡ standTo last report (said there values))
+    × (count + tallyTo n (said there values) ≡ tallyTo last (said there values))
 
 abbrev μ-loop : tie.MeasureT-loop
 μ-loop report size there values count₀ n₀ count n = n
-
-loop-holds : tie.Need-loop-holds Inv-loop μ-loop
-loop-holds c = (omega arith, refl, omega arith)
-
-cast-k : tie.Need-cast-k Inv-loop μ-loop
-cast-k c = omega arith
-
-array-read-stands : tie.Need-array-read-stands Inv-loop μ-loop
-array-read-stands c = omega arith
-
-mul-stands : tie.Need-mul-stands Inv-loop μ-loop
-mul-stands c = omega arith
-
-array-read-stands-2 : tie.Need-array-read-stands-2 Inv-loop μ-loop
-array-read-stands-2 c = omega arith
-
-stands-requires : tie.Need-stands-requires Inv-loop μ-loop
-stands-requires c κs = search needs
-
-array-read-one : tie.Need-array-read-one Inv-loop μ-loop
-array-read-one c = omega arith
-
-one-requires : tie.Need-one-requires Inv-loop μ-loop
-one-requires c κs = search needs
 
 -- what the test at n says
 test : (c : tie.After-stands Inv-loop μ-loop) →
     let l = c .before .before .loop in
     let a = c .before .before .before .before .before .args in
-    c .stands .result ≡ stands (itemOf (a .report) (l .n)) (itemTold (a .told) (l .n))
+    c .stands .result ≡ stands (itemOf (a .report) (l .n)) (itemGathered (a .gathered) (l .n))
 test c =
     let l = c .before .before .loop in
     let a = c .before .before .before .before .before .args in
-    c .stands .ensures ∙ stands-by (itemOf (a .report) (l .n)) (a .told) (l .n)
+    c .stands .ensures ∙ stands-by (itemOf (a .report) (l .n)) (a .gathered) (l .n)
 
 -- and what is counted
 counted : (c : tie.After-one Inv-loop μ-loop) →
     let t = c .before .before in
-    c .one .result ≡ isOf (itemTold (t .before .before .before .before .before .args .told) (t .before .before .loop .n))
-counted c = let t = c .before .before in c .one .ensures .0 ∙ one-by (t .before .before .before .before .before .args .told) (t .before .before .loop .n)
-
-add-count : tie.Need-add-count Inv-loop μ-loop
-add-count c = omega arith
-
-sub-n : tie.Need-sub-n Inv-loop μ-loop
-sub-n c = omega arith
-
-loop-less : tie.Need-loop-less Inv-loop μ-loop
-loop-less c = omega arith
+    c .one .result ≡ isOf (itemGathered (t .before .before .before .before .before .args .gathered) (t .before .before .loop .n))
+counted c = let t = c .before .before in c .one .ensures .0 ∙ one-by (t .before .before .before .before .before .args .gathered) (t .before .before .loop .n)
 
 loop-again : tie.Need-loop-again Inv-loop μ-loop
 loop-again c =
@@ -82,10 +49,10 @@ loop-again c =
     let l = t .before .before .loop in
     let a = t .before .before .before .before .before .args in
     let h : 0 < l .n = omega arith in
-    let e : standTo (l .n) (a .report) (itemTold (a .told)) ≡ standTo (l .n - 1) (a .report) (itemTold (a .told)) =
-    stand-next (a .report) (itemTold (a .told)) (l .n) h ∙ picked _ _ (sym (test t) ∙ c .before .if1 .taken) in
-    let m : tallyTo (l .n) (itemTold (a .told)) ≡ c .one .result + tallyTo (l .n - 1) (itemTold (a .told)) =
-    tally-next (a .report) (itemTold (a .told)) (l .n) h ∙ ap (λ (k : ℕ). k + tallyTo (l .n - 1) (itemTold (a .told))) (sym (counted c)) in
+    let e : standTo (l .n) (a .report) (itemGathered (a .gathered)) ≡ standTo (l .n - 1) (a .report) (itemGathered (a .gathered)) =
+    stand-next (a .report) (itemGathered (a .gathered)) (l .n) h ∙ picked _ _ (sym (test t) ∙ c .before .if1 .taken) in
+    let m : tallyTo (l .n) (itemGathered (a .gathered)) ≡ c .one .result + tallyTo (l .n - 1) (itemGathered (a .gathered)) =
+    tally-next (a .report) (itemGathered (a .gathered)) (l .n) h ∙ ap (λ (k : ℕ). k + tallyTo (l .n - 1) (itemGathered (a .gathered))) (sym (counted c)) in
     let b = c .one .ensures .1 in
     (omega arith, sym e ∙ l .inv .1, omega (arith, m, l .inv .2))
 
@@ -95,7 +62,7 @@ returns c =
     let l = t .before .before .loop in
     let a = t .before .before .before .before .before .args in
     let h : 0 < l .n = omega arith in
-    sym (by-one (a .report) (itemTold (a .told)) (sym (l .inv .1) ∙ stand-next (a .report) (itemTold (a .told)) (l .n) h ∙ passed _ _ (sym (test t) ∙ c .if1 .left)))
+    sym (by-one (a .report) (itemGathered (a .gathered)) (sym (l .inv .1) ∙ stand-next (a .report) (itemGathered (a .gathered)) (l .n) h ∙ passed _ _ (sym (test t) ∙ c .if1 .left)))
 
 returns-2 : tie.Need-returns-2 Inv-loop μ-loop
 returns-2 c =
@@ -103,9 +70,9 @@ returns-2 c =
     let a = c .before .before .before .before .args in
     let z : l .n ≡ 0 = omega arith in
     let s : length (itemsOf (a .report)) ≡ a .size = search needs in
-    let m : l .count ≡ tallyTo 36 (itemTold (a .told)) = omega (arith, l .inv .2, tally-none (a .report) (itemTold (a .told)) (l .n) z) in
+    let m : l .count ≡ tallyTo last (itemGathered (a .gathered)) = omega (arith, l .inv .2, tally-none (a .report) (itemGathered (a .gathered)) (l .n) z) in
     ap (eqb (l .count)) (sym s)
-    ∙ by-tally (a .report) (itemTold (a .told)) (l .count) (sym (l .inv .1) ∙ stand-none (a .report) (itemTold (a .told)) (l .n) z) m
+    ∙ by-tally (a .report) (itemGathered (a .gathered)) (l .count) (sym (l .inv .1) ∙ stand-none (a .report) (itemGathered (a .gathered)) (l .n) z) m
 
 pub agrees-spec : {M : Type 1} → statement M
 agrees-spec =
@@ -113,17 +80,16 @@ agrees-spec =
     (tie.spec
     Inv-loop
     μ-loop
-    loop-holds
-    cast-k
-    array-read-stands
-    mul-stands
-    array-read-stands-2
-    stands-requires
-    array-read-one
-    one-requires
-    add-count
-    sub-n
-    loop-less
+    (λ c. (omega arith, refl, omega arith))
+    (λ c. omega arith)
+    (λ c. omega arith)
+    (λ c. omega arith)
+    (λ c κs. search needs)
+    (λ c. omega arith)
+    (λ c κs. search needs)
+    (λ c. omega arith)
+    (λ c. omega arith)
+    (λ c. omega arith)
     loop-again
     returns
     returns-2)

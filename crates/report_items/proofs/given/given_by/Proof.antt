@@ -4,11 +4,11 @@ use mathlib.Core.Bool.{Bool, false}
 use mathlib.Core.List.{List}
 use Prim.Native.Nat.{ℕ}
 use lib.ListN.{length, getD}
-use Rattle.pairs.specs.declared.Told.{Told}
-use Rattle.pairs.specs.Pairs.{Pair, pairsIn, eachFrom, toldFrom}
+use Rattle.pairs.specs.declared.Gathered.{Gathered}
+use Rattle.pairs.specs.Pairs.{Pair, pairsIn, eachFrom, gatheredFrom}
 use Rattle.reports.specs.declared.Report.{Report}
-use Rattle.report_items.specs.Items.{itemsOf}
-use Rattle.report_items.specs.Given.{told, valuesIn, itemTold, agreeTo, built, builtFrom}
+use Rattle.report_items.specs.Items.{altitude, last, itemsOf}
+use Rattle.report_items.specs.Given.{itemGiven, valuesIn, itemGathered, agreeTo, built, builtFrom}
 use Rattle.report_items.proofs.Builds.{by-count, by-items, by-all, gathered}
 use borrow.Author.Needs.{needs}
 use Rattle.report_items.proofs.given.given_by.Statement.{statement}
@@ -22,16 +22,16 @@ returns c =
     ∙ sym (by-count (a .kind) (pairsIn (a .items .now)) (λ e. c .before .if1 .taken (n .count .ensures ∙ e ∙ n .before .size-of .ensures _ _)))
 
 -- the record is the one that the pairs make
-by-told : (kind : ℕ) (ps : List Pair) (t : Told) → t ≡ toldFrom 0 ps → built kind (getD (t .there) 31 false) (t .values) ≡ builtFrom kind ps
-unfolding toldFrom eachFrom valuesIn
-by-told kind ps t e = ap (λ (x : Told). built kind (getD (x .there) 31 false) (x .values)) e
+by-gathered : (kind : ℕ) (ps : List Pair) (t : Gathered) → t ≡ gatheredFrom 0 ps → built kind (getD (t .there) altitude false) (t .values) ≡ builtFrom kind ps
+unfolding gatheredFrom eachFrom valuesIn
+by-gathered kind ps t e = ap (λ (x : Gathered). built kind (getD (x .there) altitude false) (x .values)) e
 
 is : (c : tie.After-built-of) →
     let a = c .before .before .before .before .before .before .before .before .args in
     c .built-of .result ≡ builtFrom (a .kind) (pairsIn (a .items .now))
 is c =
     let a = c .before .before .before .before .before .before .before .before .args in
-    c .built-of .ensures ∙ by-told (a .kind) (pairsIn (a .items .now)) _ (c .before .before .before .gather .ensures)
+    c .built-of .ensures ∙ by-gathered (a .kind) (pairsIn (a .items .now)) _ (c .before .before .before .gather .ensures)
 
 -- of so many items
 sized : (c : tie.After-built-of) → length (itemsOf (c .built-of .result)) ≡ c .before .before .before .before .before .before .size-of .result
@@ -46,12 +46,9 @@ many c =
     let n = c .before .before .before .before in
     sym (n .before .count .ensures) ∙ n .if1 .left ∙ sym (sized c)
 
-agrees-requires : tie.Need-agrees-requires
-agrees-requires c κs = sized c
-
 -- the test by what is gathered is the test by the pairs
-tested : (r : Report) (ps : List Pair) (t : Told) (b : Bool) → t ≡ toldFrom 0 ps → b ≡ agreeTo 36 r (itemTold t) → agreeTo 36 r (told ps) ≡ b
-tested r ps t b e h = sym (gathered r ps) ∙ ap (λ (x : Told). agreeTo 36 r (itemTold x)) (sym e) ∙ sym h
+tested : (r : Report) (ps : List Pair) (t : Gathered) (b : Bool) → t ≡ gatheredFrom 0 ps → b ≡ agreeTo last r (itemGathered t) → agreeTo last r (itemGiven ps) ≡ b
+tested r ps t b e h = sym (gathered r ps) ∙ ap (λ (x : Gathered). agreeTo last r (itemGathered x)) (sym e) ∙ sym h
 
 returns-2 : tie.Need-returns-2
 returns-2 c =
@@ -75,7 +72,7 @@ given-by-spec =
     (λ c κs. search needs)
     (λ c. search needs)
     (λ c κs. search needs)
-    agrees-requires
+    (λ c κs. sized c)
     (λ c κs. search needs)
     returns-2
     returns-3)

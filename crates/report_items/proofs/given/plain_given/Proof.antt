@@ -11,9 +11,6 @@ returns : tie.Need-returns
 returns c =
     rw (c .before .if1 .taken) (ap Altitude (toZ-ofZ {w = w16} {z = c .altitude-of .result} (search needs) ∙ c .altitude-of .ensures))
 
-returns-2 : tie.Need-returns-2
-returns-2 c = rw (c .if1 .left) (search needs)
-
 pub plain-given-spec : {M : Type 1} → statement M
 plain-given-spec =
     tie.close
@@ -23,4 +20,4 @@ plain-given-spec =
     (λ c. search needs)
     (λ c. search needs)
     returns
-    returns-2)
+    (λ c. rw (c .if1 .left) (search needs)))

@@ -3,8 +3,5 @@ use Rattle.report_items.proofs.Signed.{same-bits}
 use Rattle.report_items.proofs.given.same_number.Statement.{statement}
 use Rattle.report_items.proofs.given.same_number.Tie as tie
 
-returns : tie.Need-returns
-returns c = same-bits (c .args .x) (c .args .y) (c .fits .x) (c .fits .y)
-
 pub same-number-spec : {M : Type 1} → statement M
-same-number-spec = tie.close (tie.spec returns)
+same-number-spec = tie.close (tie.spec (λ c. same-bits (c .args .x) (c .args .y) (c .fits .x) (c .fits .y)))

@@ -14,9 +14,6 @@ sub-result-3 c =
     let h : 18446744073709551615 - c .before .args .v < 9223372036854775808 = omega arith in
     minus-fits w64 _ h
 
-returns : tie.Need-returns
-returns c = toZ-pos w64 (c .if1 .taken) ∙ sym (low _ _ (c .if1 .taken))
-
 returns-2 : tie.Need-returns-2
 returns-2 c =
     let h : 18446744073709551615 - c .before .args .v < 9223372036854775808 = omega arith in
@@ -25,4 +22,4 @@ returns-2 c =
 pub signed-of-spec : {M : Type 1} → statement M
 signed-of-spec =
     tie.close
-    (tie.spec (λ c. search needs) (λ c. search needs) (λ c. search needs) (λ c. search needs) sub-result-3 returns returns-2)
+    (tie.spec (λ c. search needs) (λ c. search needs) (λ c. search needs) (λ c. search needs) sub-result-3 (λ c. toZ-pos w64 (c .if1 .taken) ∙ sym (low _ _ (c .if1 .taken))) returns-2)

@@ -7,11 +7,5 @@ use borrow.Author.Tests.{ne-eqb}
 use Rattle.report_items.proofs.items.altitude_item.Statement.{statement}
 use Rattle.report_items.proofs.items.altitude_item.Tie as tie
 
-returns : tie.Need-returns
-returns c = rw (c .before .match .keys1) (c .signed .ensures ∙ ap Of (toZ-ofZ (c .before .before .fits .z)))
-
-returns-2 : tie.Need-returns-2
-returns-2 c = search (needs, ne-eqb)
-
 pub altitude-item-spec : {M : Type 1} → statement M
-altitude-item-spec = tie.close (tie.spec (λ c κs. search needs) returns returns-2)
+altitude-item-spec = tie.close (tie.spec (λ c κs. search needs) (λ c. rw (c .before .match .keys1) (c .signed .ensures ∙ ap Of (toZ-ofZ (c .before .before .fits .z)))) (λ c. search (needs, ne-eqb)))

@@ -4,57 +4,6 @@ use borrow.Author.Tests.{ne-eqb}
 use Rattle.report_items.proofs.items.atcrbs_item.Statement.{statement}
 use Rattle.report_items.proofs.items.atcrbs_item.Tie as tie
 
-returns : tie.Need-returns
-returns c = rw (c .before .match .keys1) (c .flag .ensures)
-
-returns-2 : tie.Need-returns-2
-returns-2 c = rw (c .before .match .keys2) (c .flag2 .ensures)
-
-returns-3 : tie.Need-returns-3
-returns-3 c = rw (c .before .match .keys3) (c .flag3 .ensures)
-
-returns-4 : tie.Need-returns-4
-returns-4 c = rw (c .before .match .keys4) (c .flag4 .ensures)
-
-returns-5 : tie.Need-returns-5
-returns-5 c = rw (c .before .match .keys5) (c .flag5 .ensures)
-
-returns-6 : tie.Need-returns-6
-returns-6 c = rw (c .before .match .keys6) (c .flag6 .ensures)
-
-returns-7 : tie.Need-returns-7
-returns-7 c = rw (c .before .match .keys7) (c .flag7 .ensures)
-
-returns-8 : tie.Need-returns-8
-returns-8 c = rw (c .before .match .keys8) (c .count .ensures)
-
-returns-9 : tie.Need-returns-9
-returns-9 c = rw (c .before .match .keys9) (c .count2 .ensures)
-
-returns-10 : tie.Need-returns-10
-returns-10 c = rw (c .before .match .keys10) (c .flag8 .ensures)
-
-returns-11 : tie.Need-returns-11
-returns-11 c = rw (c .before .match .keys11) (c .flag9 .ensures)
-
-returns-12 : tie.Need-returns-12
-returns-12 c = rw (c .before .match .keys12) (c .flag10 .ensures)
-
-returns-13 : tie.Need-returns-13
-returns-13 c = rw (c .before .match .keys13) (c .flag11 .ensures)
-
-returns-14 : tie.Need-returns-14
-returns-14 c = rw (c .before .match .keys14) (c .small .ensures)
-
-returns-15 : tie.Need-returns-15
-returns-15 c = rw (c .before .match .keys15) (c .count3 .ensures)
-
-returns-16 : tie.Need-returns-16
-returns-16 c = rw (c .before .match .keys16) (c .count4 .ensures)
-
-returns-17 : tie.Need-returns-17
-returns-17 c = search (needs, ne-eqb, c .height-item .ensures)
-
 pub atcrbs-item-spec : {M : Type 1} → statement M
 atcrbs-item-spec =
     tie.close
@@ -76,20 +25,20 @@ atcrbs-item-spec =
     (λ c κs. search needs)
     (λ c κs. search needs)
     (λ c κs. search needs)
-    returns
-    returns-2
-    returns-3
-    returns-4
-    returns-5
-    returns-6
-    returns-7
-    returns-8
-    returns-9
-    returns-10
-    returns-11
-    returns-12
-    returns-13
-    returns-14
-    returns-15
-    returns-16
-    returns-17)
+    (λ c. rw (c .before .match .keys1) (c .flag .ensures))
+    (λ c. rw (c .before .match .keys2) (c .flag2 .ensures))
+    (λ c. rw (c .before .match .keys3) (c .flag3 .ensures))
+    (λ c. rw (c .before .match .keys4) (c .flag4 .ensures))
+    (λ c. rw (c .before .match .keys5) (c .flag5 .ensures))
+    (λ c. rw (c .before .match .keys6) (c .flag6 .ensures))
+    (λ c. rw (c .before .match .keys7) (c .flag7 .ensures))
+    (λ c. rw (c .before .match .keys8) (c .count .ensures))
+    (λ c. rw (c .before .match .keys9) (c .count2 .ensures))
+    (λ c. rw (c .before .match .keys10) (c .flag8 .ensures))
+    (λ c. rw (c .before .match .keys11) (c .flag9 .ensures))
+    (λ c. rw (c .before .match .keys12) (c .flag10 .ensures))
+    (λ c. rw (c .before .match .keys13) (c .flag11 .ensures))
+    (λ c. rw (c .before .match .keys14) (c .small .ensures))
+    (λ c. rw (c .before .match .keys15) (c .count3 .ensures))
+    (λ c. rw (c .before .match .keys16) (c .count4 .ensures))
+    (λ c. search (needs, ne-eqb, c .height-item .ensures)))

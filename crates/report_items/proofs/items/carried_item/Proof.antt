@@ -4,16 +4,10 @@ use borrow.Author.Tests.{ne-eqb}
 use Rattle.report_items.proofs.items.carried_item.Statement.{statement}
 use Rattle.report_items.proofs.items.carried_item.Tie as tie
 
-returns : tie.Need-returns
-returns c = rw (c .before .match .keys1) (c .count .ensures)
-
-returns-2 : tie.Need-returns-2
-returns-2 c = search (needs, ne-eqb)
-
 pub carried-item-spec : {M : Type 1} → statement M
 carried-item-spec =
     tie.close
     (tie.spec
     (λ c κs. search needs)
-    returns
-    returns-2)
+    (λ c. rw (c .before .match .keys1) (c .count .ensures))
+    (λ c. search (needs, ne-eqb)))

@@ -8,8 +8,5 @@ use borrow.Author.Needs.{needs}
 use Rattle.report_items.proofs.items.large.Statement.{statement}
 use Rattle.report_items.proofs.items.large.Tie as tie
 
-returns : tie.Need-returns
-returns c = ap Of (toZ-pos w64 (omega arith))
-
 pub large-spec : {M : Type 1} → statement M
-large-spec = tie.close (tie.spec (λ c. search needs) returns)
+large-spec = tie.close (tie.spec (λ c. search needs) (λ c. ap Of (toZ-pos w64 (omega arith))))

@@ -4,30 +4,6 @@ use borrow.Author.Tests.{ne-eqb}
 use Rattle.report_items.proofs.items.map_item.Statement.{statement}
 use Rattle.report_items.proofs.items.map_item.Tie as tie
 
-returns : tie.Need-returns
-returns c = rw (c .before .match .keys1) (c .flag .ensures)
-
-returns-2 : tie.Need-returns-2
-returns-2 c = rw (c .before .match .keys2) (c .small .ensures)
-
-returns-3 : tie.Need-returns-3
-returns-3 c = rw (c .before .match .keys3) (c .flag2 .ensures)
-
-returns-4 : tie.Need-returns-4
-returns-4 c = rw (c .before .match .keys4) (c .flag3 .ensures)
-
-returns-5 : tie.Need-returns-5
-returns-5 c = rw (c .before .match .keys5) (c .count .ensures)
-
-returns-6 : tie.Need-returns-6
-returns-6 c = rw (c .before .match .keys6) (c .count2 .ensures)
-
-returns-7 : tie.Need-returns-7
-returns-7 c = rw (c .before .match .keys7) (c .count3 .ensures)
-
-returns-8 : tie.Need-returns-8
-returns-8 c = search (needs, ne-eqb)
-
 pub map-item-spec : {M : Type 1} → statement M
 map-item-spec =
     tie.close
@@ -39,11 +15,11 @@ map-item-spec =
     (λ c κs. search needs)
     (λ c κs. search needs)
     (λ c κs. search needs)
-    returns
-    returns-2
-    returns-3
-    returns-4
-    returns-5
-    returns-6
-    returns-7
-    returns-8)
+    (λ c. rw (c .before .match .keys1) (c .flag .ensures))
+    (λ c. rw (c .before .match .keys2) (c .small .ensures))
+    (λ c. rw (c .before .match .keys3) (c .flag2 .ensures))
+    (λ c. rw (c .before .match .keys4) (c .flag3 .ensures))
+    (λ c. rw (c .before .match .keys5) (c .count .ensures))
+    (λ c. rw (c .before .match .keys6) (c .count2 .ensures))
+    (λ c. rw (c .before .match .keys7) (c .count3 .ensures))
+    (λ c. search (needs, ne-eqb)))

@@ -13,11 +13,5 @@ wide : (x : ℤ) → SFits w16 x → SFits w64 x
 wide (pos n) f = let h = f .sfits in record { sfits = omega arith }
 wide (negsuc n) f = let h = f .sfits in record { sfits = omega arith }
 
-cast-t2 : tie.Need-cast-t2
-cast-t2 c = wide _ (sfits-toZ (fits-ofZ (c .fits .z)))
-
-returns : tie.Need-returns
-returns c = ap Of (toZ-ofZ (wide _ (sfits-toZ (fits-ofZ (c .fits .z)))) ∙ toZ-ofZ (c .fits .z))
-
 pub signed-spec : {M : Type 1} → statement M
-signed-spec = tie.close (tie.spec cast-t2 returns)
+signed-spec = tie.close (tie.spec (λ c. wide _ (sfits-toZ (fits-ofZ (c .fits .z)))) (λ c. ap Of (toZ-ofZ (wide _ (sfits-toZ (fits-ofZ (c .fits .z)))) ∙ toZ-ofZ (c .fits .z))))
