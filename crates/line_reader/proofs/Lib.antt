@@ -1,2 +1,2 @@
-pub mod Scans
+pub mod Searches
 pub mod Places

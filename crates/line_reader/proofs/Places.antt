@@ -1,137 +1,179 @@
--- A run by the places of its words: what one word more says of the place where it begins, the place after it, and the place of its first
--- word with a fault. Assumes nothing.
-use Prim.Native.Nat.{ℕ, zero, suc, _+_, _-_, _≤_, _<_}
-use native.Mathlib.Nat.{add-zero}
-use mathlib.Core.Path.{_≡_, refl, ap, sym, _∙_, subst}
-use mathlib.Core.Bool.{Bool, true, false, not}
+-- The run that four searches find, and that the answer which the readers make of its places is the definition's. Assumes nothing.
+use Prim.Native.Nat.{ℕ, suc, _+_, _-_, _≤_, _<_, min}
+use mathlib.Core.Path.{_≡_, refl, ap, sym, _∙_}
+use mathlib.Core.Bool.{Bool, true, not, cond}
 use mathlib.Core.List.{List, [], _∷_}
 use native.Mathlib.Omega.{arith}
-use lib.Dec.{eqb}
-use lib.ListN.{length, getD, drop, drop-of-length-le}
-use lib.Seq.{drop-cons, drop-drop}
-use borrow.Author.Tests.{ltb-false, eqb-true, ne-eqb}
-use Rattle.words.specs.Word.{idle, wide, odd, even, first, Good}
-use Rattle.words.proofs.Claims.{no-report-word-is-idle}
-use Rattle.line_reader.specs.declared.run.Scan.{Scan}
-use Rattle.lines.specs.Line.{gap, stretch, runIn}
-use Rattle.line_reader.specs.Scan.{firstAt, afterAt, faultAt, Sound, Seen}
+use lib.Dec.{eqb, ltb}
+use lib.ListN.{length, getD, take, drop, length-take, length-drop, List·getD-eq-default}
+use lib.Seq.{drop-drop, getD-take, getD-drop}
+use borrow.Author.Tests.{lt-ltb, ltb-true, eqb-true, ne-eqb}
+use Rattle.words.specs.Word.{idle, wide, even, first}
+use Rattle.words.proofs.Claims.{idle-is-even}
+use Rattle.words.proofs.Faults.{NoneHas, first-none}
 use Rattle.words.proofs.Tests.{picked, passed, by-test}
+use Rattle.reports.specs.declared.RunAnswer.{RunAnswer}
+use Rattle.reports.specs.Altitude.{AltitudeForm}
+use Rattle.reports.specs.Forms.{wordCount}
+use Rattle.reports.specs.Conditions.{unknownForm, unassigned, spareSet, minusZero}
+use Rattle.reports.specs.Runs.{judged, readRun, answerOffset}
+use Rattle.reports.specs.Claims.{firstSeven}
+use Rattle.reports.proofs.Refusals.{judged-is-read}
+use Rattle.reports.proofs.Tests.{by-cond}
+use Rattle.lines.specs.Line.{gap, stretch, runIn, endOf, placed, outcomeAt, runAt}
+use Rattle.lines.proofs.Runs.{gap-all}
+use Rattle.line_reader.specs.declared.run.Places.{Places}
+use Rattle.line_reader.specs.declared.run.Stop.the-variants.{NotIdle, Fault, Idle, Wide}
+use Rattle.line_reader.specs.Places.{stopsAt, RunPlaces, runWords, answerAt, answered}
+use Rattle.line_reader.proofs.Searches.{to-end, next-through}
 
--- what a test told of the word that was read at a place
-pub told : (test : ℕ → Bool) {x w : ℕ} {b t : Bool} → w ≡ x → b ≡ test w → b ≡ t → test x ≡ t
-told test a e f = ap test (sym a) ∙ sym e ∙ f
+-- ---- what the searches stop at, and the run
 
--- ---- the idle words in front
+-- a word with a fault
+abbrev faulty : ℕ → Bool
+faulty = stopsAt Fault
 
-pub first-on : (line : List ℕ) (i : ℕ) → i < length line → eqb (getD line i 0) idle ≡ true → firstAt line i ≡ firstAt line (i + 1)
-unfolding gap
-first-on line i h e =
-    let g : gap (drop i line) ≡ suc (gap (drop (suc i) line)) = ap gap (drop-cons line i 0 h) ∙ picked _ _ e in
-    let s : i + 1 ≡ suc i = omega arith in
-    rw (s, g) (omega arith)
+idle-faulty : (w : ℕ) → stopsAt Idle w ≡ true → faulty w ≡ true
+idle-faulty w e = ap faulty (eqb-true w idle e) ∙ idle-is-even
 
-pub first-here : (line : List ℕ) (i : ℕ) → i < length line → eqb (getD line i 0) idle ≡ false → firstAt line i ≡ i
-unfolding gap
-first-here line i h e = ap (λ (k : ℕ). i + k) (ap gap (drop-cons line i 0 h) ∙ passed _ _ e) ∙ add-zero i
+wide-faulty : (w : ℕ) → stopsAt Wide w ≡ true → faulty w ≡ true
+wide-faulty w e = picked _ _ e
 
-pub first-end : (line : List ℕ) (i : ℕ) → length line ≤ i → firstAt line i ≡ i
-unfolding gap
-first-end line i h = ap (λ (l : List ℕ). i + gap l) (drop-of-length-le line {i = i} h) ∙ add-zero i
+gap-found : (ws : List ℕ) → first (stopsAt NotIdle) ws ≡ gap ws
+unfolding first gap
+gap-found [] = refl
+gap-found (w ∷ ws) = by-test (eqb w idle) (λ e. rw e (ap suc (gap-found ws))) (λ e. rw e)
 
--- ---- the words of the run
+idle-found : (ws : List ℕ) → first (stopsAt Idle) ws ≡ length (stretch ws)
+unfolding first stretch
+idle-found [] = refl
+idle-found (w ∷ ws) = by-test (eqb w idle) (λ e. rw e) (λ e. rw e (ap suc (idle-found ws)))
 
-run-here : (line : List ℕ) (i : ℕ) → i < length line → eqb (getD line i 0) idle ≡ true → stretch (drop i line) ≡ []
+-- a fault of the run is where the line has it, if that is in front of the end of the run
+fault-found : (fault : ℕ → Bool) (ws : List ℕ) → first fault (stretch ws) ≡ min (length (stretch ws)) (first fault ws)
+unfolding first stretch
+fault-found fault [] = refl
+fault-found fault (w ∷ ws) =
+    let k = fault-found fault ws in
+    by-test (eqb w idle) (λ e. rw e (omega arith)) (λ e. rw e (by-test (fault w) (λ f. rw f (omega arith)) (λ f. rw f (omega arith))))
+
+taken : (ws : List ℕ) → take (length (stretch ws)) ws ≡ stretch ws
 unfolding stretch
-run-here line i h e = ap stretch (drop-cons line i 0 h) ∙ picked _ _ e
+taken [] = refl
+taken (w ∷ ws) = by-test (eqb w idle) (λ e. rw e) (λ e. rw e (ap (λ (l : List ℕ). w ∷ l) (taken ws)))
 
-run-on : (line : List ℕ) (i : ℕ) → i < length line → eqb (getD line i 0) idle ≡ false → stretch (drop i line) ≡ getD line i 0 ∷ stretch (drop (i + 1) line)
-unfolding stretch
-run-on line i h e =
-    let s : suc i ≡ i + 1 = omega arith in
-    ap stretch (drop-cons line i 0 h) ∙ passed _ _ e ∙ ap (λ (k : ℕ). getD line i 0 ∷ stretch (drop k line)) s
+-- ---- the answer to a run
 
-run-none : (line : List ℕ) (i : ℕ) → length line ≤ i → stretch (drop i line) ≡ []
-unfolding stretch
-run-none line i h = ap stretch (drop-of-length-le line {i = i} h)
+-- the word that is named is of the run, or the place after it
+pub offset-within : (form : AltitudeForm) (ws : List ℕ) (n w e : ℕ) → answerOffset (judged form ws n w e) ≤ n
+offset-within form ws n w e =
+    by-cond Within (ltb w n) (λ h. let z = ltb-true w n h in omega arith)
+    (λ h. by-cond Within (ltb e n) (λ h. let z = ltb-true e n h in omega arith)
+    (λ h. by-cond Within (unknownForm ws) front
+    (λ h. by-cond Within (not (eqb n (wordCount ws))) front
+    (λ h. by-cond Within (unassigned ws) front
+    (λ h. by-cond Within (spareSet ws) front
+    (λ h. by-cond Within (minusZero form ws) front front))))))
+  where
+    Within : RunAnswer → Type 0
+    Within a = answerOffset a ≤ n
 
-pub after-on : (line : List ℕ) (i : ℕ) → i < length line → eqb (getD line i 0) idle ≡ false → afterAt line i ≡ afterAt line (i + 1)
-after-on line i h e = rw (run-on line i h e) (omega arith)
+    front : {b c : Bool} → b ≡ c → 0 ≤ n
+    front e = omega arith
 
-pub after-here : (line : List ℕ) (i : ℕ) → i < length line → eqb (getD line i 0) idle ≡ true → afterAt line i ≡ i
-after-here line i h e = rw (run-here line i h e) (add-zero i)
-
-pub after-end : (line : List ℕ) (i : ℕ) → length line ≤ i → afterAt line i ≡ i
-after-end line i h = rw (run-none line i h) (add-zero i)
-
--- in front of the place after the run no word is idle
-not-idle : (line : List ℕ) (i : ℕ) → i < length line → i < afterAt line i → eqb (getD line i 0) idle ≡ false
-not-idle line i h k = by-test (eqb (getD line i 0) idle) (λ e. let z = after-here line i h e in absurd (omega arith)) (λ e. e)
-
--- ---- the first word with a fault
-
-fault-on : (fault : ℕ → Bool) (line : List ℕ) (i : ℕ) → i < length line → eqb (getD line i 0) idle ≡ false → fault (getD line i 0) ≡ false
-    → faultAt fault line i ≡ faultAt fault line (i + 1)
+-- where no word is wide, a word has a fault where it is even
+fault-even : (ws : List ℕ) → NoneHas wide ws → first faulty ws ≡ first even ws
 unfolding first
-fault-on fault line i h e f =
-    let g : first fault (stretch (drop i line)) ≡ suc (first fault (stretch (drop (i + 1) line))) = ap (first fault) (run-on line i h e) ∙ passed _ _ f in
-    rw g (omega arith)
+fault-even [] h = refl
+fault-even (w ∷ ws) h = rw (h .0) (ap (λ (n : ℕ). cond (even w) 0 (suc n)) (fault-even ws (h .1)))
 
-fault-here : (fault : ℕ → Bool) (line : List ℕ) (i : ℕ) → i < length line → eqb (getD line i 0) idle ≡ false → fault (getD line i 0) ≡ true
-    → faultAt fault line i ≡ i
-unfolding first
-fault-here fault line i h e f = ap (λ (k : ℕ). i + k) (ap (first fault) (run-on line i h e) ∙ picked _ _ f) ∙ add-zero i
+judged-fault : (form : AltitudeForm) (ws run : List ℕ) → judged form ws (length run) (first wide run) (first faulty run) ≡ judged form ws (length run) (first wide run) (first even run)
+judged-fault form ws run =
+    by-test (ltb (first wide run) (length run)) (λ e. picked _ _ e ∙ sym (picked _ _ e))
+    (λ e. ap (judged form ws (length run) (first wide run)) (fault-even run (first-none wide run e)))
 
-none : (fault : ℕ → Bool) (ws : List ℕ) → length ws ≡ 0 → first fault ws ≡ 0
-unfolding first
-none fault [] e = refl
-none fault (w ∷ ws) e = absurd (omega arith)
+-- a run with a fault is refused whatever its words hold
+judged-any : (form : AltitudeForm) (ws other : List ℕ) (n w e : ℕ) → e < n → judged form ws n w e ≡ judged form other n w e
+judged-any form ws other n w e h =
+    let t = lt-ltb e n h in
+    by-test (ltb w n) (λ k. picked _ _ k ∙ sym (picked _ _ k)) (λ k. passed _ _ k ∙ picked _ _ t ∙ sym (passed _ _ k ∙ picked _ _ t))
 
-pub fault-none : (fault : ℕ → Bool) (line : List ℕ) (i : ℕ) → afterAt line i ≡ i → faultAt fault line i ≡ i
-fault-none fault line i e = ap (λ (k : ℕ). i + k) (none fault (stretch (drop i line)) (omega arith)) ∙ add-zero i
+answer-is : (form : AltitudeForm) (n place : ℕ) (run : List ℕ) → (run ≡ [] → place ≡ n)
+    → answerAt form place (length run) (first wide run) (first faulty run) (firstSeven run) ≡ outcomeAt (readRun form) n place run
+answer-is form n place [] h = ap endOf (h refl)
+answer-is form n place (w ∷ ws) h =
+    passed _ _ (ne-eqb (suc (length ws)) 0 (λ (z : suc (length ws) ≡ 0). omega arith))
+    ∙ ap (placed place (suc (length ws))) (judged-fault form (firstSeven (w ∷ ws)) (w ∷ ws) ∙ judged-is-read form (w ∷ ws))
 
--- one word more of a run that ends at a known place
-pub fault-pass : (fault : ℕ → Bool) (line : List ℕ) (i after : ℕ) → after ≡ afterAt line i → i < after → after ≤ length line → fault (getD line i 0) ≡ false
-    → (after ≡ afterAt line (i + 1)) × (faultAt fault line i ≡ faultAt fault line (i + 1))
-fault-pass fault line i after a h k f =
-    let e = not-idle line i (omega arith) (omega arith) in
-    (a ∙ after-on line i (omega arith) e, fault-on fault line i (omega arith) e f)
+-- ---- the places of the run
 
-pub fault-stop : (fault : ℕ → Bool) (line : List ℕ) (i after : ℕ) → after ≡ afterAt line i → i < after → after ≤ length line → fault (getD line i 0) ≡ true
-    → faultAt fault line i ≡ i
-fault-stop fault line i after a h k f = fault-here fault line i (omega arith) (not-idle line i (omega arith) (omega arith)) f
+module _ {line : List ℕ} {place : ℕ} {run : Places} (r : RunPlaces line place run) where
+  first-at : run .first ≡ place + gap (drop place line)
+  first-at = to-end (r .first) ∙ ap (λ (n : ℕ). place + n) (gap-found (drop place line))
 
--- ---- a word without a fault
+  run-there : stretch (drop (run .first) line) ≡ runIn (drop place line)
+  run-there = ap (λ (n : ℕ). stretch (drop n line)) first-at ∙ ap stretch (sym (drop-drop (gap (drop place line)) place line))
 
-good-not-idle : (w : ℕ) → wide w ≡ false → odd w ≡ true → eqb w idle ≡ false
-good-not-idle w h o = ne-eqb w idle (no-report-word-is-idle w (record { narrow = ltb-false _ _ h; parity = eqb-true _ _ o }))
+  after-at : run .after ≡ run .first + length (stretch (drop (run .first) line))
+  after-at =
+      to-end (r .after)
+      ∙ next-through line (run .first) (run .fault) Fault Idle idle-faulty (to-end (r .fault))
+      ∙ ap (λ (n : ℕ). run .first + n) (idle-found (drop (run .first) line))
 
-pub sound-on : (line : List ℕ) (from i : ℕ) → Sound line from i → i < length line → wide (getD line i 0) ≡ false → odd (getD line i 0) ≡ true → Sound line from (i + 1)
-sound-on line from i s h a b =
-    let e = good-not-idle (getD line i 0) a b in
-    let o = s .onward in
-    record {
-      onward = omega arith;
-      within = omega arith;
-      after = s .after ∙ after-on line i h e;
-      wides = s .wides ∙ fault-on wide line i h e a;
-      evens = s .evens ∙ fault-on even line i h e (ap not b);
-    }
+  count-is : run .after - run .first ≡ length (runIn (drop place line))
+  count-is = (let a = after-at in let n : run .after - run .first ≡ length (stretch (drop (run .first) line)) = omega arith in n) ∙ ap length run-there
 
--- ---- the places together
+  fault-at : run .fault - run .first ≡ first faulty (runIn (drop place line))
+  fault-at =
+      let a = after-at in
+      let u = to-end (r .fault) in
+      let o = r .after .onward in
+      let k = fault-found faulty (drop (run .first) line) in
+      let n : run .fault - run .first ≡ first faulty (stretch (drop (run .first) line)) = omega arith in
+      n ∙ ap (first faulty) run-there
 
-pub all-seen : (line : List ℕ) (place f i after w e : ℕ)
-    → f ≡ firstAt line place → Sound line f i → after ≡ afterAt line i → after ≤ length line → w ≡ faultAt wide line i → e ≡ faultAt even line i
-    → Seen line place (record { gap = f - place; count = after - f; wide = w - f; even = e - f; done = false })
-all-seen line place f i after w e a s b k c d =
-    let rest = drop place line in
-    let run : stretch (drop f line) ≡ runIn rest = ap (λ (n : ℕ). stretch (drop n line)) a ∙ ap stretch (sym (drop-drop (gap rest) place line)) in
-    let x = s .after in
-    let y = s .wides in
-    let z = s .evens in
-    record {
-      size = omega arith;
-      gap = omega arith;
-      count = (let n : after - f ≡ length (stretch (drop f line)) = omega arith in n) ∙ ap length run;
-      wide = (let n : w - f ≡ first wide (stretch (drop f line)) = omega arith in n) ∙ ap (first wide) run;
-      even = (let n : e - f ≡ first even (stretch (drop f line)) = omega arith in n) ∙ ap (first even) run;
-    }
+  wide-at : run .wide - run .first ≡ first wide (runIn (drop place line))
+  wide-at =
+      let a = after-at in
+      let v = r .wide .there in
+      let t = next-through line (run .first) (run .fault) Fault Wide wide-faulty (to-end (r .fault)) in
+      let k = fault-found wide (drop (run .first) line) in
+      let n : run .wide - run .first ≡ first wide (stretch (drop (run .first) line)) = omega arith in
+      n ∙ ap (first wide) run-there
+
+  words-are : runWords line run ≡ runIn (drop place line)
+  words-are =
+      ap (λ (n : ℕ). take n (drop (run .first) line)) (count-is ∙ ap length (sym run-there)) ∙ taken (drop (run .first) line) ∙ run-there
+
+  no-words : runIn (drop place line) ≡ [] → place + gap (drop place line) ≡ length line
+  no-words e =
+      let rest = drop place line in
+      let z = ap length (gap-all rest e) in
+      let f = first-at in
+      let w = r .first .within in
+      omega (arith, length-drop (gap rest) rest, length-drop place line)
+
+  -- ---- what run_at of each form cites: the answer is the definition's, with the run's first seven words or, where it has a fault, with any
+
+  pub answer-law : (form : AltitudeForm) {ws : List ℕ} → ws ≡ firstSeven (runWords line run) → answered form run ws ≡ runAt (readRun form) line place
+  answer-law form q =
+      (λ i. answerAt form (first-at i) (count-is i) (wide-at i) (fault-at i) ((q ∙ ap firstSeven words-are) i))
+      ∙ answer-is form (length line) (place + gap (drop place line)) (runIn (drop place line)) no-words
+
+  pub faulty-law : (form : AltitudeForm) (ws : List ℕ) → run .fault < run .after → answered form run ws ≡ runAt (readRun form) line place
+  faulty-law form ws h =
+      let o = r .fault .onward in
+      let n = run .after - run .first in
+      ap (λ (a : RunAnswer). cond (eqb n 0) (endOf (run .first)) (placed (run .first) n a))
+      (judged-any form ws (firstSeven (runWords line run)) n (run .wide - run .first) (run .fault - run .first) (omega arith))
+      ∙ answer-law form refl
+
+-- ---- a word of the run
+
+pub word-in : (line : List ℕ) (run : Places) (k : ℕ) → k < run .after - run .first → getD line (run .first + k) 0 ≡ getD (runWords line run) k 0
+word-in line run k h = sym (getD-take (run .after - run .first) (drop (run .first) line) k 0 h ∙ getD-drop (run .first) line k 0)
+
+pub word-past : (line : List ℕ) (run : Places) (k : ℕ) → run .after - run .first ≤ k → 0 ≡ getD (runWords line run) k 0
+word-past line run k h =
+    let n = length-take (run .after - run .first) (drop (run .first) line) in
+    sym (List·getD-eq-default (runWords line run) 0 {n = k} (omega arith))

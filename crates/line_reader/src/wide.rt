@@ -1,43 +1,93 @@
 // The reader of a line that is lent as 16-bit numbers, a word each.
-// Relies on run for what a run must remember, its step and its answer.
+// Relies on run for what a search stops at, what is remembered of a run, and its answer.
 ghost use mathlib.Core.Path.{_≡_};
-ghost use Prim.Native.Nat.{_+_, _≤_};
-ghost use lib.ListN.{length, getD, take, drop};
+ghost use Prim.Native.Nat.{_≤_, _<_};
+ghost use lib.ListN.{length, getD};
 ghost use Rattle.reports.specs.Altitude.{signMagnitude};
-ghost use Rattle.lines.specs.Line.{most, readAt};
-ghost use Rattle.line_reader.specs.Scan.{Scanned};
-use crate::run::Scan;
+ghost use Rattle.reports.specs.Runs.{readRun};
+ghost use Rattle.lines.specs.Line.{runAt, readAt};
+ghost use Rattle.line_reader.specs.Places.{Ended, RunPlaces, runWords};
+use crate::run::Places;
+use crate::run::Stop;
 use crate::run::not_taken;
+use crate::run::stops;
 use lines::MOST;
 use lines::Outcome;
 use refusals::LineRefusal;
 
-// Along the line from a place, up to the end of the run.
-fn scan(line: &[u16], place: usize) -> Scan
-    requires { ⌜ place ≤ length (now line) ⌝ }
-    ensures { λ r. ⌜ Scanned (now (line .entry)) place r ⌝ }
+// The word at i.
+fn word_at(line: &[u16], i: usize) -> u16
+    requires { ⌜ i < length (now line) ⌝ }
+    ensures { λ r. ⌜ r ≡ getD (now (line .entry)) i 0 ⌝ }
 {
-    let mut s = Scan::new();
-    let mut i = place;
-    while i < line.len() {
-        if s.done {
-            return s;
-        }
-        s = s.step(line[i]);
-        i += 1;
-    }
-    s
+    line[i]
 }
 
-// Word k of the run of so many words at a place, 0 past its end.
-fn word(line: &[u16], first: usize, count: usize, k: usize) -> u16
-    requires { ⌜ first + count ≤ length (now line) ⌝ }
-    ensures { λ r. ⌜ r ≡ getD (take count (drop first (now (line .entry)))) k 0 ⌝ }
+// Along the words from a place up to another: the place of the first at which the search stops, or that other place.
+fn seek(line: &[u16], from: usize, to: usize, stop: Stop) -> usize
+    requires { ⌜ (from ≤ to) × (to ≤ length (now line)) ⌝ }
+    ensures { λ r. ⌜ Ended (now (line .entry)) from to stop r ⌝ }
 {
-    if k < count {
-        return line[first + k];
+    let mut i = from;
+    while i < to {
+        if stops(stop, word_at(line, i)) {
+            return i;
+        }
+        i += 1;
+    }
+    i
+}
+
+// The places of the run at a place, or behind the idle words there. The words in front of the first fault are looked at once, those behind it
+// at most twice. Where there is no fault the last search has no word to look at.
+fn places(line: &[u16], place: usize) -> Places
+    requires { ⌜ place ≤ length (now line) ⌝ }
+    ensures { λ r. ⌜ RunPlaces (now (line .entry)) place r ⌝ }
+{
+    let n = line.len();
+    let first = seek(line, place, n, Stop::NotIdle);
+    let fault = seek(line, first, n, Stop::Fault);
+    let after = seek(line, fault, n, Stop::Idle);
+    let wide = seek(line, fault, after, Stop::Wide);
+    Places {
+        first,
+        fault,
+        wide,
+        after,
+    }
+}
+
+// Word k of a run, 0 past its end.
+fn word(line: &[u16], run: Places, k: usize) -> u16
+    requires { ⌜ (run .first ≤ run .after) × (run .after ≤ length (now line)) ⌝ }
+    ensures { λ r. ⌜ r ≡ getD (runWords (now (line .entry)) run) k 0 ⌝ }
+{
+    let first = run.first;
+    if k < run.after - first {
+        return word_at(line, first + k);
     }
     0
+}
+
+// The answer to the run at a place, or behind the idle words there.
+fn run_at(line: &[u16], place: usize) -> Outcome
+    requires { ⌜ place ≤ length (now line) ⌝ }
+    ensures { λ r. ⌜ r ≡ runAt (readRun signMagnitude) (now (line .entry)) place ⌝ }
+{
+    let run = places(line, place);
+    // a run with a fault is refused whatever its words hold, so they are not fetched
+    if run.fault < run.after {
+        return run.answer(0, 0, 0, 0, 0, 0, 0);
+    }
+    run.answer(
+        word(line, run, 0),
+        word(line, run, 1),
+        word(line, run, 2),
+        word(line, run, 3),
+        word(line, run, 4),
+        word(line, run, 5),
+        word(line, run, 6),
+    )
 }
 
 // The answer at a place.
@@ -51,18 +101,5 @@ pub fn read(line: &[u16], place: usize) -> Outcome
     if n < place {
         return not_taken(LineRefusal::PlaceBeyondLine, place);
     }
-    let s = scan(line, place);
-    let first = place + s.gap;
-    let count = s.count;
-    s.finish(
-        n,
-        place,
-        word(line, first, count, 0),
-        word(line, first, count, 1),
-        word(line, first, count, 2),
-        word(line, first, count, 3),
-        word(line, first, count, 4),
-        word(line, first, count, 5),
-        word(line, first, count, 6),
-    )
+    run_at(line, place)
 }

@@ -1,0 +1,51 @@
+-- `line_reader::wide::run_at` meets its contract. Assumes nothing.
+use mathlib.Core.Path.{_∙_}
+use mathlib.Core.List.{[], _∷_}
+use Rattle.reports.specs.Altitude.{signMagnitude}
+use Rattle.line_reader.proofs.Places.{answer-law, faulty-law}
+use borrow.Author.Needs.{needs}
+use Rattle.line_reader.proofs.wide.run_at.Statement.{statement}
+use Rattle.line_reader.proofs.wide.run_at.Tie as tie
+
+returns : tie.Need-returns
+returns c =
+    let t = c .before in
+    c .answer .ensures ∙ faulty-law (t .before .before .places .ensures) signMagnitude (0 ∷ 0 ∷ 0 ∷ 0 ∷ 0 ∷ 0 ∷ 0 ∷ []) (t .if1 .taken)
+
+returns-2 : tie.Need-returns-2
+returns-2 c =
+    let g = c .before in
+    let f = g .before in
+    let e = f .before in
+    let d = e .before in
+    let c3 = d .before in
+    let b = c3 .before in
+    let a = b .before in
+    c .answer2 .ensures
+    ∙ answer-law (a .before .before .before .places .ensures) signMagnitude
+    (λ i.
+    a .word .ensures i
+    ∷ b .word2 .ensures i
+    ∷ c3 .word3 .ensures i
+    ∷ d .word4 .ensures i
+    ∷ e .word5 .ensures i
+    ∷ f .word6 .ensures i
+    ∷ g .word7 .ensures i
+    ∷ [])
+
+pub run-at-spec : {M : Type 1} → statement M
+run-at-spec =
+    tie.close
+    (tie.spec
+    (λ c κs. search needs)
+    (λ c κs. search needs)
+    returns
+    (λ c κs. search needs)
+    (λ c κs. search needs)
+    (λ c κs. search needs)
+    (λ c κs. search needs)
+    (λ c κs. search needs)
+    (λ c κs. search needs)
+    (λ c κs. search needs)
+    (λ c κs. search needs)
+    returns-2)

@@ -1,0 +1,60 @@
+-- What the readers remember of a run, and the answer that comes of it: what the private functions of run.rt, wide.rt and bytes.rt compute.
+-- Definitions only; no promise of a public function names them.
+use Prim.Native.Nat.{ℕ, _+_, _-_, _≤_, min}
+use mathlib.Core.Path.{_≡_}
+use mathlib.Core.Bool.{Bool, true, not, cond}
+use mathlib.Core.List.{List}
+use lib.Dec.{eqb}
+use lib.ListN.{length, take, drop}
+use Rattle.words.specs.Word.{idle, wide, even, first}
+use Rattle.reports.specs.Altitude.{AltitudeForm}
+use Rattle.reports.specs.Runs.{judged}
+use Rattle.lines.specs.declared.Outcome.{Outcome}
+use Rattle.lines.specs.Line.{endOf, placed}
+use Rattle.line_reader.specs.declared.run.Places.{Places}
+use Rattle.line_reader.specs.declared.run.Stop.{Stop}
+use Rattle.line_reader.specs.declared.run.Stop.the-variants.{NotIdle, Fault, Idle, Wide}
+
+-- ---- a search
+
+-- the words at which a search stops
+abbrev pub stopsAt : Stop → ℕ → Bool
+stopsAt NotIdle w = not (eqb w idle)
+stopsAt Fault w = cond (wide w) true (even w)
+stopsAt Idle w = eqb w idle
+stopsAt Wide w = wide w
+
+-- the place of the first such word from a place of the line on; the line's length where there is none
+abbrev pub nextAt : List ℕ → ℕ → Stop → ℕ
+nextAt line from stop = from + first (stopsAt stop) (drop from line)
+
+-- a search from a place up to another ended there
+pub record Ended (line : List ℕ) (from to : ℕ) (stop : Stop) (place : ℕ) : Type 0 where
+  pub onward : from ≤ place
+  pub within : place ≤ to
+  pub there : place ≡ min to (nextAt line from stop)
+
+-- ---- a run
+
+-- the four searches that find a run
+pub record RunPlaces (line : List ℕ) (place : ℕ) (run : Places) : Type 0 where
+  pub first : Ended line place (length line) NotIdle (run .first)
+  pub fault : Ended line (run .first) (length line) Fault (run .fault)
+  pub after : Ended line (run .fault) (length line) Idle (run .after)
+  pub wide : Ended line (run .fault) (run .after) Wide (run .wide)
+
+-- the words of the run
+abbrev pub runWords : List ℕ → Places → List ℕ
+runWords line run = take (run .after - run .first) (drop (run .first) line)
+
+-- ---- the answer
+
+-- to n words whose first is at a place and which begin with ws, where w is the offset of the first wide one and e that of the first one with a
+-- fault, n where there is none; no words: the end
+abbrev pub answerAt : AltitudeForm → ℕ → ℕ → ℕ → ℕ → List ℕ → Outcome
+answerAt form place n w e ws = cond (eqb n 0) (endOf place) (placed place n (judged form ws n w e))
+
+-- to a run that begins with these words. A run with a wide word is refused for it, so its first fault does for its first even word
+abbrev pub answered : AltitudeForm → Places → List ℕ → Outcome
+answered form run ws =
+    answerAt form (run .first) (run .after - run .first) (run .wide - run .first) (run .fault - run .first) ws
