@@ -20,6 +20,7 @@ use Rattle.reports.specs.Runs.{judged, readRun, answerOffset}
 use Rattle.reports.specs.Claims.{firstSeven}
 use Rattle.reports.proofs.Refusals.{judged-is-read}
 use Rattle.reports.proofs.Tests.{by-cond}
+use Rattle.lines.specs.declared.Outcome.{Outcome}
 use Rattle.lines.specs.Line.{gap, stretch, runIn, endOf, placed, outcomeAt, runAt}
 use Rattle.lines.proofs.Runs.{gap-all}
 use Rattle.line_reader.specs.declared.run.Places.{Places}
@@ -155,18 +156,21 @@ module _ {line : List ℕ} {place : ℕ} {run : Places} (r : RunPlaces line plac
 
   -- ---- what run_at of each form cites: the answer is the definition's, with the run's first seven words or, where it has a fault, with any
 
-  pub answer-law : (form : AltitudeForm) {ws : List ℕ} → ws ≡ firstSeven (runWords line run) → answered form run ws ≡ runAt (readRun form) line place
-  answer-law form q =
-      (λ i. answerAt form (first-at i) (count-is i) (wide-at i) (fault-at i) ((q ∙ ap firstSeven words-are) i))
+  pub answer-law : (form : AltitudeForm) (ws : List ℕ) (o : Outcome) → ws ≡ firstSeven (runWords line run) → o ≡ answered form run ws
+      → o ≡ runAt (readRun form) line place
+  answer-law form ws o q f =
+      f
+      ∙ (λ i. answerAt form (first-at i) (count-is i) (wide-at i) (fault-at i) ((q ∙ ap firstSeven words-are) i))
       ∙ answer-is form (length line) (place + gap (drop place line)) (runIn (drop place line)) no-words
 
-  pub faulty-law : (form : AltitudeForm) (ws : List ℕ) → run .fault < run .after → answered form run ws ≡ runAt (readRun form) line place
-  faulty-law form ws h =
-      let o = r .fault .onward in
+  pub faulty-law : (form : AltitudeForm) (ws : List ℕ) (o : Outcome) → run .fault < run .after → o ≡ answered form run ws → o ≡ runAt (readRun form) line place
+  faulty-law form ws o h f =
+      let k = r .fault .onward in
       let n = run .after - run .first in
-      ap (λ (a : RunAnswer). cond (eqb n 0) (endOf (run .first)) (placed (run .first) n a))
-      (judged-any form ws (firstSeven (runWords line run)) n (run .wide - run .first) (run .fault - run .first) (omega arith))
-      ∙ answer-law form refl
+      answer-law form (firstSeven (runWords line run)) o refl
+      (f
+      ∙ ap (λ (a : RunAnswer). cond (eqb n 0) (endOf (run .first)) (placed (run .first) n a))
+      (judged-any form ws (firstSeven (runWords line run)) n (run .wide - run .first) (run .fault - run .first) (omega arith)))
 
 -- ---- a word of the run
 

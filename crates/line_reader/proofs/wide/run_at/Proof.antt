@@ -1,5 +1,4 @@
 -- `line_reader::wide::run_at` meets its contract. Assumes nothing.
-use mathlib.Core.Path.{_∙_}
 use mathlib.Core.List.{[], _∷_}
 use Rattle.reports.specs.Altitude.{signMagnitude}
 use Rattle.line_reader.proofs.Places.{answer-law, faulty-law}
@@ -10,7 +9,7 @@ use Rattle.line_reader.proofs.wide.run_at.Tie as tie
 returns : tie.Need-returns
 returns c =
     let t = c .before in
-    c .answer .ensures ∙ faulty-law (t .before .before .places .ensures) signMagnitude (0 ∷ 0 ∷ 0 ∷ 0 ∷ 0 ∷ 0 ∷ 0 ∷ []) (t .if1 .taken)
+    faulty-law (t .before .before .places .ensures) signMagnitude (0 ∷ 0 ∷ 0 ∷ 0 ∷ 0 ∷ 0 ∷ 0 ∷ []) _ (t .if1 .taken) (c .answer .ensures)
 
 returns-2 : tie.Need-returns-2
 returns-2 c =
@@ -21,8 +20,7 @@ returns-2 c =
     let c3 = d .before in
     let b = c3 .before in
     let a = b .before in
-    c .answer2 .ensures
-    ∙ answer-law (a .before .before .before .places .ensures) signMagnitude
+    answer-law (a .before .before .before .places .ensures) signMagnitude _ _
     (λ i.
     a .word .ensures i
     ∷ b .word2 .ensures i
@@ -32,6 +30,7 @@ returns-2 c =
     ∷ f .word6 .ensures i
     ∷ g .word7 .ensures i
     ∷ [])
+    (c .answer2 .ensures)
 
 pub run-at-spec : {M : Type 1} → statement M
 run-at-spec =
