@@ -27,7 +27,7 @@ struct Content {
     spare: u16,
 }
 
-// The same of bits 79 to 90 of DABS and ATCRBS.
+// The same of the height of DABS and ATCRBS.
 struct HeightContent {
     height: Height,
     spare: u16,
@@ -35,6 +35,7 @@ struct HeightContent {
 
 // ---- four words
 
+// The content of four words of a known form: what is none of the first four is an RTQC.
 fn four_of(a: u16, b: u16, c: u16, d: u16) -> Content
     requires { ⌜ isFour (a ∷ []) ≡ true ⌝ }
     ensures { λ r. ⌜ r ≡ fourContent (a ∷ b ∷ c ∷ d ∷ []) ⌝ }
@@ -85,6 +86,7 @@ fn radar_code(a: u16, g: u16) -> u16
     }
 }
 
+// Bits 6, 12 and 79 to 90 of DABS and ATCRBS.
 fn height_of(a: u16, g: u16) -> HeightContent
     requires { ⌜ isSeven (a ∷ []) ≡ true ⌝ }
     ensures { λ r. ⌜ r ≡ heightContent (a ∷ 0 ∷ 0 ∷ 0 ∷ 0 ∷ 0 ∷ g ∷ []) ⌝ }
@@ -124,6 +126,7 @@ fn height_of(a: u16, g: u16) -> HeightContent
     }
 }
 
+// The content of seven words: what is none of the first three is an ATCRBS.
 fn seven_of(a: u16, b: u16, c: u16, d: u16, e: u16, f: u16, g: u16) -> Content
     requires { ⌜ isSeven (a ∷ []) ≡ true ⌝ }
     ensures { λ r. ⌜ r ≡ sevenContent (a ∷ b ∷ c ∷ d ∷ e ∷ f ∷ g ∷ []) ⌝ }
@@ -132,10 +135,10 @@ fn seven_of(a: u16, b: u16, c: u16, d: u16, e: u16, f: u16, g: u16) -> Content
     let height = last.height;
     let code = radar_code(a, g);
     if a / BIT_4 % ONE_BIT == 1 {
-        let dabs = records::dabs_of(a, b, c, d, e, f, height);
+        let spare = d / BIT_7 % TWO_BITS + last.spare; // 45-46
         return Content {
-            report: Report::Dabs(dabs),
-            spare: d / BIT_7 % TWO_BITS + last.spare, // 45-46
+            report: Report::Dabs(records::dabs_of(a, b, c, d, e, f, height)),
+            spare,
         };
     }
     if code == forms::MTD_SEARCH_CODE {
@@ -158,13 +161,13 @@ fn seven_of(a: u16, b: u16, c: u16, d: u16, e: u16, f: u16, g: u16) -> Content
             spare,
         };
     }
-    let atcrbs = records::atcrbs_of(a, b, c, d, e, f, height);
     Content {
-        report: Report::Atcrbs(atcrbs),
+        report: Report::Atcrbs(records::atcrbs_of(a, b, c, d, e, f, height)),
         spare: last.spare,
     }
 }
 
+// The content of words of a known form.
 fn content_of(a: u16, b: u16, c: u16, d: u16, e: u16, f: u16, g: u16) -> Content
     requires { ⌜ unknownForm (a ∷ []) ≡ false ⌝ }
     ensures { λ r. ⌜ r ≡ contentOf (a ∷ b ∷ c ∷ d ∷ e ∷ f ∷ g ∷ []) ⌝ }

@@ -41,18 +41,18 @@ atcrbs : (ws : List ℕ) (h : HeightContent) (r : Atcrbs) → h ≡ heightConten
     → content (R.Atcrbs r) (h .spare) ≡ content (R.Atcrbs (atcrbsOf ws (heightOf signMagnitude ws))) (heightSpares ws)
 atcrbs ws h r p q = rw (q, p)
 
-add-t21 : tie.Need-add-t21
-add-t21 c =
-    let s = c .before .before .before .before .before in
+add-spare : tie.Need-add-spare
+add-spare c =
+    let s = c .before .before .before .before in
     let h = height-small (s .args .a ∷ 0 ∷ 0 ∷ 0 ∷ 0 ∷ 0 ∷ s .args .g ∷ []) in
-    omega (arith, ap (λ (x : HeightContent). x .spare) (c .before .before .before .before .height-of .ensures))
+    omega (arith, ap (λ (x : HeightContent). x .spare) (c .before .before .before .height-of .ensures))
 
 returns : tie.Need-returns
 unfolding sevenOf sevenSpares
 returns c =
     let s = c .before .before .before .before .before in
     simp (s .pre, eq-eqb _ _ (c .before .before .if1 .taken))
-    (dabs _ _ _ (c .before .before .before .before .height-of .ensures ∙ same (s .args .a) (s .args .b) (s .args .c) (s .args .d) (s .args .e) (s .args .f) (s .args .g)) (c .before .dabs-of .ensures))
+    (dabs _ _ _ (c .before .before .before .before .height-of .ensures ∙ same (s .args .a) (s .args .b) (s .args .c) (s .args .d) (s .args .e) (s .args .f) (s .args .g)) (c .dabs-of .ensures))
 
 returns-2 : tie.Need-returns-2
 unfolding sevenOf sevenSpares
@@ -80,8 +80,8 @@ seven-of-spec =
     (tie.spec
     (λ c κs. search needs)
     (λ c κs. search needs)
+    add-spare
     (λ c κs. search needs)
-    add-t21
     returns
     (λ c. search needs)
     (λ c. search needs)
