@@ -6,7 +6,7 @@ ghost use Prim.Native.Nat.{_+_, _-_, _*_, _/_, _%_, _≤_, _<_, _^_};
 ghost use lib.ListN.{length};
 ghost use Rattle.bits.specs.Bits.{bitAt, bitsOf, withDigit, withPart, putBit, putBits};
 
-fn wide(x: u8) -> u64
+fn widened(x: u8) -> u64
     ensures { λ r. ⌜ (r ≡ x) × (r < 256) ⌝ }
 {
     x as u64
@@ -33,7 +33,7 @@ fn digit(b: &[u8], before: usize, i: usize) -> u64
     let j = byte_of(before, i);
     let k = behind(before, i);
     if j < b.len() {
-        (wide(b[j]) >> k) % 2
+        (widened(b[j]) >> k) % 2
     } else {
         0
     }
@@ -72,7 +72,7 @@ fn two(b: &[u8], j: usize) -> u64
     requires { ⌜ j + 2 ≤ length (now b) ⌝ }
     ensures { λ r. ⌜ (r ≡ bitsOf (now (b .entry)) (j * 8) 16) × (r < 65536) ⌝ }
 {
-    wide(b[j]) * 256 + wide(b[j + 1])
+    widened(b[j]) * 256 + widened(b[j + 1])
 }
 
 // Four bytes: one sum, byte after byte, of which the compiler makes one load.
@@ -80,7 +80,7 @@ fn four(b: &[u8], j: usize) -> u64
     requires { ⌜ j + 4 ≤ length (now b) ⌝ }
     ensures { λ r. ⌜ (r ≡ bitsOf (now (b .entry)) (j * 8) 32) × (r < 4294967296) ⌝ }
 {
-    ((wide(b[j]) * 256 + wide(b[j + 1])) * 256 + wide(b[j + 2])) * 256 + wide(b[j + 3])
+    ((widened(b[j]) * 256 + widened(b[j + 1])) * 256 + widened(b[j + 2])) * 256 + widened(b[j + 3])
 }
 
 // Eight bytes: one load too.
@@ -104,7 +104,7 @@ fn few(b: &[u8]) -> u64
         return (two(b, 0) * 65536 + (two(b, len - 2) << (32 - 8 * len)) % 65536) * 4294967296;
     }
     if len == 1 {
-        return wide(b[0]) << 56;
+        return widened(b[0]) << 56;
     }
     0
 }

@@ -173,7 +173,7 @@ fn put_parts(s: &mut [u8], before: usize, widths: [u8; 11], v: [u64; 11])
     }
 }
 
-fn wide(x: u8) -> u64
+fn widened(x: u8) -> u64
     ensures { λ r. ⌜ r ≡ x ⌝ }
 {
     x as u64
@@ -186,7 +186,7 @@ fn put_text(s: &mut [u8], before: usize, text: &[u8])
 {
     let mut k: usize = 0;
     while k < text.len() {
-        bits::write(s, before + 8 * k, 8, wide(text[k]));
+        bits::write(s, before + 8 * k, 8, widened(text[k]));
         k += 1;
     }
 }

@@ -65,8 +65,8 @@ getD-any (x ∷ xs) (suc i) d e h = getD-any xs i d e (le-of-suc-le-suc h)
 abbrev small : Row → Known
 small r = record { code = r .code; way = r .way; base = r .base; step = r .step; more = r .more; first = r .first; second = r .second; third = r .third }
 
-abbrev pub wide : Known → Row
-wide k = record { code = k .code; way = k .way; base = k .base; step = k .step; more = k .more; first = k .first; second = k .second; third = k .third }
+abbrev pub unpacked : Known → Row
+unpacked k = record { code = k .code; way = k .way; base = k .base; step = k .step; more = k .more; first = k .first; second = k .second; third = k .third }
 
 abbrev smaller : List Row → List Known
 smaller [] = []
@@ -75,14 +75,14 @@ smaller (r ∷ rs) = small r ∷ smaller rs
 unfoldable pub known : List Known
 known = smaller rows
 
-smaller-at : (rs : List Row) (i : ℕ) (d : Known) → i < length rs → wide (getD (smaller rs) i d) ≡ getD rs i noRow
+smaller-at : (rs : List Row) (i : ℕ) (d : Known) → i < length rs → unpacked (getD (smaller rs) i d) ≡ getD rs i noRow
 smaller-at [] i d h = absurd (not-suc-le-zero h)
 smaller-at (r ∷ rs) zero d h = refl
 smaller-at (r ∷ rs) (suc i) d h = smaller-at rs i d (le-of-suc-le-suc h)
 
-pub wide-at : (i : ℕ) (d : Known) → i < 22 → wide (getD known i d) ≡ rowAt i
+pub unpacked-at : (i : ℕ) (d : Known) → i < 22 → unpacked (getD known i d) ≡ rowAt i
 unfolding known rowAt rows table
-wide-at i d h = smaller-at rows i d h
+unpacked-at i d h = smaller-at rows i d h
 
 -- the last type stands at every place from 20 on
 pub fieldAt-last : (at a b c d e f g h i j : ℕ) → 20 ≤ at → fieldAt at a b c d e f g h i j ≡ ControllerAlert a b c d e f g h i j

@@ -8,7 +8,7 @@ use lib.Dec.{eqb, ltb}
 use lib.ListN.{length, getD, take, drop, length-take, length-drop, List·getD-eq-default}
 use lib.Seq.{drop-drop, getD-take, getD-drop}
 use borrow.Author.Tests.{lt-ltb, ltb-true, eqb-true, ne-eqb}
-use Rattle.words.specs.Word.{idle, wide, even, first}
+use Rattle.words.specs.Word.{idle, tooWide, even, first}
 use Rattle.words.proofs.Claims.{idle-is-even}
 use Rattle.words.proofs.Faults.{NoneHas, first-none}
 use Rattle.words.proofs.Tests.{picked, passed, by-test}
@@ -24,7 +24,7 @@ use Rattle.lines.specs.declared.Outcome.{Outcome}
 use Rattle.lines.specs.Line.{gap, stretch, runIn, endOf, placed, outcomeAt, runAt}
 use Rattle.lines.proofs.Runs.{gap-all}
 use Rattle.line_reader.specs.declared.run.Places.{Places}
-use Rattle.line_reader.specs.declared.run.Stop.the-variants.{NotIdle, Fault, Idle, Wide}
+use Rattle.line_reader.specs.declared.run.Stop.the-variants.{NotIdle, Fault, Idle, TooWide}
 use Rattle.line_reader.specs.Places.{stopsAt, RunPlaces, runWords, answerAt, answered}
 use Rattle.line_reader.proofs.Searches.{to-end, next-through}
 
@@ -37,8 +37,8 @@ faulty = stopsAt Fault
 idle-faulty : (w : ℕ) → stopsAt Idle w ≡ true → faulty w ≡ true
 idle-faulty w e = ap faulty (eqb-true w idle e) ∙ idle-is-even
 
-wide-faulty : (w : ℕ) → stopsAt Wide w ≡ true → faulty w ≡ true
-wide-faulty w e = picked _ _ e
+too-wide-faulty : (w : ℕ) → stopsAt TooWide w ≡ true → faulty w ≡ true
+too-wide-faulty w e = picked _ _ e
 
 gap-found : (ws : List ℕ) → first (stopsAt NotIdle) ws ≡ gap ws
 unfolding first gap
@@ -82,16 +82,16 @@ offset-within form ws n w e =
     front : {b c : Bool} → b ≡ c → 0 ≤ n
     front e = omega arith
 
--- where no word is wide, a word has a fault where it is even
-fault-even : (ws : List ℕ) → NoneHas wide ws → first faulty ws ≡ first even ws
+-- where no word is too wide, a word has a fault where it is even
+fault-even : (ws : List ℕ) → NoneHas tooWide ws → first faulty ws ≡ first even ws
 unfolding first
 fault-even [] h = refl
 fault-even (w ∷ ws) h = rw (h .0) (ap (λ (n : ℕ). cond (even w) 0 (suc n)) (fault-even ws (h .1)))
 
-judged-fault : (form : AltitudeForm) (ws run : List ℕ) → judged form ws (length run) (first wide run) (first faulty run) ≡ judged form ws (length run) (first wide run) (first even run)
+judged-fault : (form : AltitudeForm) (ws run : List ℕ) → judged form ws (length run) (first tooWide run) (first faulty run) ≡ judged form ws (length run) (first tooWide run) (first even run)
 judged-fault form ws run =
-    by-test (ltb (first wide run) (length run)) (λ e. picked _ _ e ∙ sym (picked _ _ e))
-    (λ e. ap (judged form ws (length run) (first wide run)) (fault-even run (first-none wide run e)))
+    by-test (ltb (first tooWide run) (length run)) (λ e. picked _ _ e ∙ sym (picked _ _ e))
+    (λ e. ap (judged form ws (length run) (first tooWide run)) (fault-even run (first-none tooWide run e)))
 
 -- a run with a fault is refused whatever its words hold
 judged-any : (form : AltitudeForm) (ws other : List ℕ) (n w e : ℕ) → e < n → judged form ws n w e ≡ judged form other n w e
@@ -100,7 +100,7 @@ judged-any form ws other n w e h =
     by-test (ltb w n) (λ k. picked _ _ k ∙ sym (picked _ _ k)) (λ k. passed _ _ k ∙ picked _ _ t ∙ sym (passed _ _ k ∙ picked _ _ t))
 
 answer-is : (form : AltitudeForm) (n place : ℕ) (run : List ℕ) → (run ≡ [] → place ≡ n)
-    → answerAt form place (length run) (first wide run) (first faulty run) (firstSeven run) ≡ outcomeAt (readRun form) n place run
+    → answerAt form place (length run) (first tooWide run) (first faulty run) (firstSeven run) ≡ outcomeAt (readRun form) n place run
 answer-is form n place [] h = ap endOf (h refl)
 answer-is form n place (w ∷ ws) h =
     passed _ _ (ne-eqb (suc (length ws)) 0 (λ (z : suc (length ws) ≡ 0). omega arith))
@@ -133,14 +133,14 @@ module _ {line : List ℕ} {place : ℕ} {run : Places} (r : RunPlaces line plac
       let n : run .fault - run .first ≡ first faulty (stretch (drop (run .first) line)) = omega arith in
       n ∙ ap (first faulty) run-there
 
-  wide-at : run .wide - run .first ≡ first wide (runIn (drop place line))
-  wide-at =
+  too-wide-at : run .«too_wide» - run .first ≡ first tooWide (runIn (drop place line))
+  too-wide-at =
       let a = after-at in
-      let v = r .wide .there in
-      let t = next-through line (run .first) (run .fault) Fault Wide wide-faulty (to-end (r .fault)) in
-      let k = fault-found wide (drop (run .first) line) in
-      let n : run .wide - run .first ≡ first wide (stretch (drop (run .first) line)) = omega arith in
-      n ∙ ap (first wide) run-there
+      let v = r .«too_wide» .there in
+      let t = next-through line (run .first) (run .fault) Fault TooWide too-wide-faulty (to-end (r .fault)) in
+      let k = fault-found tooWide (drop (run .first) line) in
+      let n : run .«too_wide» - run .first ≡ first tooWide (stretch (drop (run .first) line)) = omega arith in
+      n ∙ ap (first tooWide) run-there
 
   words-are : runWords line run ≡ runIn (drop place line)
   words-are =
@@ -160,7 +160,7 @@ module _ {line : List ℕ} {place : ℕ} {run : Places} (r : RunPlaces line plac
       → o ≡ runAt (readRun form) line place
   answer-law form ws o q f =
       f
-      ∙ (λ i. answerAt form (first-at i) (count-is i) (wide-at i) (fault-at i) ((q ∙ ap firstSeven words-are) i))
+      ∙ (λ i. answerAt form (first-at i) (count-is i) (too-wide-at i) (fault-at i) ((q ∙ ap firstSeven words-are) i))
       ∙ answer-is form (length line) (place + gap (drop place line)) (runIn (drop place line)) no-words
 
   pub faulty-law : (form : AltitudeForm) (ws : List ℕ) (o : Outcome) → run .fault < run .after → o ≡ answered form run ws → o ≡ runAt (readRun form) line place
@@ -170,7 +170,7 @@ module _ {line : List ℕ} {place : ℕ} {run : Places} (r : RunPlaces line plac
       answer-law form (firstSeven (runWords line run)) o refl
       (f
       ∙ ap (λ (a : RunAnswer). cond (eqb n 0) (endOf (run .first)) (placed (run .first) n a))
-      (judged-any form ws (firstSeven (runWords line run)) n (run .wide - run .first) (run .fault - run .first) (omega arith)))
+      (judged-any form ws (firstSeven (runWords line run)) n (run .«too_wide» - run .first) (run .fault - run .first) (omega arith)))
 
 -- ---- a word of the run
 

@@ -6,23 +6,23 @@ use mathlib.Core.Bool.{Bool, true, not, cond}
 use mathlib.Core.List.{List}
 use lib.Dec.{eqb}
 use lib.ListN.{length, take, drop}
-use Rattle.words.specs.Word.{idle, wide, even, first}
+use Rattle.words.specs.Word.{idle, tooWide, even, first}
 use Rattle.reports.specs.Altitude.{AltitudeForm}
 use Rattle.reports.specs.Runs.{judged}
 use Rattle.lines.specs.declared.Outcome.{Outcome}
 use Rattle.lines.specs.Line.{endOf, placed}
 use Rattle.line_reader.specs.declared.run.Places.{Places}
 use Rattle.line_reader.specs.declared.run.Stop.{Stop}
-use Rattle.line_reader.specs.declared.run.Stop.the-variants.{NotIdle, Fault, Idle, Wide}
+use Rattle.line_reader.specs.declared.run.Stop.the-variants.{NotIdle, Fault, Idle, TooWide}
 
 -- ---- a search
 
 -- the words at which a search stops
 abbrev pub stopsAt : Stop → ℕ → Bool
 stopsAt NotIdle w = not (eqb w idle)
-stopsAt Fault w = cond (wide w) true (even w)
+stopsAt Fault w = cond (tooWide w) true (even w)
 stopsAt Idle w = eqb w idle
-stopsAt Wide w = wide w
+stopsAt TooWide w = tooWide w
 
 -- the place of the first such word from a place of the line on; the line's length where there is none
 abbrev pub nextAt : List ℕ → ℕ → Stop → ℕ
@@ -41,7 +41,7 @@ pub record RunPlaces (line : List ℕ) (place : ℕ) (run : Places) : Type 0 whe
   pub first : Ended line place (length line) NotIdle (run .first)
   pub fault : Ended line (run .first) (length line) Fault (run .fault)
   pub after : Ended line (run .fault) (length line) Idle (run .after)
-  pub wide : Ended line (run .fault) (run .after) Wide (run .wide)
+  pub «too_wide» : Ended line (run .fault) (run .after) TooWide (run .«too_wide»)
 
 -- the words of the run
 abbrev pub runWords : List ℕ → Places → List ℕ
@@ -49,12 +49,12 @@ runWords line run = take (run .after - run .first) (drop (run .first) line)
 
 -- ---- the answer
 
--- to n words whose first is at a place and which begin with ws, where w is the offset of the first wide one and e that of the first one with a
+-- to n words whose first is at a place and which begin with ws, where w is the offset of the first tooWide one and e that of the first one with a
 -- fault, n where there is none; no words: the end
 abbrev pub answerAt : AltitudeForm → ℕ → ℕ → ℕ → ℕ → List ℕ → Outcome
 answerAt form place n w e ws = cond (eqb n 0) (endOf place) (placed place n (judged form ws n w e))
 
--- to a run that begins with these words. A run with a wide word is refused for it, so its first fault does for its first even word
+-- to a run that begins with these words. A run with a word that is too wide is refused for it, so its first fault does for its first even word
 abbrev pub answered : AltitudeForm → Places → List ℕ → Outcome
 answered form run ws =
-    answerAt form (run .first) (run .after - run .first) (run .wide - run .first) (run .fault - run .first) ws
+    answerAt form (run .first) (run .after - run .first) (run .«too_wide» - run .first) (run .fault - run .first) ws

@@ -63,11 +63,11 @@ fn places(bytes: &[u8], place: usize) -> Places
     let first = seek(bytes, place, n, Stop::NotIdle);
     let fault = seek(bytes, first, n, Stop::Fault);
     let after = seek(bytes, fault, n, Stop::Idle);
-    let wide = seek(bytes, fault, after, Stop::Wide);
+    let too_wide = seek(bytes, fault, after, Stop::TooWide);
     Places {
         first,
         fault,
-        wide,
+        too_wide,
         after,
     }
 }

@@ -13,21 +13,21 @@ use lines::What;
 use refusals::LineRefusal;
 use reports::RunAnswer;
 
-// What a search along the words of a line stops at. A fault is a wide word or an even one; an idle word is even, so a search for a fault needs
+// What a search along the words of a line stops at. A fault is a word that is too wide or an even one; an idle word is even, so a search for a fault needs
 // no test of its own to stop at the end of the run.
 pub enum Stop {
     NotIdle,
     Fault,
     Idle,
-    Wide,
+    TooWide,
 }
 
-// The places that decide the answer to a run: of its first word, of its first word with a fault, of its first wide word, and the place after
+// The places that decide the answer to a run: of its first word, of its first word with a fault, of its first word that is too wide, and the place after
 // its last word. Where no word has the fault, that place is the place after.
 pub struct Places {
     pub first: usize,
     pub fault: usize,
-    pub wide: usize,
+    pub too_wide: usize,
     pub after: usize,
 }
 
@@ -38,13 +38,13 @@ pub fn stops(stop: Stop, w: u16) -> bool
     match stop {
         Stop::NotIdle => !words::is_idle(w),
         Stop::Fault => {
-            if words::is_wide(w) {
+            if words::is_too_wide(w) {
                 return true;
             }
             !words::is_odd(w)
         }
         Stop::Idle => words::is_idle(w),
-        Stop::Wide => words::is_wide(w),
+        Stop::TooWide => words::is_too_wide(w),
     }
 }
 
@@ -73,7 +73,7 @@ fn set_at(first: usize, n: usize, answer: RunAnswer) -> Outcome
 impl Places {
     // The answer to the run, whose first seven words are handed in, with 0 for those past its end; the end where it has no word.
     pub fn answer(self, a: u16, b: u16, c: u16, d: u16, e: u16, f: u16, g: u16) -> Outcome
-        requires { ⌜ (self .first ≤ self .fault) × (self .fault ≤ self .wide) × (self .wide ≤ self .after) ⌝ }
+        requires { ⌜ (self .first ≤ self .fault) × (self .fault ≤ self .«too_wide») × (self .«too_wide» ≤ self .after) ⌝ }
         ensures { λ r. ⌜ r ≡ answered signMagnitude self (a ∷ b ∷ c ∷ d ∷ e ∷ f ∷ g ∷ []) ⌝ }
     {
         let first = self.first;
@@ -90,7 +90,7 @@ impl Places {
             f,
             g,
             n,
-            self.wide - first,
+            self.too_wide - first,
             self.fault - first,
         );
         set_at(first, n, answer)

@@ -48,11 +48,11 @@ fn places(line: &[u16], place: usize) -> Places
     let first = seek(line, place, n, Stop::NotIdle);
     let fault = seek(line, first, n, Stop::Fault);
     let after = seek(line, fault, n, Stop::Idle);
-    let wide = seek(line, fault, after, Stop::Wide);
+    let too_wide = seek(line, fault, after, Stop::TooWide);
     Places {
         first,
         fault,
-        wide,
+        too_wide,
         after,
     }
 }

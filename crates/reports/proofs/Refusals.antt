@@ -7,8 +7,8 @@ use mathlib.Core.List.{List}
 use lib.ListN.{length}
 use Rattle.rows.specs.Claims.{NoneHolds}
 use Rattle.rows.proofs.Claims as law
-use Rattle.words.specs.Word.{wide, even, first}
-use Rattle.words.proofs.Faults.{first-good, good-first, not-wide, not-even}
+use Rattle.words.specs.Word.{tooWide, even, first}
+use Rattle.words.proofs.Faults.{first-good, good-first, not-too-wide, not-even}
 use Rattle.reports.specs.declared.Report.{Report}
 use Rattle.reports.specs.declared.RunAnswer.{RunAnswer}
 use Rattle.reports.specs.declared.RunAnswer.the-variants.{Accepted, Refused}
@@ -49,7 +49,7 @@ accepted-layout form ws r h =
 pub layout-accepted : (form : AltitudeForm) (ws : List ℕ) → HasLayout form ws → readRun form ws ≡ Accepted (reportOf form ws)
 layout-accepted form ws h =
     accepted-by-rows form ws (reportOf form ws) .1
-    ((good-first wide not-wide ws (h .good), (good-first even not-even ws (h .good), (h .known, (h .whole, (h .assigned, (h .spares, (h .altitude, tt))))))), refl)
+    ((good-first tooWide not-too-wide ws (h .good), (good-first even not-even ws (h .good), (h .known, (h .whole, (h .assigned, (h .spares, (h .altitude, tt))))))), refl)
 
 pub accepted-exactly : AcceptedExactly
 accepted-exactly form ws = (λ h. accepted-layout form ws (h .0) (h .1) .0, λ h. (reportOf form ws, layout-accepted form ws h))
@@ -61,4 +61,4 @@ unfolding heightOf fourOf sevenOf reportOf fourZeros heightSpares sevenSpares ze
 first-seven form ws n w e = refl
 
 pub judged-is-read : JudgedIsRead
-judged-is-read form ws = first-seven form ws (length ws) (first wide ws) (first even ws)
+judged-is-read form ws = first-seven form ws (length ws) (first tooWide ws) (first even ws)

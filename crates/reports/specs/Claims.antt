@@ -8,7 +8,7 @@ use mathlib.Core.Logic.{_↔_}
 use lib.ListN.{length, getD}
 use Rattle.rows.specs.Claims.{FirstIs}
 use Rattle.refusals.specs.declared.LineRefusal.{LineRefusal}
-use Rattle.words.specs.Word.{wide, even, first}
+use Rattle.words.specs.Word.{tooWide, even, first}
 use Rattle.reports.specs.declared.Report.{Report}
 use Rattle.reports.specs.declared.RunAnswer.the-variants.{Accepted, Refused}
 use Rattle.reports.specs.Altitude.{AltitudeForm, Sound, signMagnitude}
@@ -66,10 +66,10 @@ RefusedExactly = (form : AltitudeForm) (ws : List ℕ) (q : LineRefusal) (o : �
 abbrev pub firstSeven : List ℕ → List ℕ
 firstSeven ws = getD ws 0 0 ∷ getD ws 1 0 ∷ getD ws 2 0 ∷ getD ws 3 0 ∷ getD ws 4 0 ∷ getD ws 5 0 ∷ getD ws 6 0 ∷ []
 
--- no more than those are looked at once the count and the first wide and first even word are known
+-- no more than those are looked at once the count and the first tooWide and first even word are known
 abbrev pub FirstSeven : Type 0
 FirstSeven = (form : AltitudeForm) (ws : List ℕ) (n w e : ℕ) → judged form (firstSeven ws) n w e ≡ judged form ws n w e
 
--- so what is judged of a run's first seven words, its length and its first wide and first even word is what the whole run is read as
+-- so what is judged of a run's first seven words, its length and its first tooWide and first even word is what the whole run is read as
 abbrev pub JudgedIsRead : Type 0
-JudgedIsRead = (form : AltitudeForm) (ws : List ℕ) → judged form (firstSeven ws) (length ws) (first wide ws) (first even ws) ≡ readRun form ws
+JudgedIsRead = (form : AltitudeForm) (ws : List ℕ) → judged form (firstSeven ws) (length ws) (first tooWide ws) (first even ws) ≡ readRun form ws

@@ -7,13 +7,13 @@ use mathlib.Core.List.{List, [], _∷_}
 use lib.Dec.{eqb, ltb}
 use lib.ListN.{length}
 use Rattle.words.specs.Tests.{all, any}
-use Rattle.words.specs.Word.{bits, bit, wide, even, first, AllGood}
+use Rattle.words.specs.Word.{bits, bit, tooWide, even, first, AllGood}
 use Rattle.reports.specs.Altitude.{AltitudeForm}
 use Rattle.reports.specs.Forms.{isSeven, wordCount, isSearch, isStrobe, isMap, isStatus, isRtqc, isDabs, isCd, isMtd, isRdas, isMtdSearch, isRdasSearch}
 
 -- 3: a word of the run above 8191
-abbrev pub wideWord : List ℕ → Bool
-wideWord ws = ltb (first wide ws) (length ws)
+abbrev pub tooWideWord : List ℕ → Bool
+tooWideWord ws = ltb (first tooWide ws) (length ws)
 
 -- 4: a word of the run with an even number of ones
 abbrev pub evenWord : List ℕ → Bool

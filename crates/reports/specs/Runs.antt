@@ -5,13 +5,13 @@ use mathlib.Core.List.{List, [], _∷_}
 use lib.Dec.{eqb, ltb}
 use Rattle.rows.specs.Rows.{Row, row, firstOf}
 use Rattle.refusals.specs.declared.LineRefusal.the-variants.{WordTooWide, EvenWord, UnknownForm, WrongLength, UnassignedRadar, SpareBitSet, MinusZero}
-use Rattle.words.specs.Word.{wide, even, first}
+use Rattle.words.specs.Word.{tooWide, even, first}
 use Rattle.reports.specs.declared.RunAnswer.{RunAnswer}
 use Rattle.reports.specs.declared.RunAnswer.the-variants.{Accepted, Refused}
 use Rattle.reports.specs.Altitude.{AltitudeForm}
 use Rattle.reports.specs.Forms.{wordCount}
 use Rattle.reports.specs.Records.{reportOf}
-use Rattle.reports.specs.Conditions.{wideWord, evenWord, unknownForm, wrongLength, unassigned, spareSet, minusZero}
+use Rattle.reports.specs.Conditions.{tooWideWord, evenWord, unknownForm, wrongLength, unassigned, spareSet, minusZero}
 
 -- the rows that look at the words of a run of the right length: 7, 8 and 9
 abbrev pub lastRows : AltitudeForm → List ℕ → List (Row RunAnswer)
@@ -21,7 +21,7 @@ lastRows form ws =
 -- the table of a run, row by row as document 01 prints it, and the answer to it. 3 and 4 name the first such word, the others the first word
 abbrev pub tableOf : AltitudeForm → List ℕ → List (Row RunAnswer)
 tableOf form ws =
-    row (wideWord ws) (Refused WordTooWide (first wide ws))
+    row (tooWideWord ws) (Refused WordTooWide (first tooWide ws))
     ∷ row (evenWord ws) (Refused EvenWord (first even ws))
     ∷ row (unknownForm ws) (Refused UnknownForm 0)
     ∷ row (wrongLength ws) (Refused WrongLength 0)
@@ -32,7 +32,7 @@ readRun form ws = firstOf (tableOf form ws) (Accepted (reportOf form ws))
 
 -- ---- the same from what a reader of a line remembers
 
--- the table for n words that begin ws, of which the first wide one is at w and the first even one at e (n where there is none)
+-- the table for n words that begin ws, of which the first tooWide one is at w and the first even one at e (n where there is none)
 abbrev pub table : AltitudeForm → List ℕ → ℕ → ℕ → ℕ → List (Row RunAnswer)
 table form ws n w e =
     row (ltb w n) (Refused WordTooWide w)

@@ -1,4 +1,4 @@
--- Words are good, all of them, exactly when there is no first wide word and no first even one.
+-- Words are good, all of them, exactly when there is no first tooWide word and no first even one.
 -- Assumes nothing.
 use Prim.Native.Nat.{ℕ, suc, _%_}
 use mathlib.Core.Path.{_≡_, refl, sym, _∙_}
@@ -9,7 +9,7 @@ use borrow.Author.Tests.{eqb-true, eq-eqb, ltb-false, le-ltb, not-false}
 use lib.Count.{ones}
 use lib.Dec.{ltb, leb·suc-suc}
 use lib.ListN.{length}
-use Rattle.words.specs.Word.{largest, wide, odd, even, Good, AllGood, first}
+use Rattle.words.specs.Word.{largest, tooWide, odd, even, Good, AllGood, first}
 
 -- no word has the fault p
 abbrev pub NoneHas : (ℕ → Bool) → List ℕ → Type 0
@@ -33,21 +33,21 @@ first-none p (w ∷ ws) h = go (p w) refl h (first-none p ws)
 
 -- ---- one word
 
-pub good-of : (w : ℕ) → wide w ≡ false → even w ≡ false → Good w
+pub good-of : (w : ℕ) → tooWide w ≡ false → even w ≡ false → Good w
 good-of w p q = record { narrow = ltb-false largest w p; parity = eqb-true (ones w % 2) 1 (not-false (odd w) q) }
 
-pub not-wide : (w : ℕ) → Good w → wide w ≡ false
-not-wide w g = le-ltb largest w (g .narrow)
+pub not-too-wide : (w : ℕ) → Good w → tooWide w ≡ false
+not-too-wide w g = le-ltb largest w (g .narrow)
 
 pub not-even : (w : ℕ) → Good w → even w ≡ false
 not-even w g = rw (eq-eqb (ones w % 2) 1 (g .parity))
 
 -- ---- all of them
 
-pub first-good : (ws : List ℕ) → ltb (first wide ws) (length ws) ≡ false → ltb (first even ws) (length ws) ≡ false → AllGood ws
-first-good ws p q = go ws (first-none wide ws p) (first-none even ws q)
+pub first-good : (ws : List ℕ) → ltb (first tooWide ws) (length ws) ≡ false → ltb (first even ws) (length ws) ≡ false → AllGood ws
+first-good ws p q = go ws (first-none tooWide ws p) (first-none even ws q)
   where
-    go : (ws : List ℕ) → NoneHas wide ws → NoneHas even ws → AllGood ws
+    go : (ws : List ℕ) → NoneHas tooWide ws → NoneHas even ws → AllGood ws
     go [] p q = tt
     go (w ∷ ws) p q = (good-of w (p .0) (q .0), go ws (p .1) (q .1))
 

@@ -20,8 +20,8 @@ abbrev pub largest : ℕ
 largest = 8191
 
 -- more than thirteen bits
-abbrev pub wide : ℕ → Bool
-wide w = ltb largest w
+abbrev pub tooWide : ℕ → Bool
+tooWide w = ltb largest w
 
 -- an odd number of ones
 abbrev pub odd : ℕ → Bool
@@ -31,7 +31,7 @@ odd w = eqb (ones w % 2) 1
 abbrev pub even : ℕ → Bool
 even w = not (odd w)
 
--- bits 1 to 12, which are the data; in a wide word, whatever stands above bit 1 too
+-- bits 1 to 12, which are the data; in a word that is too wide, whatever stands above bit 1 too
 abbrev pub dataBits : ℕ → ℕ
 dataBits w = w / 2
 

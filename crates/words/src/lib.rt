@@ -1,8 +1,8 @@
-// The 13-bit word of a line (document 01, "The line"): idle, wide, odd or even, its data bits and its parity bit.
+// The 13-bit word of a line (document 01, "The line"): idle, tooWide, odd or even, its data bits and its parity bit.
 // Every function takes every u16. Relies on nothing; specs/Word.antt says what each answer means.
 ghost use mathlib.Core.Path.{_≡_};
 ghost use lib.Dec.{eqb};
-ghost use Rattle.words.specs.Word.{idle, wide, odd, dataBits, parityBit, wordOf};
+ghost use Rattle.words.specs.Word.{idle, tooWide, odd, dataBits, parityBit, wordOf};
 
 pub mod weights; // weights.rt: the bits of a word by name
 
@@ -19,8 +19,8 @@ pub fn is_idle(w: u16) -> bool
     w == IDLE
 }
 
-pub fn is_wide(w: u16) -> bool
-    ensures { λ r. ⌜ r ≡ wide w ⌝ }
+pub fn is_too_wide(w: u16) -> bool
+    ensures { λ r. ⌜ r ≡ tooWide w ⌝ }
 {
     w > LARGEST
 }

@@ -10,20 +10,20 @@ use mir.Val.{SFits}
 use Rattle.field_host.proofs.reading.entry.Statement.{statement}
 use Rattle.field_host.proofs.reading.entry.Tie as tie
 
-wide : (x : ℤ) → SFits w32 x → SFits w64 x
-wide (pos n) f = let h = f .sfits in record { sfits = omega arith }
-wide (negsuc n) f = let h = f .sfits in record { sfits = omega arith }
+wider : (x : ℤ) → SFits w32 x → SFits w64 x
+wider (pos n) f = let h = f .sfits in record { sfits = omega arith }
+wider (negsuc n) f = let h = f .sfits in record { sfits = omega arith }
 
 -- the entry
 held : (c : tie.After-z) → SFits w32 (getD (c .before .before .args .t1) (c .before .before .args .index) (pos 0))
 held c = record { sfits = c .z .given }
 
 cast-result : tie.Need-cast-result
-cast-result c = wide _ (sfits-toZ (fits-ofZ (held c)))
+cast-result c = wider _ (sfits-toZ (fits-ofZ (held c)))
 
 returns : tie.Need-returns
 returns c =
-    toZ-ofZ (wide _ (sfits-toZ (fits-ofZ (held c)))) ∙ toZ-ofZ (held c)
+    toZ-ofZ (wider _ (sfits-toZ (fits-ofZ (held c)))) ∙ toZ-ofZ (held c)
 
 returns-2 : tie.Need-returns-2
 returns-2 c =

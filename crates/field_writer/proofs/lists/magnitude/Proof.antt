@@ -15,12 +15,12 @@ use Rattle.field_writer.proofs.lists.magnitude.Statement.{statement}
 use Rattle.field_writer.proofs.lists.magnitude.Tie as tie
 
 -- an `i32`, as the machine reads it
-wide : (x : ℤ) → SFits w32 x → SFits w64 x
-wide (pos n) f = let h = f .sfits in record { sfits = omega arith }
-wide (negsuc n) f = let h = f .sfits in record { sfits = omega arith }
+wider : (x : ℤ) → SFits w32 x → SFits w64 x
+wider (pos n) f = let h = f .sfits in record { sfits = omega arith }
+wider (negsuc n) f = let h = f .sfits in record { sfits = omega arith }
 
 minus : (x : ℤ) → SFits w32 x → pos 0 -ℤ toZ w64 (ofZ w64 x) ≡ negℤ x
-minus x f = ap (λ (y : ℤ). pos 0 -ℤ y) (toZ-ofZ (wide x f)) ∙ +ℤ-idl (negℤ x)
+minus x f = ap (λ (y : ℤ). pos 0 -ℤ y) (toZ-ofZ (wider x f)) ∙ +ℤ-idl (negℤ x)
 
 minus-fits : (x : ℤ) → SFits w32 x → SFits w64 (negℤ x)
 minus-fits (pos zero) f = record { sfits = lit< tt }
@@ -49,7 +49,7 @@ small (pos n) f = let k = f .sfits in omega arith
 small (negsuc n) f = let k = f .sfits in omega arith
 
 cast-n : tie.Need-cast-n
-cast-n c = wide _ (sfits-toZ (fits-ofZ (c .before .fits .z)))
+cast-n c = wider _ (sfits-toZ (fits-ofZ (c .before .fits .z)))
 
 sub-n : tie.Need-sub-n
 sub-n c = subst (λ (y : ℤ). SFits w64 y) (sym (minus _ (sfits-toZ (fits-ofZ (c .before .fits .z))))) (minus-fits _ (sfits-toZ (fits-ofZ (c .before .fits .z))))

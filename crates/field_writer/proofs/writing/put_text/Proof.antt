@@ -30,11 +30,11 @@ mul-write c = omega arith
 add-write : tie.Need-add-write Inv-loop μ-loop
 add-write c = omega arith
 
-shared-slice-read-wide : tie.Need-shared-slice-read-wide Inv-loop μ-loop
-shared-slice-read-wide c = omega arith
+shared-slice-read-widened : tie.Need-shared-slice-read-widened Inv-loop μ-loop
+shared-slice-read-widened c = omega arith
 
-wide-requires : tie.Need-wide-requires Inv-loop μ-loop
-wide-requires c κs = search needs
+widened-requires : tie.Need-widened-requires Inv-loop μ-loop
+widened-requires c κs = search needs
 
 write-requires : tie.Need-write-requires Inv-loop μ-loop
 write-requires c κs = search needs
@@ -48,7 +48,7 @@ loop-less c = omega arith
 loop-again : tie.Need-loop-again Inv-loop μ-loop
 loop-again c =
     let p = c .before .before .write in
-    let x = c .before .before .before .wide in
+    let x = c .before .before .before .widened in
     let h = c .before .before .before .before .before .before .before in
     let l = h .loop in
     let a = h .before .before .before .args in (
@@ -66,4 +66,4 @@ returns c = let l = c .before .loop in sym (same-none (l .s) _ _ _ _ _ (c .loop-
 pub put-text-spec : {M : Type 1} → statement M
 put-text-spec =
     tie.close
-    (tie.spec Inv-loop μ-loop loop-holds mul-write add-write shared-slice-read-wide wide-requires write-requires add-k loop-less loop-again same-length returns)
+    (tie.spec Inv-loop μ-loop loop-holds mul-write add-write shared-slice-read-widened widened-requires write-requires add-k loop-less loop-again same-length returns)

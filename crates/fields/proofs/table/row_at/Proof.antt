@@ -6,13 +6,13 @@ use Prim.Native.Nat.{ℕ, _≤_}
 use native.Mathlib.Omega.{arith}
 use lib.ListN.{List·getD-eq-default}
 use Rattle.fields.specs.Table.{table, rows, noRow, rowAt}
-use Rattle.fields.proofs.Rows.{known, wide-at}
+use Rattle.fields.proofs.Rows.{known, unpacked-at}
 use Rattle.fields.proofs.table.row_at.Statement.{statement}
 use Rattle.fields.proofs.table.row_at.Tie as tie
 
 returns : tie.Need-returns
 unfolding known table rows
-returns c = c .row-of .ensures ∙ wide-at _ _ (c .before .before .if1 .taken)
+returns c = c .row-of .ensures ∙ unpacked-at _ _ (c .before .before .if1 .taken)
 
 past : (i : ℕ) → 22 ≤ i → rowAt i ≡ noRow
 unfolding table rows rowAt

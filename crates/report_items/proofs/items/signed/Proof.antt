@@ -9,9 +9,9 @@ use Rattle.report_items.specs.declared.items.Item.the-variants.{Of}
 use Rattle.report_items.proofs.items.signed.Statement.{statement}
 use Rattle.report_items.proofs.items.signed.Tie as tie
 
-wide : (x : ℤ) → SFits w16 x → SFits w64 x
-wide (pos n) f = let h = f .sfits in record { sfits = omega arith }
-wide (negsuc n) f = let h = f .sfits in record { sfits = omega arith }
+wider : (x : ℤ) → SFits w16 x → SFits w64 x
+wider (pos n) f = let h = f .sfits in record { sfits = omega arith }
+wider (negsuc n) f = let h = f .sfits in record { sfits = omega arith }
 
 pub signed-spec : {M : Type 1} → statement M
-signed-spec = tie.close (tie.spec (λ c. wide _ (sfits-toZ (fits-ofZ (c .fits .z)))) (λ c. ap Of (toZ-ofZ (wide _ (sfits-toZ (fits-ofZ (c .fits .z)))) ∙ toZ-ofZ (c .fits .z))))
+signed-spec = tie.close (tie.spec (λ c. wider _ (sfits-toZ (fits-ofZ (c .fits .z)))) (λ c. ap Of (toZ-ofZ (wider _ (sfits-toZ (fits-ofZ (c .fits .z)))) ∙ toZ-ofZ (c .fits .z))))

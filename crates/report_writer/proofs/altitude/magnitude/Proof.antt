@@ -15,12 +15,12 @@ use Rattle.report_writer.proofs.altitude.magnitude.Statement.{statement
 use Rattle.report_writer.proofs.altitude.magnitude.Tie as tie
 
 -- an `i16`, as the machine reads it
-wide : (x : ℤ) → SFits w16 x → SFits w32 x
-wide (pos n) f = let h = f .sfits in record { sfits = omega arith }
-wide (negsuc n) f = let h = f .sfits in record { sfits = omega arith }
+wider : (x : ℤ) → SFits w16 x → SFits w32 x
+wider (pos n) f = let h = f .sfits in record { sfits = omega arith }
+wider (negsuc n) f = let h = f .sfits in record { sfits = omega arith }
 
 minus : (x : ℤ) → SFits w16 x → pos 0 -ℤ toZ w32 (ofZ w32 x) ≡ negℤ x
-minus x f = ap (λ (y : ℤ). pos 0 -ℤ y) (toZ-ofZ (wide x f)) ∙ +ℤ-idl (negℤ x)
+minus x f = ap (λ (y : ℤ). pos 0 -ℤ y) (toZ-ofZ (wider x f)) ∙ +ℤ-idl (negℤ x)
 
 minus-fits : (x : ℤ) → SFits w16 x → SFits w32 (negℤ x)
 minus-fits (pos zero) f = record { sfits = lit< tt }
@@ -55,4 +55,4 @@ returns c =
     ap natAbs (minus-read x (sfits-toZ (fits-ofZ (c .before .fits .z)))) ∙ minus-abs x ∙ ap natAbs (toZ-ofZ (c .before .fits .z))
 
 pub magnitude-spec : {M : Type 1} → statement M
-magnitude-spec = tie.close (tie.spec (λ c. wide _ (sfits-toZ (fits-ofZ (c .before .fits .z)))) sub-n cast-result (λ c. plus-cast _ (sfits-toZ (fits-ofZ (c .before .fits .z))) (c .if1 .left)) returns (λ c. search needs))
+magnitude-spec = tie.close (tie.spec (λ c. wider _ (sfits-toZ (fits-ofZ (c .before .fits .z)))) sub-n cast-result (λ c. plus-cast _ (sfits-toZ (fits-ofZ (c .before .fits .z))) (c .if1 .left)) returns (λ c. search needs))

@@ -23,7 +23,7 @@ set-at-requires c κs =
     let s = x .self in (
       omega arith,
       subst (λ (r : RunAnswer). answerOffset r ≤ s .after - s .first) (sym (c .judge .ensures))
-          (offset-within signMagnitude (x .a ∷ x .b ∷ x .c ∷ x .d ∷ x .e ∷ x .f ∷ x .g ∷ []) (s .after - s .first) (s .wide - s .first) (s .fault - s .first)),
+          (offset-within signMagnitude (x .a ∷ x .b ∷ x .c ∷ x .d ∷ x .e ∷ x .f ∷ x .g ∷ []) (s .after - s .first) (s .«too_wide» - s .first) (s .fault - s .first)),
     )
 
 returns-2 : tie.Need-returns-2
