@@ -216,7 +216,7 @@ fn told(layout: &Layout, words: u32, specs: &[File]) -> BTreeMap<String, String>
     let mut patterns = Vec::new();
     if words == 4 {
         let name = layout.kind[..1].to_string() + &layout.kind[1..].to_lowercase();
-        patterns.extend(["isFour".to_string(), if name == "Rtqc" { "hasRtqcPattern".into() } else { format!("is{name}") }]);
+        patterns.extend(["isFour".to_string(), format!("is{name}")]);
         if name == "Rtqc" {
             one(bit_of("isRtqc"), true);
         }
@@ -228,7 +228,7 @@ fn told(layout: &Layout, words: u32, specs: &[File]) -> BTreeMap<String, String>
             ("DABS" | "ATCRBS", radar) => Some(radar.to_string()),
             (radar, _) => Some(format!("{radar} search")),
         };
-        one(bit_of("told"), radar.is_some());
+        one(bit_of("radarCode"), radar.is_some());
         if radar.is_none() {
             let altitude = heights(&code(RECORDS)).remove("altitude").unwrap_or_else(|| panic!("{RECORDS}: no altitude")).1;
             one(altitude[0].clone(), layout.height == "altitude");
