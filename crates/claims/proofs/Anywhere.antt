@@ -155,7 +155,7 @@ module _ (i : ℕ) (r : Record) (l : List ℤ) (t : List ℕ) (low : i < 21) (k 
         let e = all-sum in
         putBits-other (putAll b 0 ws us) n (fillOf n) 0 p (inr (omega arith)) ∙ all-stay b 0 ws us p (omega arith)
 
-    pub put-anywhere : out ≡ own ++ drop size b
+    put-anywhere : out ≡ own ++ drop size b
     put-anywhere =
         ext-getD 0 out (own ++ drop size b) (length-out ∙ sym (length-append own (drop size b) ∙ omega (arith, length-own, length-drop size b))) each
       where

@@ -16,7 +16,7 @@ use Rattle.fields.proofs.Entries.{next}
 use Rattle.field_reader.specs.Lists.{entryAt}
 
 -- of n entries from k on: the one at k, and the rest
-pub values-step : (s : List ℕ) (a step n k : ℕ) → k < n →
+values-step : (s : List ℕ) (a step n k : ℕ) → k < n →
     valuesOf s (a + step * k) (replicate (n - k) step) ≡ bitsOf s (a + step * k) step ∷ valuesOf s (a + step * (k + 1)) (replicate (n - (k + 1)) step)
 unfolding valuesOf
 values-step s a step n k h =

@@ -48,7 +48,7 @@ entriesBits-at step (suc n) (z ∷ l) zero h m = refl
 entriesBits-at step (suc n) (z ∷ l) (suc k) h m = entriesBits-at step n l k (le-of-suc-le-suc h) (le-of-suc-le-suc m)
 
 -- the numbers from k on: the one at k, and the rest
-pub listFits-step : (step n : ℕ) (l : List ℤ) (k : ℕ) → k < length l →
+listFits-step : (step n : ℕ) (l : List ℤ) (k : ℕ) → k < length l →
     listFits step (n - k) (drop k l) ≡ (entryOk step n k (getD l k (pos 0)) && listFits step (n - (k + 1)) (drop (k + 1) l))
 unfolding listFits entryOk
 listFits-step step n l k h = go (decLt k n)
@@ -69,7 +69,7 @@ pub listFits-good : (step n : ℕ) (l : List ℤ) (k : ℕ) → k < length l →
     listFits step (n - k) (drop k l) ≡ listFits step (n - (k + 1)) (drop (k + 1) l)
 listFits-good step n l k h e = listFits-step step n l k h ∙ ap (λ (b : Bool). b && listFits step (n - (k + 1)) (drop (k + 1) l)) e
 
-pub fitAll-step : (ws vs : List ℕ) (i : ℕ) → i < length ws → i < length vs →
+fitAll-step : (ws vs : List ℕ) (i : ℕ) → i < length ws → i < length vs →
     fitAll (drop i ws) (drop i vs) ≡ (ltb (getD vs i 0) (2 ^ getD ws i 0) && fitAll (drop (i + 1) ws) (drop (i + 1) vs))
 unfolding fitAll
 fitAll-step ws vs i h k = rw (drop-cons ws i 0 h, drop-cons vs i 0 k, add-one) refl

@@ -110,7 +110,7 @@ entry-forth step x (inl e) l u =
     rw e (lt-ltb _ 80 (b .0), b .1)
 entry-forth step x (inr e) l u = rw e (lt-ltb x 16777216 (subst (λ (k : ℕ). x < 2 ^ k) e l), refl)
 
-pub list-forth : (step room : ℕ) (xs : List ℕ) → (0 < length xs → Entry step) → length xs ≤ room → InUse step xs
+list-forth : (step room : ℕ) (xs : List ℕ) → (0 < length xs → Entry step) → length xs ≤ room → InUse step xs
     → (listFits step (length xs) (entriesIn step room xs) ≡ true) × (entriesBits step (length xs) (entriesIn step room xs) ≡ xs)
 unfolding listFits entriesIn entriesBits anyUnused
 list-forth step zero [] e r f = (refl, refl)
@@ -127,7 +127,7 @@ entries-length step zero xs = refl
 entries-length step (suc room) [] = ap suc (entries-length step room [])
 entries-length step (suc room) (x ∷ xs) = ap suc (entries-length step room xs)
 
-pub fitAll-of : (ws vs : List ℕ) → Fit ws vs → fitAll ws vs ≡ true
+fitAll-of : (ws vs : List ℕ) → Fit ws vs → fitAll ws vs ≡ true
 unfolding fitAll
 fitAll-of [] [] f = refl
 fitAll-of [] (v ∷ vs) f = absurd f

@@ -26,11 +26,6 @@ length-putAll s a [] vs = refl
 length-putAll s a (w ∷ ws) [] = refl
 length-putAll s a (w ∷ ws) (v ∷ vs) = length-putAll (putBits s a w v) (a + w) ws vs ∙ length-putBits s a w v
 
--- no parts are left
-pub putAll-none : (s : List ℕ) (a : ℕ) (vs : List ℕ) → putAll s a [] vs ≡ s
-unfolding putAll
-putAll-none s a vs = refl
-
 -- parts behind parts
 pub putAll-join : (s : List ℕ) (a : ℕ) (ws vs xs ys : List ℕ) → length ws ≡ length vs →
     putAll s a (ws ++ xs) (vs ++ ys) ≡ putAll (putAll s a ws vs) (a + sumOf ws) xs ys

@@ -80,7 +80,7 @@ block-lt : (z : ℤ) → natAbs z < 80 → blockBits z < 256
 block-lt (pos n) h = omega arith
 block-lt (negsuc n) h = omega arith
 
-pub entry-lt : (step : ℕ) (z : ℤ) → Entry step → entryFits step z ≡ true → entryBits step z < 2 ^ step
+entry-lt : (step : ℕ) (z : ℤ) → Entry step → entryFits step z ≡ true → entryBits step z < 2 ^ step
 unfolding entryFits entryBits
 entry-lt step z (inl e) f = rw e (block-lt z (ltb-true (natAbs z) 80 (rw e at f)))
 entry-lt step z (inr e) f =

@@ -55,17 +55,11 @@ last-is i n h t = last (not-below i n t)
     last : n ≤ i → i ≡ n
     last l = omega arith
 
--- within a list the value past its end does not matter
-pub getD-any : {A : Type 0} (l : List A) (i : ℕ) (d e : A) → i < length l → getD l i d ≡ getD l i e
-getD-any [] i d e h = absurd (not-suc-le-zero h)
-getD-any (x ∷ xs) zero d e h = refl
-getD-any (x ∷ xs) (suc i) d e h = getD-any xs i d e (le-of-suc-le-suc h)
-
 -- a row in smaller numbers, as it stands in the code
 abbrev small : Row → Known
 small r = record { code = r .code; way = r .way; base = r .base; step = r .step; more = r .more; first = r .first; second = r .second; third = r .third }
 
-abbrev pub unpacked : Known → Row
+abbrev unpacked : Known → Row
 unpacked k = record { code = k .code; way = k .way; base = k .base; step = k .step; more = k .more; first = k .first; second = k .second; third = k .third }
 
 abbrev smaller : List Row → List Known
@@ -90,7 +84,7 @@ unfolding fieldAt
 fieldAt-last at a b c d e f g h i j l = List·getD-eq-default (fieldsBy a b c d e f g h i j) (ControllerAlert a b c d e f g h i j) l
 
 -- a place that is found stands in the table, and holds the code
-pub found-in : (c : ℕ) (rs : List Row) (a i : ℕ) → placeFrom c rs a ≡ At i → i < a + length rs
+found-in : (c : ℕ) (rs : List Row) (a i : ℕ) → placeFrom c rs a ≡ At i → i < a + length rs
 unfolding placeFrom
 found-in c [] a i e = let z : _≡_ {A = ℕ} 0 1 = cc in omega arith
 found-in c (r ∷ rs) a i e = go (eqb (r .code) c) (found-in c rs (a + 1) i) e

@@ -54,11 +54,11 @@ seven-handed (a ∷ b ∷ c ∷ d ∷ e ∷ f ∷ []) n = absurd (omega arith)
 seven-handed (a ∷ b ∷ c ∷ d ∷ e ∷ f ∷ g ∷ []) n = refl
 seven-handed (a ∷ b ∷ c ∷ d ∷ e ∷ f ∷ g ∷ h ∷ ws) n = absurd (omega arith)
 
-pub as-handed : (form : AltitudeForm) (r : Report) → handed (asWritten (wordsOf form r)) ≡ wordsOf form r
+as-handed : (form : AltitudeForm) (r : Report) → handed (asWritten (wordsOf form r)) ≡ wordsOf form r
 as-handed form r = ⊎-elim (four-handed (wordsOf form r)) (seven-handed (wordsOf form r)) (words-length form r)
 
 -- what was handed out are the report's words
-pub handed-words : (form : AltitudeForm) (r : Report) (m : Written) → written form r ≡ m → 0 < length (handed m) → wordsOf form r ≡ handed m
+handed-words : (form : AltitudeForm) (r : Report) (m : Written) → written form r ≡ m → 0 < length (handed m) → wordsOf form r ≡ handed m
 handed-words form r m e h =
     by-test (takes form r)
     (λ t. sym (as-handed form r) ∙ ap handed (sym (picked (asWritten (wordsOf form r)) (M.Refused ValueTooLarge) t) ∙ e))
@@ -66,7 +66,7 @@ handed-words form r m e h =
 
 -- ---- the answer by rows
 
-pub decided-rows : (form : AltitudeForm) (n place : ℕ) (r : Report) → decided n place (written form r) ≡ firstOf (placeRows form n place r) (placeAfter form place r)
+decided-rows : (form : AltitudeForm) (n place : ℕ) (r : Report) → decided n place (written form r) ≡ firstOf (placeRows form n place r) (placeAfter form place r)
 unfolding decided
 decided-rows form n place r = ap (cond (ltb n place) (W.Refused PlaceBeyondLine place)) (go (takes form r) refl)
   where

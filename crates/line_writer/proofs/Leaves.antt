@@ -29,7 +29,7 @@ fill-more part ws i h k =
 -- ---- a part that was lent and came back
 
 -- the part of a line from a place on
-pub part-is : (line : List ℕ) (place : ℕ) → take (length line - place) (drop place line) ≡ drop place line
+part-is : (line : List ℕ) (place : ℕ) → take (length line - place) (drop place line) ≡ drop place line
 part-is line place = take-all (length line - place) (drop place line) (let n = length-drop place line in omega arith)
 
 pub put-back : (line : List ℕ) (place n : ℕ) (ws part : List ℕ) → length ws ≡ n

@@ -45,12 +45,12 @@ put-put line place ws vs h =
 -- ---- what a call answers
 
 -- a call is refused, and gives the place back; or the report is taken and has room on a line of n words
-abbrev pub Cases : AltitudeForm → ℕ → ℕ → Report → Wrote → Type 0
+abbrev Cases : AltitudeForm → ℕ → ℕ → Report → Wrote → Type 0
 Cases form n place r w =
     ((q : LineRefusal) × (w ≡ W.Refused q place))
     ⊎ (Takes form r × (place ≤ n) × (length (wordsOf form r) < n - place) × (w ≡ placeAfter form place r))
 
-pub place-cases : (form : AltitudeForm) (n place : ℕ) (r : Report) → Cases form n place r (firstOf (placeRows form n place r) (placeAfter form place r))
+place-cases : (form : AltitudeForm) (n place : ℕ) (r : Report) → Cases form n place r (firstOf (placeRows form n place r) (placeAfter form place r))
 place-cases form n place r =
     let k = length (wordsOf form r) in
     by-test (ltb n place) (λ b. inl (PlaceBeyondLine, picked _ _ b))

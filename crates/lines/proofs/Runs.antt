@@ -34,7 +34,7 @@ runs-gap p (w ∷ ws) =
     ap (λ (q : ℕ). runsFrom q [] (w ∷ ws)) (sym (add-zero p)) ∙ ap (λ (g : ℕ). runsFrom (p + g) [] (drop g (w ∷ ws))) (sym k))
 
 -- an open stretch goes on up to the next idle word
-pub runs-open : (p : ℕ) (open′ ws : List ℕ) → runsFrom p open′ ws ≡ closed p (open′ ++ stretch ws) (runsFrom (p + length (open′ ++ stretch ws)) [] (drop (length (stretch ws)) ws))
+runs-open : (p : ℕ) (open′ ws : List ℕ) → runsFrom p open′ ws ≡ closed p (open′ ++ stretch ws) (runsFrom (p + length (open′ ++ stretch ws)) [] (drop (length (stretch ws)) ws))
 unfolding runsFrom stretch
 runs-open p open′ [] = ap (λ (l : List ℕ). closed p l []) (sym (append-nil open′))
 runs-open p open′ (w ∷ ws) =
@@ -87,7 +87,7 @@ stretch-stretch (w ∷ ws) =
 
 -- ---- words none of which is idle
 
-abbrev pub isIdle : ℕ → Bool
+abbrev isIdle : ℕ → Bool
 isIdle w = eqb w idle
 
 abbrev pub Free : List ℕ → Type 0
@@ -177,7 +177,7 @@ runs-split p open′ (w ∷ a) b =
     let z : p + length (open′ ++ (w ∷ [])) + length a + 1 ≡ p + length open′ + suc (length a) + 1 = omega arith in z)
     ∙ ap (λ (rs : List Run). rs ++ runsFrom (p + length open′ + suc (length a) + 1) [] b) (sym (passed (closed p open′ (runsFrom q [] a)) (runsFrom p (open′ ++ (w ∷ [])) a) e)))
 
-pub runs-parts : (p : ℕ) (a b : List ℕ) → runsFrom p [] (a ++ (idle ∷ b)) ≡ runsFrom p [] a ++ runsFrom (p + length a + 1) [] b
+runs-parts : (p : ℕ) (a b : List ℕ) → runsFrom p [] (a ++ (idle ∷ b)) ≡ runsFrom p [] a ++ runsFrom (p + length a + 1) [] b
 runs-parts p a b =
     runs-split p [] a b ∙ ap (λ (n : ℕ). runsFrom p [] a ++ runsFrom (n + length a + 1) [] b) (add-zero p)
 

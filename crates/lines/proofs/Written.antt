@@ -11,17 +11,14 @@ use lib.Seq.{take-append-add, take-at, drop-at, drop-append-add, length-take-le}
 use Rattle.words.specs.Word.{idle}
 use Rattle.reports.specs.declared.Report.{Report}
 use Rattle.reports.specs.Altitude.{AltitudeForm}
-use Rattle.reports.specs.Layouts.{wordsOf, Fits, Takes}
+use Rattle.reports.specs.Layouts.{wordsOf}
+use Rattle.reports.proofs.Demand2.{takes-fits}
 use Rattle.lines.specs.declared.Wrote.{Wrote}
 use Rattle.lines.specs.declared.Wrote.the-variants as W
 use Rattle.lines.specs.Writing.{writeAt, leftBy, next, puts, among, taken}
 use Rattle.lines.specs.Spaced.{Spaced, lineOf, reportsOf, AllFit, Parted, Apart}
 use Rattle.lines.specs.Claims.{WrittenSo, Composed, OnlyItsWords, RefusedLeaves}
 use Rattle.lines.proofs.Puts.{put-put, write-cases}
-
--- what the writer takes fits its layout
-takes-fits : (form : AltitudeForm) (r : Report) → Takes form r → Fits form r
-takes-fits form r h = h
 
 -- ---- one call
 

@@ -15,7 +15,7 @@ front-length : (l : List ℕ) (at : ℕ) (x : List ℕ) → at ≤ length l → 
 front-length l at x h = length-append (take at l) x ∙ ap (λ (k : ℕ). k + length x) (length-take-le at l h)
 
 -- one byte more
-pub put-more : (l : List ℕ) (at : ℕ) (x : List ℕ) (b : ℕ) → at + length x < length l → set (put l at x) (at + length x) b ≡ put l at (x ++ (b ∷ []))
+put-more : (l : List ℕ) (at : ℕ) (x : List ℕ) (b : ℕ) → at + length x < length l → set (put l at x) (at + length x) b ≡ put l at (x ++ (b ∷ []))
 put-more l at x b h =
     let n = at + length x in
     let front = take at l ++ x in

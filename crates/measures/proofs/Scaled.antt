@@ -32,7 +32,7 @@ quotient n h (fin false m e) v =
     (ap (λ (z : ℕ). z * 1024) (v .1) ∙ mul-assoc n (down e) 1024 ∙ ap (λ (z : ℕ). n * z) (mul-comm (down e) 1024))))
     (round-exact binary64 false n 1024 n 1064 (lit< tt) h (lt-of-lt-of-le (shl-lt 53 1064 h) (lit≤ tt)) (sym (mul-assoc n (2 ^ 1064) 1024)))
 
-pub has-value : (n : ℕ) → n < 2 ^ 53 → HasValue (div binary64 (ofInt binary64 (pos n)) thousand24) false n 1024
+has-value : (n : ℕ) → n < 2 ^ 53 → HasValue (div binary64 (ofInt binary64 (pos n)) thousand24) false n 1024
 unfolding ofInt
 has-value n h = quotient n h (round binary64 false n 1) (round-whole binary64 false n (le-of-lt h))
 
@@ -78,7 +78,7 @@ at-most b = omega arith
 below-ones : (b : ℕ) → T (not (eqb (exponentOf b) 2047)) → exponentOf b < 2047
 below-ones b h = elim (eq-or-lt-of-le (at-most b)) [ inl e ↦ absurd (subst (λ (z : ℕ). T (not (eqb z 2047))) e h) | inr l ↦ l ]
 
-pub bits-of-value : (n : ℕ) (r : Float) → T (fits binary64 r) → HasValue r false n 1024 → Exact n r
+bits-of-value : (n : ℕ) (r : Float) → T (fits binary64 r) → HasValue r false n 1024 → Exact n r
 unfolding ofBits
 bits-of-value n r f v =
     let b = toBits binary64 r in

@@ -38,7 +38,7 @@ one-way (suc x) t (suc y) u h k e = let r = with-lead x t y u h k e in (ap suc (
 joined : (b c : ℕ) → b / 2 ^ 63 ≡ 0 → c / 2 ^ 63 ≡ 0 → b % 2 ^ 63 / 2 ^ 52 ≡ c % 2 ^ 63 / 2 ^ 52 → b % 2 ^ 52 ≡ c % 2 ^ 52 → b ≡ c
 joined b c p q x t = omega arith
 
-pub one-pattern : (n b c : ℕ) → Exact1024 n b → Exact1024 n c → b ≡ c
+one-pattern : (n b c : ℕ) → Exact1024 n b → Exact1024 n c → b ≡ c
 one-pattern n b c p q =
     let r =
     one-way (exponentOf b) (fractionOf b) (exponentOf c) (fractionOf c) (mod-lt b (lit< tt)) (mod-lt c (lit< tt))
@@ -47,10 +47,3 @@ one-pattern n b c p q =
 
 pub unique : (n : ℕ) (x y : Float) → T (fits binary64 x) → T (fits binary64 y) → Exact n x → Exact n y → x ≡ y
 unique n x y f g p q = sym (ofBits-toBits binary64 x f) ∙ ap (ofBits binary64) (one-pattern n (toBits binary64 x) (toBits binary64 y) p q) ∙ ofBits-toBits binary64 y g
-
--- so it is no NaN
-pub no-nan : (n : ℕ) (r : Float) → Exact n r → T (not (isNan r))
-unfolding isNan toBits
-no-nan n nan e = absurd (lt-irrefl 2047 (e .finite))
-no-nan n (inf s) e = tt
-no-nan n (fin s m d) e = tt

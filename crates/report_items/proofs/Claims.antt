@@ -16,6 +16,7 @@ use Rattle.reports.specs.declared.Report.{Report}
 use Rattle.reports.specs.Altitude.{AltitudeForm, signMagnitude}
 use Rattle.reports.specs.Kinds.{kindOf, kindNumber, dabsKind, atcrbsKind}
 use Rattle.reports.specs.Layouts.{Fits, Takes}
+use Rattle.reports.proofs.Demand2.{takes-fits}
 use Rattle.report_items.specs.declared.items.Item.{Item}
 use Rattle.report_items.specs.declared.items.Item.the-variants as I
 use Rattle.report_items.specs.Items.{altitude, last, itemsOf, itemOf}
@@ -115,10 +116,6 @@ kinded kind high v =
     (inl refl)))))))))))))))
 
 -- ---- what is given
-
--- what the writer takes fits
-takes-fits : (form : AltitudeForm) (r : Report) → Takes form r → Fits form r
-takes-fits form r h = h
 
 module _ (form : AltitudeForm) (narrow : Narrow form) (r : Report) (taken : Takes form r) (kind : ℕ) (items : List ℕ) where
   ps : List Pair

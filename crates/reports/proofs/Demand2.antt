@@ -173,3 +173,7 @@ read-back form sound r t = (taken-written form r t, demand-2 form sound (wordsOf
 
 pub takes-what-fits : claims.TakesWhatFits
 takes-what-fits form r f = f
+
+-- and what the writer takes fits
+pub takes-fits : (form : AltitudeForm) (r : Report) → Takes form r → Fits form r
+takes-fits form r h = h

@@ -16,7 +16,7 @@ abbrev pub NoneHas : (ℕ → Bool) → List ℕ → Type 0
 NoneHas p [] = Unit {0}
 NoneHas p (w ∷ ws) = (p w ≡ false) × NoneHas p ws
 
-pub none-first : (p : ℕ → Bool) (ws : List ℕ) → NoneHas p ws → ltb (first p ws) (length ws) ≡ false
+none-first : (p : ℕ → Bool) (ws : List ℕ) → NoneHas p ws → ltb (first p ws) (length ws) ≡ false
 unfolding first
 none-first p [] h = refl
 none-first p (w ∷ ws) h = rw (h .0, leb·suc-suc (suc (first p ws)) (length ws)) (none-first p ws (h .1))
@@ -33,7 +33,7 @@ first-none p (w ∷ ws) h = go (p w) refl h (first-none p ws)
 
 -- ---- one word
 
-pub good-of : (w : ℕ) → tooWide w ≡ false → even w ≡ false → Good w
+good-of : (w : ℕ) → tooWide w ≡ false → even w ≡ false → Good w
 good-of w p q = record { narrow = ltb-false largest w p; parity = eqb-true (ones w % 2) 1 (not-false (odd w) q) }
 
 pub not-too-wide : (w : ℕ) → Good w → tooWide w ≡ false

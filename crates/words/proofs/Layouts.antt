@@ -155,7 +155,7 @@ same-digits : (ws : List ℕ) {i j s t m n : ℕ} → i ≡ j → s ≡ t → m 
 same-digits ws p q r = rw (p, q, r)
 
 -- k bits from bit a on, which stand in word j behind its first o bits and before s more and the parity bit
-pub bits-in-word : (ws : List ℕ) (a j o k s : ℕ) → a ≡ 13 * j + o + 1 → o + k + s ≡ 12 → bits ws a (a + k - 1) ≡ getD ws j 0 / 2 ^ (s + 1) % 2 ^ k
+bits-in-word : (ws : List ℕ) (a j o k s : ℕ) → a ≡ 13 * j + o + 1 → o + k + s ≡ 12 → bits ws a (a + k - 1) ≡ getD ws j 0 / 2 ^ (s + 1) % 2 ^ k
 bits-in-word ws a j o zero s e h = rw (let n : a + 0 - 1 + 1 - a ≡ 0 = omega arith in n) (mod-one _ ∙ sym (mod-one _))
 bits-in-word ws a j o (suc k) s e h = same-digits ws (omega arith) (omega arith) (omega arith)
 

@@ -22,7 +22,7 @@ differ-is (suc zero) (suc zero) h k = refl
 differ-is (suc zero) (suc (suc y)) h k = absurd (omega arith)
 differ-is (suc (suc x)) y h k = absurd (omega arith)
 
-pub ones-xor : (a b : ℕ) → ones (bitXor a b) % 2 ≡ (ones a + ones b) % 2
+ones-xor : (a b : ℕ) → ones (bitXor a b) % 2 ≡ (ones a + ones b) % 2
 ones-xor =
     bin-ind (λ (a : ℕ). (b : ℕ) → ones (bitXor a b) % 2 ≡ (ones a + ones b) % 2)
     (λ b. omega (arith, ap ones (xor-zero-l b), zero-ones))
@@ -42,7 +42,7 @@ abbrev pub lowest : ℕ → ℕ → ℕ
 lowest k n = ones (n % 2 ^ k) % 2
 
 -- n with its digits from k on folded upon its lowest k has there the parity of the lowest 2 k
-pub fold : (k n : ℕ) → lowest k (bitXor n (n / 2 ^ k)) ≡ lowest (k + k) n
+fold : (k n : ℕ) → lowest k (bitXor n (n / 2 ^ k)) ≡ lowest (k + k) n
 fold k n =
     ap (λ (x : ℕ). ones x % 2) (xor-mod n (n / 2 ^ k) k)
     ∙ ones-xor (n % 2 ^ k) (n / 2 ^ k % 2 ^ k)

@@ -20,27 +20,6 @@ abbrev μ-loop : tie.MeasureT-loop
 loop-holds : tie.Need-loop-holds Inv-loop μ-loop
 loop-holds c = (omega arith, refl)
 
-mul-tells-part : tie.Need-mul-tells-part Inv-loop μ-loop
-mul-tells-part c = omega arith
-
-array-read-tells-part : tie.Need-array-read-tells-part Inv-loop μ-loop
-array-read-tells-part c = omega arith
-
-mul-tells-part-2 : tie.Need-mul-tells-part-2 Inv-loop μ-loop
-mul-tells-part-2 c = omega arith
-
-array-read-tells-part-2 : tie.Need-array-read-tells-part-2 Inv-loop μ-loop
-array-read-tells-part-2 c = omega arith
-
-tells-part-requires : tie.Need-tells-part-requires Inv-loop μ-loop
-tells-part-requires c κs = search needs
-
-add-i : tie.Need-add-i Inv-loop μ-loop
-add-i c = omega arith
-
-loop-less : tie.Need-loop-less Inv-loop μ-loop
-loop-less c = omega arith
-
 -- what the part at i says
 next : (c : tie.After-tells-part Inv-loop μ-loop) →
     let l = c .before .before .loop in
@@ -83,13 +62,13 @@ tells-parts-spec =
     Inv-loop
     μ-loop
     loop-holds
-    mul-tells-part
-    array-read-tells-part
-    mul-tells-part-2
-    array-read-tells-part-2
-    tells-part-requires
-    add-i
-    loop-less
+    (λ c. omega arith)
+    (λ c. omega arith)
+    (λ c. omega arith)
+    (λ c. omega arith)
+    (λ c κs. search needs)
+    (λ c. omega arith)
+    (λ c. omega arith)
     loop-again
     returns
     returns-2)

@@ -22,18 +22,6 @@ returns c = rw (c .if1 .taken) (sym (no-zero (c .before .args .t1) (c .before .a
 loop-holds : tie.Need-loop-holds Inv-loop μ-loop
 loop-holds c = (omega arith, refl)
 
-mul-if2 : tie.Need-mul-if2 Inv-loop μ-loop
-mul-if2 c = omega arith
-
-array-read-if2 : tie.Need-array-read-if2 Inv-loop μ-loop
-array-read-if2 c = omega arith
-
-mul-t13 : tie.Need-mul-t13 Inv-loop μ-loop
-mul-t13 c = omega arith
-
-array-read-t16 : tie.Need-array-read-t16 Inv-loop μ-loop
-array-read-t16 c = omega arith
-
 returns-2 : tie.Need-returns-2 Inv-loop μ-loop
 returns-2 c =
     let l = c .before .before .loop in
@@ -42,12 +30,6 @@ returns-2 c =
     let m : length (a .t1) ≡ 11 = search needs in
     let n : length (a .t2) ≡ 11 = search needs in
     sym (hit (a .t1) (a .t2) (l .i) (omega arith) (omega arith) (a .item) (e .if1 .left) (c .if2 .taken)) ∙ l .inv .1
-
-add-i : tie.Need-add-i Inv-loop μ-loop
-add-i c = omega arith
-
-loop-less : tie.Need-loop-less Inv-loop μ-loop
-loop-less c = omega arith
 
 loop-again : tie.Need-loop-again Inv-loop μ-loop
 loop-again c =
@@ -67,4 +49,4 @@ returns-3 c =
     rw (e, drop-of-length-le (a .t1) {i = 11} (omega arith)) at (l .inv .1)
 
 pub search-spec : {M : Type 1} → statement M
-search-spec = tie.close (tie.spec Inv-loop μ-loop returns loop-holds mul-if2 array-read-if2 mul-t13 array-read-t16 returns-2 add-i loop-less loop-again returns-3)
+search-spec = tie.close (tie.spec Inv-loop μ-loop returns loop-holds (λ c. omega arith) (λ c. omega arith) (λ c. omega arith) (λ c. omega arith) returns-2 (λ c. omega arith) (λ c. omega arith) loop-again returns-3)

@@ -24,18 +24,6 @@ loop-holds c =
     let a = c .before .args in
     (omega arith, from-first (λ (x : ℕ) (m : ℕ). anyUnused (valuesOf (a .b .now) x (replicate m 8))) (a .before) 8 (a .n))
 
-mul-piece : tie.Need-mul-piece Inv-loop μ-loop
-mul-piece c = omega arith
-
-add-piece : tie.Need-add-piece Inv-loop μ-loop
-add-piece c = omega arith
-
-piece-requires : tie.Need-piece-requires Inv-loop μ-loop
-piece-requires c κs = search needs
-
-block-unused-requires : tie.Need-block-unused-requires Inv-loop μ-loop
-block-unused-requires c κs = search needs
-
 -- what the block at k says
 told : (c : tie.After-block-unused Inv-loop μ-loop) →
     let h = c .before .before .before in
@@ -50,12 +38,6 @@ returns c =
     let l = h .loop in
     let a = h .before .before .args in
     sym (anyUnused-hit (a .b .now) (a .before) (a .n) (l .k) (omega arith) (told (c .before) ∙ c .if1 .taken)) ∙ l .inv .1
-
-add-k : tie.Need-add-k Inv-loop μ-loop
-add-k c = omega arith
-
-loop-less : tie.Need-loop-less Inv-loop μ-loop
-loop-less c = omega arith
 
 loop-again : tie.Need-loop-again Inv-loop μ-loop
 loop-again c =
@@ -72,4 +54,4 @@ returns-2 c = sym (anyUnused-none _ _ _ _ (c .loop-test .left)) ∙ c .before .l
 pub any-unused-spec : {M : Type 1} → statement M
 any-unused-spec =
     tie.close
-    (tie.spec Inv-loop μ-loop loop-holds mul-piece add-piece piece-requires block-unused-requires returns add-k loop-less loop-again returns-2)
+    (tie.spec Inv-loop μ-loop loop-holds (λ c. omega arith) (λ c. omega arith) (λ c κs. search needs) (λ c κs. search needs) returns (λ c. omega arith) (λ c. omega arith) loop-again returns-2)

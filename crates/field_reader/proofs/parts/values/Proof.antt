@@ -22,12 +22,6 @@ Inv-loop b before code widths v₀ at₀ i₀ v at i =
 abbrev μ-loop : tie.MeasureT-loop
 μ-loop b before code widths v₀ at₀ i₀ v at i = 11 - i
 
-array-write-v : tie.Need-array-write-v Inv-loop μ-loop
-array-write-v c = omega arith
-
-array-read-at : tie.Need-array-read-at Inv-loop μ-loop
-array-read-at c = omega arith
-
 cast-at : tie.Need-cast-at Inv-loop μ-loop
 cast-at c = omega (arith, c .before .pre .2 0)
 
@@ -49,9 +43,6 @@ loop-holds c =
       λ k h. getD-set-other (replicate 11 0) 0 k _ 0 (λ e. omega arith) ∙ zeros-at 11 k,
     )
 
-array-read-w : tie.Need-array-read-w Inv-loop μ-loop
-array-read-w c = omega arith
-
 cast-w : tie.Need-cast-w Inv-loop μ-loop
 cast-w c = omega (arith, c .before .before .before .pre .2 (c .before .loop .i))
 
@@ -63,23 +54,8 @@ returns c =
     let n : length (a .t4) ≡ 11 = search needs in
     values-are (a .b .now) (a .before) (a .t4) (l .v) (l .i) (omega (arith, l .inv .1)) (l .inv .4) (l .inv .5) (λ k h. s .pre .3 (l .i) k h (c .if1 .taken))
 
-read-requires : tie.Need-read-requires Inv-loop μ-loop
-read-requires c κs = search needs
-
-mul-v : tie.Need-mul-v Inv-loop μ-loop
-mul-v c = omega arith
-
-array-write-v-2 : tie.Need-array-write-v-2 Inv-loop μ-loop
-array-write-v-2 c = omega arith
-
 add-at-2 : tie.Need-add-at-2 Inv-loop μ-loop
 add-at-2 c = omega (arith, c .before .before .before .before .before .pre .2 (c .before .before .before .loop .i))
-
-add-i : tie.Need-add-i Inv-loop μ-loop
-add-i c = omega arith
-
-loop-less : tie.Need-loop-less Inv-loop μ-loop
-loop-less c = omega arith
 
 loop-again : tie.Need-loop-again Inv-loop μ-loop
 loop-again c =
@@ -111,19 +87,19 @@ values-spec =
     (tie.spec
     Inv-loop
     μ-loop
-    array-write-v
-    array-read-at
+    (λ c. omega arith)
+    (λ c. omega arith)
     cast-at
     add-at
     loop-holds
-    array-read-w
+    (λ c. omega arith)
     cast-w
     returns
-    read-requires
-    mul-v
-    array-write-v-2
+    (λ c κs. search needs)
+    (λ c. omega arith)
+    (λ c. omega arith)
     add-at-2
-    add-i
-    loop-less
+    (λ c. omega arith)
+    (λ c. omega arith)
     loop-again
     returns-2)

@@ -25,21 +25,6 @@ abbrev μ-loop : tie.MeasureT-loop
 loop-holds : tie.Need-loop-holds Inv-loop μ-loop
 loop-holds c = (omega arith, ap (λ (m : ℕ). listFits (c .args .step) m (c .args .t3)) (omega arith))
 
-mul-z : tie.Need-mul-z Inv-loop μ-loop
-mul-z c = omega arith
-
-array-copy-out-z : tie.Need-array-copy-out-z Inv-loop μ-loop
-array-copy-out-z c = omega arith
-
-entry-ok-requires : tie.Need-entry-ok-requires Inv-loop μ-loop
-entry-ok-requires c κs = search needs
-
-add-k : tie.Need-add-k Inv-loop μ-loop
-add-k c = omega arith
-
-loop-less : tie.Need-loop-less Inv-loop μ-loop
-loop-less c = omega arith
-
 -- what the number at k says
 ok : (c : tie.After-entry-ok Inv-loop μ-loop) →
     let l = c .before .before .before .loop in
@@ -80,4 +65,4 @@ returns-2 c =
 pub list-fits-spec : {M : Type 1} → statement M
 list-fits-spec =
     tie.close
-    (tie.spec Inv-loop μ-loop loop-holds mul-z array-copy-out-z entry-ok-requires add-k loop-less loop-again returns returns-2)
+    (tie.spec Inv-loop μ-loop loop-holds (λ c. omega arith) (λ c. omega arith) (λ c κs. search needs) (λ c. omega arith) (λ c. omega arith) loop-again returns returns-2)

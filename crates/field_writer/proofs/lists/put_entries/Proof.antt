@@ -29,12 +29,6 @@ loop-holds c =
     let a = c .before .args in
     (omega arith, refl, from-first (λ (x : ℕ) (m : ℕ). putAll (a .s .now) x (replicate m (a .step)) (entriesBits (a .step) (a .n) (a .t5))) (a .before) (a .step) (a .n))
 
-mul-z : tie.Need-mul-z Inv-loop μ-loop
-mul-z c = omega arith
-
-array-copy-out-z : tie.Need-array-copy-out-z Inv-loop μ-loop
-array-copy-out-z c = omega arith
-
 mul-write : tie.Need-mul-write Inv-loop μ-loop
 mul-write c =
     let l = c .before .before .before in
@@ -46,18 +40,6 @@ add-write c =
     let l = c .before .before .before in
     let a = l .before .before .args in
     omega (arith, product (a .step) (l .loop .k) 80 30 (omega arith) (omega arith))
-
-entry-bits-requires : tie.Need-entry-bits-requires Inv-loop μ-loop
-entry-bits-requires c κs = search needs
-
-write-requires : tie.Need-write-requires Inv-loop μ-loop
-write-requires c κs = search needs
-
-add-k : tie.Need-add-k Inv-loop μ-loop
-add-k c = omega arith
-
-loop-less : tie.Need-loop-less Inv-loop μ-loop
-loop-less c = omega arith
 
 loop-again : tie.Need-loop-again Inv-loop μ-loop
 loop-again c =
@@ -84,4 +66,4 @@ returns c = let l = c .before .loop in sym (same-none (l .s) _ _ _ _ _ (c .loop-
 pub put-entries-spec : {M : Type 1} → statement M
 put-entries-spec =
     tie.close
-    (tie.spec Inv-loop μ-loop loop-holds mul-z array-copy-out-z mul-write add-write entry-bits-requires write-requires add-k loop-less loop-again same-length returns)
+    (tie.spec Inv-loop μ-loop loop-holds (λ c. omega arith) (λ c. omega arith) mul-write add-write (λ c κs. search needs) (λ c κs. search needs) (λ c. omega arith) (λ c. omega arith) loop-again same-length returns)

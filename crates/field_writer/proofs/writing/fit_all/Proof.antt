@@ -18,26 +18,11 @@ abbrev μ-loop : tie.MeasureT-loop
 loop-holds : tie.Need-loop-holds Inv-loop μ-loop
 loop-holds c = (omega arith, refl)
 
-array-read-w : tie.Need-array-read-w Inv-loop μ-loop
-array-read-w c = omega arith
-
 cast-w : tie.Need-cast-w Inv-loop μ-loop
 cast-w c = omega (arith, c .before .before .pre (c .before .loop .i))
 
-mul-if1 : tie.Need-mul-if1 Inv-loop μ-loop
-mul-if1 c = omega arith
-
-array-read-if1 : tie.Need-array-read-if1 Inv-loop μ-loop
-array-read-if1 c = omega arith
-
 shr-if1 : tie.Need-shr-if1 Inv-loop μ-loop
 shr-if1 c = omega (arith, c .before .before .pre (c .before .loop .i))
-
-add-i : tie.Need-add-i Inv-loop μ-loop
-add-i c = omega arith
-
-loop-less : tie.Need-loop-less Inv-loop μ-loop
-loop-less c = omega arith
 
 loop-again : tie.Need-loop-again Inv-loop μ-loop
 loop-again c =
@@ -67,4 +52,4 @@ returns-2 c =
 pub fit-all-spec : {M : Type 1} → statement M
 fit-all-spec =
     tie.close
-    (tie.spec Inv-loop μ-loop loop-holds array-read-w cast-w mul-if1 array-read-if1 shr-if1 add-i loop-less loop-again returns returns-2)
+    (tie.spec Inv-loop μ-loop loop-holds (λ c. omega arith) cast-w (λ c. omega arith) (λ c. omega arith) shr-if1 (λ c. omega arith) (λ c. omega arith) loop-again returns returns-2)

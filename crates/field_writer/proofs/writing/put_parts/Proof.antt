@@ -20,31 +20,13 @@ abbrev μ-loop : tie.MeasureT-loop
 loop-holds : tie.Need-loop-holds Inv-loop μ-loop
 loop-holds c = (omega arith, omega arith, refl, refl)
 
-array-read-w : tie.Need-array-read-w Inv-loop μ-loop
-array-read-w c = omega arith
-
 cast-w : tie.Need-cast-w Inv-loop μ-loop
 cast-w c = omega (arith, c .before .before .before .pre .1 (c .before .loop .i))
-
-mul-write : tie.Need-mul-write Inv-loop μ-loop
-mul-write c = omega arith
-
-array-read-write : tie.Need-array-read-write Inv-loop μ-loop
-array-read-write c = omega arith
-
-write-requires : tie.Need-write-requires Inv-loop μ-loop
-write-requires c κs = search needs
 
 add-at : tie.Need-add-at Inv-loop μ-loop
 add-at c =
     let h = c .before .before .before .before .before in
     omega (arith, h .before .before .pre .1 (h .loop .i))
-
-add-i : tie.Need-add-i Inv-loop μ-loop
-add-i c = omega arith
-
-loop-less : tie.Need-loop-less Inv-loop μ-loop
-loop-less c = omega arith
 
 loop-again : tie.Need-loop-again Inv-loop μ-loop
 loop-again c =
@@ -75,4 +57,4 @@ returns c =
 pub put-parts-spec : {M : Type 1} → statement M
 put-parts-spec =
     tie.close
-    (tie.spec Inv-loop μ-loop loop-holds array-read-w cast-w mul-write array-read-write write-requires add-at add-i loop-less loop-again same-length returns)
+    (tie.spec Inv-loop μ-loop loop-holds (λ c. omega arith) cast-w (λ c. omega arith) (λ c. omega arith) (λ c κs. search needs) add-at (λ c. omega arith) (λ c. omega arith) loop-again same-length returns)

@@ -24,27 +24,6 @@ loop-holds c =
     let a = c .before .before .args in
     (omega arith, refl, from-first (λ (x : ℕ) (m : ℕ). putAll (a .s .now) x (replicate m 8) (a .text .now)) (a .before) 8 (length (a .text .now)))
 
-mul-write : tie.Need-mul-write Inv-loop μ-loop
-mul-write c = omega arith
-
-add-write : tie.Need-add-write Inv-loop μ-loop
-add-write c = omega arith
-
-shared-slice-read-widened : tie.Need-shared-slice-read-widened Inv-loop μ-loop
-shared-slice-read-widened c = omega arith
-
-widened-requires : tie.Need-widened-requires Inv-loop μ-loop
-widened-requires c κs = search needs
-
-write-requires : tie.Need-write-requires Inv-loop μ-loop
-write-requires c κs = search needs
-
-add-k : tie.Need-add-k Inv-loop μ-loop
-add-k c = omega arith
-
-loop-less : tie.Need-loop-less Inv-loop μ-loop
-loop-less c = omega arith
-
 loop-again : tie.Need-loop-again Inv-loop μ-loop
 loop-again c =
     let p = c .before .before .write in
@@ -66,4 +45,4 @@ returns c = let l = c .before .loop in sym (same-none (l .s) _ _ _ _ _ (c .loop-
 pub put-text-spec : {M : Type 1} → statement M
 put-text-spec =
     tie.close
-    (tie.spec Inv-loop μ-loop loop-holds mul-write add-write shared-slice-read-widened widened-requires write-requires add-k loop-less loop-again same-length returns)
+    (tie.spec Inv-loop μ-loop loop-holds (λ c. omega arith) (λ c. omega arith) (λ c. omega arith) (λ c κs. search needs) (λ c κs. search needs) (λ c. omega arith) (λ c. omega arith) loop-again same-length returns)

@@ -22,9 +22,6 @@ abbrev μ-loop : tie.MeasureT-loop
 loop-holds : tie.Need-loop-holds Inv-loop μ-loop
 loop-holds c = (omega arith, refl, refl)
 
-element-copy-out-if1 : tie.Need-element-copy-out-if1 Inv-loop μ-loop
-element-copy-out-if1 c = omega arith
-
 returns : tie.Need-returns Inv-loop μ-loop
 returns c =
     let l = c .before .before .before .loop in
@@ -32,27 +29,6 @@ returns c =
     let s = sym (within-stop 1 (a .widths .now) (a .rules .now) (a .v .now) (11 - l .i) (l .i) (l .found .spare) (c .if1 .taken)) ∙ l .inv .1 in
     let u = sym (within-stop 2 (a .widths .now) (a .rules .now) (a .v .now) (11 - l .i) (l .i) (l .found .unused) (c .if1 .taken)) ∙ l .inv .2 in
     rw (← s, ← u)
-
-element-copy-out-fault : tie.Need-element-copy-out-fault Inv-loop μ-loop
-element-copy-out-fault c = omega arith
-
-mul-fault : tie.Need-mul-fault Inv-loop μ-loop
-mul-fault c = omega arith
-
-element-copy-out-fault-2 : tie.Need-element-copy-out-fault-2 Inv-loop μ-loop
-element-copy-out-fault-2 c = omega arith
-
-fault-requires : tie.Need-fault-requires Inv-loop μ-loop
-fault-requires c κs = search needs
-
-noted-requires : tie.Need-noted-requires Inv-loop μ-loop
-noted-requires c κs = search needs
-
-add-i : tie.Need-add-i Inv-loop μ-loop
-add-i c = omega arith
-
-loop-less : tie.Need-loop-less Inv-loop μ-loop
-loop-less c = omega arith
 
 loop-again : tie.Need-loop-again Inv-loop μ-loop
 loop-again c =
@@ -82,14 +58,14 @@ faults-spec =
     Inv-loop
     μ-loop
     loop-holds
-    element-copy-out-if1
+    (λ c. omega arith)
     returns
-    element-copy-out-fault
-    mul-fault
-    element-copy-out-fault-2
-    fault-requires
-    noted-requires
-    add-i
-    loop-less
+    (λ c. omega arith)
+    (λ c. omega arith)
+    (λ c. omega arith)
+    (λ c κs. search needs)
+    (λ c κs. search needs)
+    (λ c. omega arith)
+    (λ c. omega arith)
     loop-again
     returns-2)
