@@ -1,5 +1,5 @@
 -- A number leads back to what it names, by lists in the numbers' order: so no two share one. Assumes nothing.
-use Prim.Native.Nat.{ℕ, _<_, _-_}
+use Prim.Native.Nat.{ℕ, _-_}
 use mathlib.Core.Path.{_≡_, refl, sym, ap, _∙_}
 use mathlib.Core.Bool.{cond}
 use mathlib.Core.List.{[], _∷_}

@@ -1,7 +1,6 @@
 // The entries of a list that is read, and their numbers: altimeter blocks of 8 bits with a sign, addresses and identifiers of 24.
 // Relies on `bits`; specs/Lists.antt of `fields` and of this crate say what each function means.
 ghost use mathlib.Core.Path.{_≡_};
-ghost use mathlib.Core.List.{List};
 ghost use Prim.Native.Nat.{_+_, _*_, _<_, _≤_, _^_};
 ghost use lib.ListN.{replicate};
 ghost use Rattle.bits.specs.Bits.{bitsOf};

@@ -2,7 +2,7 @@
 // Relies on `bits` and, of `fields`, on the table, the parts and the records. specs/Writing.antt of `fields` says what is answered and what the
 // bytes then hold, specs/Steps.antt the same by the place of the record's type in the table.
 ghost use mathlib.Core.Path.{_≡_};
-ghost use Prim.Native.Nat.{ℕ, _+_, _*_, _≤_, _<_, _^_};
+ghost use Prim.Native.Nat.{ℕ, _+_, _*_, _≤_, _<_};
 ghost use mathlib.Core.Bool.{true};
 ghost use lib.ListN.{length, getD, replicate};
 ghost use Rattle.fields.specs.Table.{placeOf, rowAt, RowSmall};

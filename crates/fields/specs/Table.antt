@@ -1,9 +1,9 @@
 -- The known types of link data fields (document 01, "Link data fields"; document 004, Table 5-1 and Figures 5-1 and 5-2): which way each
 -- travels, how many bits it has, its parts in order, and what their values may be. Definitions only.
-use Prim.Native.Nat.{ℕ, zero, suc, _+_, _*_, _%_, _^_, _≤_, _<_}
+use Prim.Native.Nat.{ℕ, _+_, _*_, _%_, _≤_, _<_}
 use mathlib.Core.Path.{_≡_}
 use mathlib.Core.List.{List, [], _∷_, _++_}
-use mathlib.Core.Bool.{Bool, true, false, not, cond, _||_}
+use mathlib.Core.Bool.{Bool, false, cond, _||_}
 use lib.Dec.{eqb, leb}
 use lib.ListN.{getD, take, drop, replicate}
 use Rattle.bits.specs.Bits.{bitsOf}

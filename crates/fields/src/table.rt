@@ -5,7 +5,7 @@
 // Relies on nothing but the names; specs/Table.antt says what the table holds.
 ghost use mathlib.Core.Path.{_≡_};
 ghost use Prim.Native.Nat.{_<_};
-ghost use Rattle.fields.specs.Table.{rows, placeOf, rowAt, widthsAt, rulesAt, faultOf};
+ghost use Rattle.fields.specs.Table.{placeOf, rowAt, widthsAt, rulesAt, faultOf};
 ghost use Rattle.fields.specs.Reading.{fromSensor};
 use crate::Direction;
 use crate::Place;

@@ -7,7 +7,6 @@ use native.Mathlib.Numerals.{add-one}
 use lib.ListN.{length, getD, take, drop, set, length-append, length-drop, drop-of-length-le}
 use lib.Seq.{take-all, drop-cons, take-suc, set-at, append-snoc, length-take-le}
 use Rattle.words.specs.Word.{idle}
-use Rattle.lines.specs.declared.Wrote.{Wrote}
 use Rattle.lines.specs.declared.Wrote.the-variants as W
 use Rattle.lines.specs.Bytes.{bytesOf}
 use Rattle.lines.specs.Claims.{put}

@@ -1,15 +1,15 @@
 -- Successive fills are the whole listing: the claim Whole. The walk goes through the reader's outcomes one by one; those are one for each
 -- run, the one that its words get, and the end (laws of lines). Assumes nothing.
-use Prim.Native.Nat.{ℕ, zero, suc, _+_, _-_, _/_, _%_, _≤_, _<_}
+use Prim.Native.Nat.{ℕ, zero, suc, _+_, _-_, _/_, _%_, _≤_}
 use native.Mathlib.Nat.{add-zero, zero-add, add-assoc}
 use mathlib.Core.Path.{_≡_, refl, ap, sym, _∙_}
 use mathlib.Core.Bool.{Bool, true, false, not, cond}
-use mathlib.Core.Logic.{_⊎_, inl, inr, ⊎-elim}
+use mathlib.Core.Logic.{_⊎_, ⊎-elim}
 use mathlib.Core.List.{List, [], _∷_, _++_, map, append-nil, append-assoc}
 use native.Mathlib.Omega.{arith}
 use lib.Dec.{eqb, ltb}
 use lib.ListN.{length}
-use borrow.Author.Tests.{lt-ltb, le-ltb, ltb-true, ltb-false, eq-eqb, ne-eqb, eqb-true, eqb-false}
+use borrow.Author.Tests.{ltb-true, ltb-false, eqb-true, eqb-false}
 use Rattle.refusals.specs.Numbers.{lineNumber}
 use Rattle.reports.specs.declared.RunAnswer.{RunAnswer}
 use Rattle.reports.specs.declared.RunAnswer.the-variants as A
@@ -18,7 +18,7 @@ use Rattle.lines.specs.declared.What.{What}
 use Rattle.lines.specs.declared.What.the-variants as W
 use Rattle.lines.specs.declared.Outcome.{Outcome}
 use Rattle.lines.specs.Bytes.{mostBytes, wordsIn}
-use Rattle.lines.specs.Line.{most, endOf, isEnd, placed, readBy, calls, outcomes}
+use Rattle.lines.specs.Line.{most, endOf, isEnd, placed, readBy, calls}
 use Rattle.reports.specs.Runs.{isAccepted}
 use Rattle.lines.specs.Stretches.{Run, runs, idleWords, wordsWhere}
 use Rattle.lines.specs.Claims.{alone}
@@ -32,7 +32,7 @@ use Rattle.listing.specs.Letters.{text, reportLine, refusedLine, totalsL
 use Rattle.listing.specs.Listing.{answer, lineFor, runLines, listingOf, listing}
 use Rattle.listing.specs.Walking.{at, start, closed, Step, Says, Ended, stepFor, stepOn, stepAt, said, onward, fills, reached}
 use Rattle.listing.specs.Claims.{Whole}
-use Rattle.listing.proofs.Bounded.{Between, between, by-words}
+use Rattle.listing.proofs.Bounded.{between, by-words}
 use Rattle.listing.proofs.Telling.{roomy, is-long, is-odd, is-read}
 
 -- ---- calls and fills

@@ -1,7 +1,7 @@
 -- The walk over a recording: what one call comes to, and calls one after the other. Definitions only.
 use Prim.Native.Nat.{ℕ, zero, suc, _+_, _-_, _%_, _≤_}
 use mathlib.Core.Path.{_≡_}
-use mathlib.Core.Bool.{Bool, true, false}
+use mathlib.Core.Bool.{true, false}
 use mathlib.Core.List.{List, [], _∷_, _++_}
 use lib.Dec.{eqb, ltb}
 use lib.ListN.{length, drop}

@@ -1,5 +1,5 @@
 // The three kinds of line that a listing has, each from the buffer's start on. Relies on letters.
-ghost use Prim.Native.Nat.{_+_, _≤_, _<_};
+ghost use Prim.Native.Nat.{_≤_, _<_};
 ghost use lib.ListN.{length};
 ghost use Rattle.listing.specs.Letters.{nameOf, reportLine, refusedLine, totalsLine, Put};
 use crate::letters::put_decimal;

@@ -2,12 +2,11 @@
 -- Assumes nothing.
 use mathlib.Core.Path.{_≡_, refl, sym, ap, _∙_}
 use Prim.Native.Nat.{ℕ, zero, suc, _+_, _*_, _/_, _%_, _^_, _≤_, _<_}
-use native.Mathlib.Nat.{lt-irrefl, mul-assoc, mul-le-mul-left, mod-lt, pow-suc, eq-of-mul-eq-mul-right}
+use native.Mathlib.Nat.{mul-assoc, mul-le-mul-left, mod-lt, pow-suc, eq-of-mul-eq-mul-right}
 use native.Mathlib.Omega.{arith}
-use mathlib.Core.Bool.{not}
 use lib.Dec.{T, lit<}
 use lib.Pow.{pow-pos}
-use lib.Ieee.{Float, nan, inf, fin, binary64, fits, isNan, ofBits, toBits}
+use lib.Ieee.{Float, binary64, fits, ofBits, toBits}
 use lib.Ieee.Bits.{ofBits-toBits}
 use Rattle.measures.specs.Exact.{exponentOf, fractionOf, magnitude, Exact1024, Exact}
 

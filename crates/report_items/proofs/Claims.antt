@@ -15,7 +15,7 @@ use Rattle.pairs.specs.Pairs.{Pair, pairsIn, findIn, isFound}
 use Rattle.reports.specs.declared.Report.{Report}
 use Rattle.reports.specs.Altitude.{AltitudeForm, signMagnitude}
 use Rattle.reports.specs.Kinds.{kindOf, kindNumber, dabsKind, atcrbsKind}
-use Rattle.reports.specs.Layouts.{Fits, Takes}
+use Rattle.reports.specs.Layouts.{Takes}
 use Rattle.reports.proofs.Demand2.{takes-fits}
 use Rattle.report_items.specs.declared.items.Item.{Item}
 use Rattle.report_items.specs.declared.items.Item.the-variants as I

@@ -1,11 +1,11 @@
 -- The claims of specs/Claims.antt, each by going through the rows. Assumes nothing.
 use Prim.Native.Nat.{ℕ}
 use mathlib.Core.Bool.{Bool, true, false, cond}
-use mathlib.Core.List.{List, [], _∷_, _++_}
-use mathlib.Core.Logic.{_↔_, _⊎_, inl, inr, ⊎-elim}
+use mathlib.Core.List.{List, [], _∷_}
+use mathlib.Core.Logic.{_⊎_, inl, inr, ⊎-elim}
 use mathlib.Core.Path.{_≡_, refl, sym, ap, _∙_}
 use native.Mathlib.Omega.{arith}
-use Rattle.rows.specs.Rows.{Row, row, firstOf, each}
+use Rattle.rows.specs.Rows.{Row, firstOf}
 use Rattle.rows.specs.Claims.{FirstIs, NoneHolds, Refusing, RefusedExactly, AcceptedExactly, Joined, Each}
 
 -- what is accepted is no refusal

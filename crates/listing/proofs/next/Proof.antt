@@ -1,12 +1,10 @@
 -- `listing::next` meets its contract: its tests in their order, and then the outcome at the place. Assumes nothing.
 use Prim.Native.Nat.{_/_}
-use mathlib.Core.Path.{_≡_, refl, ap, sym, _∙_}
-use native.Mathlib.Omega.{arith}
+use mathlib.Core.Path.{refl, ap, sym, _∙_}
 use lib.ListN.{length}
-use Rattle.lines.specs.declared.Outcome.{Outcome}
 use Rattle.listing.specs.declared.Walk.{Walk}
 use Rattle.listing.specs.Letters.{text}
-use Rattle.listing.specs.Walking.{Says, Step, stepOn, Tells}
+use Rattle.listing.specs.Walking.{Says, stepOn}
 use Rattle.listing.proofs.Bounded.{within}
 use Rattle.listing.proofs.Telling.{tells, silent, tells-as, is-cramped, is-done, is-long, is-odd, is-beyond, is-over, is-more, is-read, roomy}
 use borrow.Author.Needs.{needs}

@@ -1,7 +1,6 @@
 -- `listing::say` meets its contract: the line for each kind of outcome. Assumes nothing.
 use Prim.Native.Nat.{ℕ, _+_, _-_}
-use mathlib.Core.Path.{_≡_, ap, sym, _∙_}
-use native.Mathlib.Omega.{arith}
+use mathlib.Core.Path.{ap, sym, _∙_}
 use Rattle.reports.specs.declared.kinds.Kind.{Kind}
 use Rattle.lines.specs.declared.What.{What}
 use Rattle.listing.specs.declared.Walk.{Walk}

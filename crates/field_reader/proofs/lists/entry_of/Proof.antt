@@ -1,6 +1,5 @@
 -- `field_reader::lists::entry_of` meets its contract. Assumes nothing.
-use mathlib.Core.Path.{subst, ap, _∙_, sym}
-use native.Mathlib.Omega.{arith}
+use mathlib.Core.Path.{subst, _∙_}
 use native.Mathlib.Nat.{lt-of-lt-of-le}
 use lib.Pow.{pow-mono}
 use borrow.Author.Tests.{eq-eqb, ne-eqb}

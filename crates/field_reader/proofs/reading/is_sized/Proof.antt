@@ -2,9 +2,9 @@
 use borrow.Author.Needs.{needs}
 use mathlib.Core.Path.{_∙_}
 use borrow.Author.Tests.{eq-eqb, ne-eqb}
-use Prim.Native.Nat.{_+_, _*_, _≤_}
+use Prim.Native.Nat.{_*_, _≤_}
 use native.Mathlib.Omega.{arith}
-use Rattle.fields.specs.Table.{countIn, sizeIn}
+use Rattle.fields.specs.Table.{sizeIn}
 use Rattle.fields.specs.Reading.{sizedBy}
 use Rattle.fields.proofs.Rows.{count-small, count-whole}
 use Rattle.fields.proofs.Entries.{product}

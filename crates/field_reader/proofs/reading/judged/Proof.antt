@@ -1,16 +1,11 @@
 -- `field_reader::reading::judged` meets its contract: spares before values, values before blocks. Assumes nothing.
 use borrow.Author.Needs.{needs}
 use mathlib.Core.Path.{_≡_, sym, ap, _∙_}
-use mathlib.Core.Bool.{Bool}
-use mathlib.Core.List.{List}
-use Prim.Native.Nat.{ℕ, _+_, _≤_}
 use native.Mathlib.Omega.{arith}
-use native.Mathlib.Nat.{le-trans}
-use lib.ListN.{replicate}
 use Rattle.fields.specs.declared.Faults.{Faults}
-use Rattle.fields.specs.Table.{rulesAt, hasFault, valuesOf}
+use Rattle.fields.specs.Table.{rulesAt, hasFault}
 use Rattle.fields.specs.Lists.{anyUnused}
-use Rattle.fields.specs.Reading.{blockCount, blocksBy}
+use Rattle.fields.specs.Reading.{blocksBy}
 use Rattle.field_reader.specs.Steps.{judgedBy}
 use Rattle.fields.proofs.Rows.{block-count-small}
 use Rattle.fields.proofs.Values.{within-quiet}

@@ -1,11 +1,11 @@
 -- `field_reader::reading::list_in` meets its contract: an ELM has no list, and the other steps are entries. Assumes nothing.
 use borrow.Author.Needs.{needs}
 use borrow.Author.Tests.{eq-eqb, ne-eqb}
-use mathlib.Core.Path.{_≡_, refl, sym, ap, _∙_}
-use Prim.Native.Nat.{ℕ, _≤_, _<_}
+use mathlib.Core.Path.{_≡_, sym, ap, _∙_}
+use Prim.Native.Nat.{_≤_, _<_}
 use native.Mathlib.Omega.{arith}
 use Rattle.fields.specs.declared.Row.{Row}
-use Rattle.fields.specs.Table.{placeOf, rowAt, widthsAt, valuesOf, countIn, RowSmall}
+use Rattle.fields.specs.Table.{placeOf, widthsAt, valuesOf, RowSmall}
 use Rattle.fields.specs.Lists.{entriesIn}
 use Rattle.fields.specs.Reading.{typeOf, listIn, listedBy}
 use Rattle.fields.proofs.Rows.{found-within, first-width, row-base, row-step, row-small, values-fit, widths-narrow, widths-taper, count-whole}

@@ -1,6 +1,6 @@
 -- `field_reader::reading::list_of` meets its contract. Assumes nothing.
 use borrow.Author.Needs.{needs}
-use mathlib.Core.Path.{_≡_, refl, sym, ap, _∙_}
+use mathlib.Core.Path.{sym, ap, _∙_}
 use Rattle.fields.specs.Table.{valuesOf}
 use Rattle.fields.specs.declared.Answer.the-variants.{Accepted}
 use Rattle.fields.specs.Reading.{listOf}

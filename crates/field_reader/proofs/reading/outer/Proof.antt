@@ -1,7 +1,7 @@
 -- `field_reader::reading::outer` meets its contract. Assumes nothing.
 use borrow.Author.Needs.{needs}
 use borrow.Author.Tests.{eq-eqb, ne-eqb, lt-ltb, le-ltb}
-use mathlib.Core.Path.{_≡_, sym, ap, _∙_}
+use mathlib.Core.Path.{_∙_}
 use native.Mathlib.Omega.{arith}
 use Rattle.bits.proofs.Laws.{whole}
 use Rattle.fields.specs.Reading.{countOutOfRange, wrongByteCount, bitAfterCount}

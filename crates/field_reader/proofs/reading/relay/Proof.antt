@@ -1,8 +1,7 @@
 -- `field_reader::reading::relay` meets its contract: what the inner field is refused for is handed up. Assumes nothing.
 use borrow.Author.Needs.{needs}
-use mathlib.Core.Path.{_≡_, sym, ap, _∙_}
+use mathlib.Core.Path.{_∙_}
 use native.Mathlib.Omega.{arith}
-use Rattle.bits.specs.Bits.{bitsOf}
 use Rattle.bits.proofs.Laws.{whole}
 use Rattle.field_reader.proofs.reading.relay.Statement.{statement}
 use Rattle.field_reader.proofs.reading.relay.Tie as tie

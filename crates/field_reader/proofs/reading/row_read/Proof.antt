@@ -2,14 +2,11 @@
 use borrow.Author.Needs.{needs}
 use borrow.Author.Tests.{not-true, not-false}
 use mathlib.Core.Path.{_≡_, refl, sym, _∙_}
-use mathlib.Core.List.{List}
 use mathlib.Core.Bool.{true}
-use Prim.Native.Nat.{ℕ, _+_, _≤_}
 use native.Mathlib.Omega.{arith}
-use Rattle.fields.specs.declared.Row.{Row}
 use Rattle.fields.specs.Table.{rowAt, widthsAt, valuesOf, RowSmall}
 use Rattle.fields.specs.Reading.{sameWay, notRelayed, sizedBy}
-use Rattle.field_reader.specs.Steps.{judgedBy, rowRead}
+use Rattle.field_reader.specs.Steps.{rowRead}
 use Rattle.fields.proofs.Rows.{first-width, widths-narrow, widths-taper, row-small, rest-quiet, values-fit}
 use Rattle.field_reader.proofs.reading.row_read.Statement.{statement}
 use Rattle.field_reader.proofs.reading.row_read.Tie as tie

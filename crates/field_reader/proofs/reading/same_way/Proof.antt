@@ -1,5 +1,4 @@
 -- `field_reader::reading::same_way` meets its contract. Assumes nothing.
-use mathlib.Core.Path.{sym, ap, _∙_}
 use borrow.Author.Needs.{needs}
 use Rattle.fields.specs.Reading.{sameWay}
 use Rattle.field_reader.proofs.reading.same_way.Statement.{statement}

@@ -1,10 +1,8 @@
 -- `field_reader::reading::text` meets its contract: a part up to the end is all that is left. Assumes nothing.
 use borrow.Author.Needs.{needs}
 use mathlib.Core.Path.{_≡_, refl, sym, ap, _∙_}
-use mathlib.Core.List.{List}
-use Prim.Native.Nat.{ℕ, _≤_}
 use native.Mathlib.Omega.{arith}
-use lib.ListN.{length, drop, drop-of-length-le}
+use lib.ListN.{length, drop-of-length-le}
 use lib.Seq.{drop-length}
 use Rattle.fields.specs.Reading.{textOf, textPlace, answerOf}
 use Rattle.field_reader.proofs.Values.{rest-whole}

@@ -1,10 +1,9 @@
 -- `field_reader::reading::text_in` meets its contract. Assumes nothing.
 use borrow.Author.Needs.{needs}
 use borrow.Author.Tests.{eq-eqb, ne-eqb}
-use mathlib.Core.Path.{_≡_, sym, _∙_}
+use mathlib.Core.Path.{sym, _∙_}
 use Prim.Native.Nat.{_≤_}
 use native.Mathlib.Omega.{arith}
-use Rattle.fields.specs.Table.{rowAt}
 use Rattle.fields.specs.Reading.{textIn}
 use Rattle.fields.proofs.Rows.{found-within, row-base}
 use Rattle.field_reader.proofs.reading.text_in.Statement.{statement}

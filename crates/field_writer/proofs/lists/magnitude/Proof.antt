@@ -10,7 +10,6 @@ use mir.Syntax.{w32, w64}
 use mir.Val.{Fits, SFits, toZ, ofZ}
 use mir.Facts.{toZ-ofZ, sfits-toZ, fits-ofZ}
 use borrow.Author.Tests.{ltb-true}
-use borrow.Author.Needs.{needs}
 use Rattle.field_writer.proofs.lists.magnitude.Statement.{statement}
 use Rattle.field_writer.proofs.lists.magnitude.Tie as tie
 

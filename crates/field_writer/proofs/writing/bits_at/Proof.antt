@@ -1,13 +1,11 @@
 -- `field_writer::writing::bits_at` meets its contract: a row's numbers are small, so the sum fits. Assumes nothing.
 use borrow.Author.Needs.{needs}
-use mathlib.Core.Path.{_≡_, refl, sym, ap, _∙_, subst}
-use mathlib.Core.List.{List}
-use Prim.Native.Nat.{ℕ, _+_, _*_, _≤_}
+use mathlib.Core.Path.{_≡_, refl, ap, _∙_}
+use Prim.Native.Nat.{_*_, _≤_}
 use native.Mathlib.Omega.{arith}
-use Rattle.fields.specs.declared.Row.{Row}
-use Rattle.fields.specs.Table.{rowAt, countIn, sizeIn, RowSmall}
+use Rattle.fields.specs.Table.{sizeIn, RowSmall}
 use Rattle.fields.specs.Records.{numbersOf}
-use Rattle.fields.specs.Writing.{numbersIn, headBits}
+use Rattle.fields.specs.Writing.{numbersIn}
 use Rattle.fields.proofs.Rows.{count-small, count-whole}
 use Rattle.fields.proofs.Entries.{product}
 use Rattle.fields.proofs.Puts.{head-small}

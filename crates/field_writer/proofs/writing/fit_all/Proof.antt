@@ -1,9 +1,9 @@
 -- `field_writer::writing::fit_all` meets its contract: what the parts from i on say is what all of them say. Assumes nothing.
 use borrow.Author.Needs.{needs}
-use mathlib.Core.Path.{_≡_, refl, sym, ap, _∙_}
-use Prim.Native.Nat.{ℕ, _+_, _-_, _/_, _≤_, _<_, _^_}
+use mathlib.Core.Path.{_≡_, refl, sym, _∙_}
+use Prim.Native.Nat.{_-_, _≤_}
 use native.Mathlib.Omega.{arith}
-use lib.ListN.{length, drop, getD, drop-of-length-le}
+use lib.ListN.{length, drop, drop-of-length-le}
 use Rattle.fields.specs.Writing.{fitAll}
 use Rattle.field_writer.proofs.Puts.{fitAll-good, fitAll-bad, shifted-out, shifted-in}
 use Rattle.field_writer.proofs.writing.fit_all.Statement.{statement}

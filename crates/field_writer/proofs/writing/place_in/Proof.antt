@@ -1,6 +1,6 @@
 -- `field_writer::writing::place_in` meets its contract. Assumes nothing.
 use borrow.Author.Needs.{needs}
-use mathlib.Core.Path.{_≡_, sym, ap, _∙_}
+use mathlib.Core.Path.{ap, _∙_}
 use Rattle.fields.specs.Records.{numbersOf}
 use Rattle.field_writer.proofs.writing.place_in.Statement.{statement}
 use Rattle.field_writer.proofs.writing.place_in.Tie as tie

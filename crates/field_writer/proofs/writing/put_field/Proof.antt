@@ -1,17 +1,17 @@
 -- `field_writer::writing::put_field` meets its contract: the groups of parts one after the other are all the parts. Assumes nothing.
 use borrow.Author.Needs.{needs}
-use mathlib.Core.Path.{_≡_, refl, sym, ap, _∙_}
-use Prim.Native.Nat.{ℕ, _+_, _*_, _≤_}
+use mathlib.Core.Path.{_≡_, refl, ap, _∙_}
+use Prim.Native.Nat.{_*_, _≤_}
 use native.Mathlib.Omega.{arith}
 use lib.ListN.{length}
-use Rattle.fields.specs.Table.{rowAt, widthsAt, RowSmall}
+use Rattle.fields.specs.Table.{rowAt, RowSmall}
 use Rattle.fields.specs.Records.{numbersOf}
 use Rattle.fields.specs.Reading.{listed}
-use Rattle.fields.specs.Writing.{numbersIn, headBits, putField}
-use Rattle.fields.proofs.Rows.{widths-narrow, row-base}
+use Rattle.fields.specs.Writing.{numbersIn, putField}
+use Rattle.fields.proofs.Rows.{widths-narrow}
 use Rattle.fields.proofs.Entries.{product}
 use Rattle.fields.proofs.Puts.{listFits-room, head-small}
-use Rattle.fields.proofs.Taking.{Taken, taken, taken-small, text-small, listed-small, groups}
+use Rattle.fields.proofs.Taking.{Taken, taken, taken-small, text-small, groups}
 use Rattle.field_writer.proofs.writing.put_field.Statement.{statement}
 use Rattle.field_writer.proofs.writing.put_field.Tie as tie
 

@@ -1,10 +1,6 @@
 -- `field_writer::writing::put_head` meets its contract. Assumes nothing.
 use borrow.Author.Needs.{needs}
-use mathlib.Core.Path.{_≡_, refl, sym, ap, _∙_}
-use mathlib.Core.List.{List}
-use Prim.Native.Nat.{ℕ}
-use Rattle.fields.specs.declared.Record.{Record}
-use Rattle.fields.specs.Writing.{putAll, headWidths, headValues}
+use Rattle.fields.specs.Writing.{putAll}
 use Rattle.field_writer.proofs.writing.put_head.Statement.{statement}
 use Rattle.field_writer.proofs.writing.put_head.Tie as tie
 

@@ -1,9 +1,9 @@
 -- `field_writer::writing::put_text` meets its contract: what is left to write, written to the bytes of now, gives what is asked. Assumes nothing.
 use borrow.Author.Needs.{needs}
-use mathlib.Core.Path.{_≡_, refl, sym, ap, _∙_}
+use mathlib.Core.Path.{_≡_, refl, sym, _∙_}
 use Prim.Native.Nat.{ℕ, _+_, _-_, _*_, _≤_}
 use native.Mathlib.Omega.{arith}
-use lib.ListN.{length, drop, getD, replicate}
+use lib.ListN.{length, drop, replicate}
 use Rattle.bits.proofs.Laws.{length-putBits}
 use Rattle.fields.specs.Writing.{putAll}
 use Rattle.fields.proofs.Entries.{from-first}

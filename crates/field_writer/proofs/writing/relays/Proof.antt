@@ -1,7 +1,7 @@
 -- `field_writer::writing::relays` meets its contract. Assumes nothing.
 use borrow.Author.Needs.{needs}
-use borrow.Author.Tests.{eq-eqb, ne-eqb, lt-ltb, le-ltb}
-use mathlib.Core.Path.{_≡_, sym, ap, _∙_}
+use borrow.Author.Tests.{lt-ltb, le-ltb}
+use mathlib.Core.Path.{_≡_, sym, _∙_}
 use Rattle.fields.specs.Table.{rowAt}
 use Rattle.fields.specs.Reading.{fromSensor}
 use Rattle.fields.specs.Writing.{relaysAt}

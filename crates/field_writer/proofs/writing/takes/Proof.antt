@@ -2,13 +2,12 @@
 use borrow.Author.Needs.{needs}
 use borrow.Author.Tests.{not-true, not-false}
 use mathlib.Core.Path.{_≡_, refl, sym, ap, _∙_}
-use Prim.Native.Nat.{ℕ}
 use Rattle.fields.specs.declared.Faults.{Faults}
 use Rattle.fields.specs.Table.{rowAt, widthsAt, rulesAt, hasFault, RowSmall}
 use Rattle.fields.specs.Records.{numbersOf}
 use Rattle.fields.specs.Lists.{listFits}
 use Rattle.fields.specs.Reading.{listed}
-use Rattle.fields.specs.Writing.{numbersIn, headFits, fitAll, takesAt}
+use Rattle.fields.specs.Writing.{numbersIn, fitAll, takesAt}
 use Rattle.fields.proofs.Rows.{widths-narrow, rest-quiet}
 use Rattle.fields.proofs.Values.{within-quiet}
 use Rattle.fields.proofs.Taking.{fit-numbers, taken-small}

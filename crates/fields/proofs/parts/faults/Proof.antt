@@ -1,8 +1,8 @@
 -- `fields::parts::faults` meets its contract: what was seen before i or is found from i on is what all parts say. Assumes nothing.
 use borrow.Author.Needs.{needs}
 use mathlib.Core.Path.{_≡_, refl, sym, ap, _∙_}
-use mathlib.Core.Bool.{Bool, _||_}
-use Prim.Native.Nat.{ℕ, _-_, _≤_}
+use mathlib.Core.Bool.{_||_}
+use Prim.Native.Nat.{_-_, _≤_}
 use native.Mathlib.Omega.{arith}
 use Rattle.fields.specs.declared.Faults.{Faults}
 use Rattle.fields.specs.Steps.{faultWithin}

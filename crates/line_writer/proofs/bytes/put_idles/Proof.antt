@@ -7,7 +7,6 @@ use lib.Seq.{take-all}
 use Rattle.words.specs.Word.{idle}
 use Rattle.lines.specs.Bytes.{bytesOf}
 use Rattle.line_writer.proofs.Leaves.{pair-more}
-use borrow.Author.Needs.{needs}
 use native.Mathlib.Omega.{arith}
 use Rattle.line_writer.proofs.bytes.put_idles.Statement.{statement}
 use Rattle.line_writer.proofs.bytes.put_idles.Tie as tie

@@ -1,5 +1,5 @@
 -- The cycle of `listing::letters::put_decimal`: all digits but the last, then the last; the number falls. Assumes nothing.
-use mathlib.Core.Path.{_≡_, ap, sym, _∙_}
+use mathlib.Core.Path.{_∙_}
 use native.Mathlib.Omega.{arith}
 use lib.ListN.{length-set}
 use borrow.Author.Needs.{needs}
