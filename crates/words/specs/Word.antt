@@ -35,10 +35,6 @@ even w = not (odd w)
 abbrev pub dataBits : ℕ → ℕ
 dataBits w = w / 2
 
--- bit 13
-abbrev pub parityBit : ℕ → ℕ
-parityBit w = w % 2
-
 -- the word of its data bits: bit 13 is one where their number of ones is even
 abbrev pub wordOf : ℕ → ℕ
 wordOf d = d * 2 + (1 - ones d % 2)

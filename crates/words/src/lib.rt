@@ -1,8 +1,8 @@
-// The 13-bit word of a line (document 01, "The line"): idle, tooWide, odd or even, its data bits and its parity bit.
+// The 13-bit word of a line (document 01, "The line"): idle, too wide, odd or even, and the word of its data bits.
 // Every function takes every u16. Relies on nothing; specs/Word.antt says what each answer means.
 ghost use mathlib.Core.Path.{_≡_};
 ghost use lib.Dec.{eqb};
-ghost use Rattle.words.specs.Word.{idle, tooWide, odd, dataBits, parityBit, wordOf};
+ghost use Rattle.words.specs.Word.{idle, tooWide, odd, wordOf};
 
 pub mod weights; // weights.rt: the bits of a word by name
 
@@ -30,18 +30,6 @@ pub fn is_odd(w: u16) -> bool
     ensures { λ r. ⌜ r ≡ odd w ⌝ }
 {
     u16::count_ones(w) % 2 == 1
-}
-
-pub fn data_bits(w: u16) -> u16
-    ensures { λ r. ⌜ r ≡ dataBits w ⌝ }
-{
-    w / 2
-}
-
-pub fn parity_bit(w: u16) -> u16
-    ensures { λ r. ⌜ r ≡ parityBit w ⌝ }
-{
-    w % 2
 }
 
 // The word of any data. Data of more than twelve bits is not cut: it makes a number above LARGEST, so the answer is wider than a word.
