@@ -81,10 +81,10 @@ printed at =
 
 -- a field that begins behind the first so many bits and has the row's type: the way that the table has for it, the bits that it must have
 -- and its record are the row's
-abbrev pub wayAt : List ℕ → ℕ → Direction
+abbrev wayAt : List ℕ → ℕ → Direction
 wayAt s before = byPlace ToSensor (λ i. rowAt i .way) (placeOf (typeOf s before))
 
-abbrev pub totalAt : List ℕ → ℕ → ℕ
+abbrev totalAt : List ℕ → ℕ → ℕ
 totalAt s before = byPlace 0 (λ i. sizeIn (rowAt i) (valuesAt s before i)) (placeOf (typeOf s before))
 
 abbrev pub AllMeant : List ℕ → ℕ → List Row → Type 0
@@ -177,7 +177,7 @@ anySet [] = false
 anySet (x ∷ xs) = not (eqb x 0) || anySet xs
 
 -- a value of a part is not in use
-abbrev pub unusedAt : List ℕ → ℕ → Bool
+abbrev unusedAt : List ℕ → ℕ → Bool
 unusedAt s before = byPlace false (λ i. hasFault 2 (rulesAt i) (valuesAt s before i)) (placeOf (typeOf s before))
 
 abbrev pub AllRuled : List ℕ → ℕ → List Rule → Type 0

@@ -72,14 +72,14 @@ said (W.Accepted r) = report (kindOf r) r (countedOf r)
 said (W.Refused q) = refused (lineNumber q)
 said W.End = end
 
-abbrev pub callOf : Outcome → Call
+abbrev callOf : Outcome → Call
 callOf o = call (said (o .what)) (o .first) (o .after) (o .named)
 
-abbrev pub messageOf : Answer → List ℤ → List ℕ → Reply
+abbrev messageOf : Answer → List ℤ → List ℕ → Reply
 messageOf (A.Accepted r) l t = message r l t
 messageOf (A.Refused q) l t = refusal (fieldNumber q) l t
 
-abbrev pub answerTo : Input → Reply
+abbrev answerTo : Input → Reply
 answerTo (line ws) = calls (map callOf (outcomes (readRun signMagnitude) ws))
 answerTo (field s n w) = messageOf (readField s n w .answer) (readField s n w .list) (textOf s n w)
 

@@ -26,10 +26,10 @@ foundIn t n =
     cond (leb address n) (cond (getD (t .there) (n - address) false) (Value (getD (t .values) (n - address) 0)) Missing) Missing
 
 -- the value of part k, of parts with these items; 0 where it is not given
-abbrev pub partGiven : Gathered → List ℕ → ℕ → ℕ
+abbrev partGiven : Gathered → List ℕ → ℕ → ℕ
 partGiven t ks k = valueOf (foundIn t (getD ks k 0))
 
-abbrev pub fieldBy : Gathered → List ℕ → ℕ → Field
+abbrev fieldBy : Gathered → List ℕ → ℕ → Field
 fieldBy t ks i =
     fieldAt i (partGiven t ks 1) (partGiven t ks 2) (partGiven t ks 3) (partGiven t ks 4) (partGiven t ks 5) (partGiven t ks 6)
     (partGiven t ks 7) (partGiven t ks 8) (partGiven t ks 9) (partGiven t ks 10)

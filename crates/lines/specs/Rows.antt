@@ -16,7 +16,7 @@ runRows form first [] = []
 runRows form first (w ∷ ws) = each (placed first (length (w ∷ ws))) (tableOf form (w ∷ ws))
 
 -- of the run at a place, or behind the idle words there
-abbrev pub runRowsAt : AltitudeForm → List ℕ → ℕ → List (Row Outcome)
+abbrev runRowsAt : AltitudeForm → List ℕ → ℕ → List (Row Outcome)
 runRowsAt form line place = let rest = drop place line in runRows form (place + gap rest) (runIn rest)
 
 -- the reader of words: 2, 1, 3 to 9

@@ -50,7 +50,7 @@ stepOn n w o = stepFor n w (o .what) (o .first) (o .after) (o .named)
 
 -- a call's rows: a walk that is done says nothing; LONG and ODD are all that is said; a place beyond the line's end, or more words counted
 -- than lie before it, is no walk over this line
-abbrev pub stepRows : List ℕ → Walk → List (Row Step)
+abbrev stepRows : List ℕ → Walk → List (Row Step)
 stepRows bytes w =
     row (w .done) Ended
     ∷ row (ltb mostBytes (length bytes)) (Says (text "LONG\n") (closed w))

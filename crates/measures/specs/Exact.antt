@@ -5,7 +5,7 @@ use lib.Ieee.{Float, binary64, toBits}
 use Rattle.measures.specs.declared.Measured.{Measured}
 
 -- the three parts of a pattern of 64 bits: bit 63, bits 62 to 52, bits 51 to 0
-abbrev pub signOf : ℕ → ℕ
+abbrev signOf : ℕ → ℕ
 signOf b = b / 2 ^ 63
 
 abbrev pub exponentOf : ℕ → ℕ

@@ -32,7 +32,7 @@ dataOrMore fs = joined fs + 4096 * overrunAll fs
 -- ---- all words
 
 -- the data of a word of a layout
-abbrev pub dataAt : List (List Field) → ℕ → ℕ
+abbrev dataAt : List (List Field) → ℕ → ℕ
 dataAt l k = dataOrMore (getD l k [])
 
 abbrev pub dataBy : List (List Field) → Data
