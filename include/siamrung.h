@@ -17,7 +17,7 @@
  * other slice that is passed to it.
  *
  * Versions. The numbers below keep their meaning: none is ever used for something else. siamrung_version grows with each change of the calls.
- * A call whose meaning changes under the same arguments gets a new name, so that an old program fails to build and never misreads.
+ * A call whose meaning changes under the same arguments gets a new name, so that an old program does not link with it.
  */
 #ifndef SIAMRUNG_H
 #define SIAMRUNG_H

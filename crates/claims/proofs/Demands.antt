@@ -62,6 +62,7 @@ given-exactly : GivenExactly
 given-exactly = record {
   reading-words = refused.reader-refuses;
   reading-bytes = refused.byte-reader-refuses;
+  places = refused.places-given;
   writing-words = refused.writer-refuses;
   writing-bytes = refused.byte-writer-refuses;
   reading-fields = exactly.refused-exactly;
@@ -98,6 +99,7 @@ meaning = record {
   form = reports.document-form;
   layouts = words.laid-out;
   of-twelve-bits = reports.twelve-bits-a-word;
+  of-four-or-seven = demand2.words-length;
   fields = fields.fields-mean;
   fields-by-bits = as-printed;
   no-other-type = only-printed;

@@ -18,7 +18,7 @@ use Rattle.fields.specs.declared.Field.{Field}
 use Rattle.fields.specs.Table.{table, rows, rowAt, placeFrom, placeOf, byPlace, widths, widthsAt, rules, rulesAt, valuesOf, hasFault, countIn, sizeIn}
 use Rattle.fields.specs.Records.{fieldOf, fieldAt}
 use Rattle.fields.specs.Reading.{valuesAt, typeOf, spareBitSet, listed, listedBy, listIn}
-use Rattle.claims.specs.Printed.{Row, printed, AllMeant, AsPrinted, OnlyPrinted, EntriesAsPrinted, Rule, ruled, anyOf, anySet, AllRuled, AllHaveRules, RulesAsPrinted}
+use Rattle.claims.specs.Printed.{PrintedType, printed, AllMeant, AsPrinted, OnlyPrinted, EntriesAsPrinted, Rule, ruled, anyOf, anySet, AllRuled, AllHaveRules, RulesAsPrinted}
 
 -- what the table says of a field of a type
 record Made : Type 0 where
@@ -33,10 +33,10 @@ made s a c = record {
   means = byPlace (fieldOf 0 (valuesAt s a 0)) (λ i. fieldOf i (valuesAt s a i)) (placeOf c);
 }
 
-abbrev said : Row → Made
+abbrev said : PrintedType → Made
 said x = record { way = x .way; total = x .total; means = x .means }
 
-all-meant : (s : List ℕ) (a : ℕ) (xs : List Row) → map (λ (x : Row). made s a (x .code)) xs ≡ map said xs → AllMeant s a xs
+all-meant : (s : List ℕ) (a : ℕ) (xs : List PrintedType) → map (λ (x : PrintedType). made s a (x .code)) xs ≡ map said xs → AllMeant s a xs
 all-meant s a [] e = tt
 all-meant s a (x ∷ xs) e =
     let q : made s a (x .code) ≡ said x = cc in (

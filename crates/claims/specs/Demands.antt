@@ -1,7 +1,7 @@
--- Demands 1 to 3 of the person that this converter is built for, sentence by sentence, in their order. The sentence stands above in their
--- words; the definition under it says it, by the written definitions and claims of the crates below, of every sound form of the altitude (document 01's is
--- one: `form` under MeanWhatIsPrinted) or of every form and every answer to a run. Demands, at the end, gathers them, and proofs/Demands.antt proves it as one
--- value. Statements only, with what they need to be said.
+-- The three demands on the converter, sentence by sentence, in their order. Each sentence stands in the user's own words; the definition under it
+-- says it, by the definitions and claims of the crates below. Where altitudes matter it is said for every sound altitude form; document 01's is
+-- one (`form` under MeanWhatIsPrinted). Demands, at the end, gathers all, and proofs/Demands.antt proves it as one value. Statements only, with
+-- what they need to be said.
 use Prim.Native.Nat.{ℕ, _+_, _-_, _/_, _%_, _≤_}
 use mathlib.Core.Path.{_≡_}
 use mathlib.Core.Bool.{true}
@@ -60,9 +60,9 @@ pub record WritesField (r : Record) (l : List ℤ) (t s : List ℕ) (answer : Wr
 
 -- "The reader and the writer take every input there is, of every length, damaged or not, and end. Nobody has to test a line before handing
 -- it in." That a call asks for nothing and returns is no claim here: the checker holds every function to it, and no public one has a
--- `requires`. They are wide::read and bytes::read of line_reader, wide::write, bytes::write and bytes::answer of line_writer, read and text of
--- field_reader's reading, and write of field_writer's writing. A reader's promise is an equation with a definition that answers every input; a writer's allows one answer and
--- one buffer at exit (words, bytes, fields). On a line and from a place that are taken, every outcome but the end goes on (onward), and a line of
+-- `requires`. They are wide::read and bytes::read of line_reader; wide::write, bytes::write and bytes::answer of line_writer; read, judge and text
+-- of field_reader's reading; write and answer of field_writer's writing. A reader's promise is an equation with a definition that answers every
+-- input; a writer's allows one answer and one buffer at exit (words, bytes, fields). On a line and from a place that are taken, every outcome but the end goes on (onward), and a line of
 -- n words is done within (n + 1) / 2 rounded down, plus one, calls (enough)
 pub record TakeEveryInputAndEnd : Type 0 where
   pub words : (form : AltitudeForm) (line : List ℕ) (place : ℕ) (r : Report) → AllowsOne (Writes form line place r)
@@ -95,6 +95,7 @@ pub record NoSkipWithoutAName : Type 0 where
 pub record GivenExactly : Type 0 where
   pub reading-words : lines.ReaderRefuses
   pub reading-bytes : lines.ByteReaderRefuses
+  pub places : lines.PlacesGiven
   pub writing-words : lines.WriterRefuses
   pub writing-bytes : lines.ByteWriterRefuses
   pub reading-fields : fields.RefusedExactly
@@ -120,13 +121,14 @@ Doubles Y.Nothing = Unit {0}
 -- "Reports and link data fields mean what FAA-RD-80-14, with its errata and the readings written in document 01, says they mean." What they
 -- mean is defined twice, by bit numbers as the tables print it and by the widths of what is written, and the two are one: a run is read as a
 -- report exactly when its words are the report's, and a field as a record exactly when its bytes are the record's. The bit numbers of reports
--- stand in reports/specs/Records.antt, the patterns that tell the form in Forms.antt, those of fields in Printed.antt. The weights of counts are the printed ones, a report's counts
--- have one range, azimuth and time in doubles, and the worked cases hold
+-- stand in reports/specs/Records.antt, the patterns that tell the form in Forms.antt, those of fields in Printed.antt. The weights of counts are
+-- the printed ones, a report's counts have one range, azimuth and time in doubles, and the worked cases hold
 pub record MeanWhatIsPrinted : Type 0 where
   pub runs : reports.Demand2
   pub form : reports.DocumentForm
   pub layouts : words.LaidOut
   pub of-twelve-bits : reports.TwelveBitsAWord
+  pub of-four-or-seven : reports.FourOrSeven
   pub fields : fields.FieldsMean
   pub fields-by-bits : AsPrinted
   pub no-other-type : OnlyPrinted

@@ -1,5 +1,6 @@
--- Every number by which an answer is named, of all components: no two answers share one, and 0 names none. A component that brings refusals of
--- its own gets a case here. Definitions and statements; proofs/Numbers.antt proves them.
+-- The numbers of all refusals, of every component, and of all kinds of report: no two share one, and none is 0. A component that brings refusals
+-- of its own gets a case here. (120 and 121, what is no report, are numbers of host; tests/header.rs compares them with these.) Definitions and
+-- statements; proofs/Numbers.antt proves them.
 use Prim.Native.Nat.{ℕ, _<_}
 use mathlib.Core.Path.{_≡_}
 use Rattle.refusals.specs.declared.LineRefusal.{LineRefusal}

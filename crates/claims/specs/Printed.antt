@@ -19,21 +19,21 @@ use Rattle.fields.specs.Lists.{blockOf}
 use Rattle.fields.specs.Reading.{typeOf, valuesAt, recordIn, listIn, spareBitSet}
 
 -- a type, the way it travels, how many bits a field of it has, and its record
-pub record Row : Type 0 where
+pub record PrintedType : Type 0 where
   pub code : ℕ
   pub way : Direction
   pub total : ℕ
   pub means : Field
 
-abbrev to : ℕ → ℕ → Field → Row
+abbrev to : ℕ → ℕ → Field → PrintedType
 to c n f = record { code = c; way = ToSensor; total = n; means = f }
 
-abbrev from : ℕ → ℕ → Field → Row
+abbrev from : ℕ → ℕ → Field → PrintedType
 from c n f = record { code = c; way = FromSensor; total = n; means = f }
 
 -- every type, where `at a b` are the bits a to b of the field, as document 01 numbers them; a record's parts stand in the order of its
 -- declaration
-abbrev pub printed : (ℕ → ℕ → ℕ) → List Row
+abbrev pub printed : (ℕ → ℕ → ℕ) → List PrintedType
 printed at =
     -- to the sensor: 21 tactical (address 9-32, number 33-36, P 37, EXP 38-40, text 41-96) 96
     to 0x21 96 (TacticalUplink (at 9 32) (at 33 36) (at 37 37) (at 38 40) (at 41 96))
@@ -87,7 +87,7 @@ wayAt s before = byPlace ToSensor (λ i. rowAt i .way) (placeOf (typeOf s before
 abbrev totalAt : List ℕ → ℕ → ℕ
 totalAt s before = byPlace 0 (λ i. sizeIn (rowAt i) (valuesAt s before i)) (placeOf (typeOf s before))
 
-abbrev pub AllMeant : List ℕ → ℕ → List Row → Type 0
+abbrev pub AllMeant : List ℕ → ℕ → List PrintedType → Type 0
 AllMeant s before [] = Unit {0}
 AllMeant s before (x ∷ rows) =
     (typeOf s before ≡ x .code → (wayAt s before ≡ x .way) × (totalAt s before ≡ x .total) × (recordIn s before ≡ x .means)) × AllMeant s before rows
@@ -98,7 +98,7 @@ AsPrinted = (s : List ℕ) → AllMeant s 0 (printed (λ a b. bits s a b)) × Al
 
 -- and no other type has a row: those of the table are the printed ones, in their order, and the relay's
 abbrev pub OnlyPrinted : Type 0
-OnlyPrinted = map (λ (x : known.Row). x .code) rows ≡ map (λ (x : Row). x .code) (printed (λ a b. 0)) ++ (0x03 ∷ [])
+OnlyPrinted = map (λ (x : known.Row). x .code) rows ≡ map (λ (x : PrintedType). x .code) (printed (λ a b. 0)) ++ (0x03 ∷ [])
 
 -- the list beside the record, entry k of it counted from 0: an altimeter block has 8 bits, an address or an identifier 24, and the first
 -- stands at bit 17. (No type that is relayed has a list.)
@@ -187,7 +187,7 @@ AllRuled s before (x ∷ rules) =
 
 -- every printed type has its rules
 abbrev pub AllHaveRules : Type 0
-AllHaveRules = map (λ (x : Rule). x .code) (ruled (λ a b. 0)) ≡ map (λ (x : Row). x .code) (printed (λ a b. 0))
+AllHaveRules = map (λ (x : Rule). x .code) (ruled (λ a b. 0)) ≡ map (λ (x : PrintedType). x .code) (printed (λ a b. 0))
 
 abbrev pub RulesAsPrinted : Type 0
 RulesAsPrinted = (s : List ℕ) → AllRuled s 0 (ruled (λ a b. bits s a b)) × AllRuled s 16 (ruled (λ a b. bits s (16 + a) (16 + b)))

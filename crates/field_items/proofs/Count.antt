@@ -141,7 +141,7 @@ pub both : (a b : Bool) → (a && b) ≡ true → (a ≡ true) × (b ≡ true)
 both true b e = (refl, e)
 both false b e = absurd (let z : _≡_ {A = ℕ} 0 1 = cc in omega arith)
 
--- what is told covers the items that the test says it covers
+-- what is gathered covers the items that the test says it covers
 pub covers-is : (ps qs : List Pair) → T (apart qs) → covers (gatheredFrom 201 ps) qs ≡ true → Covers ps qs
 unfolding findIn covers
 covers-is ps [] t e n v f = absurd (let z : _≡_ {A = ℕ} 0 1 = cc in omega arith)

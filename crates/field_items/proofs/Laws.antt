@@ -42,7 +42,7 @@ module _ (ks vs : List ℕ) (i : ℕ) (h : i < length ks) (l : i < length vs) wh
       go true = refl
       go false = rw (ne-eqb (getD ks i 0) n e) refl
 
-  -- what is told covers the parts from i on
+  -- what is gathered covers the parts from i on
   pub covers-step : (t : Gathered) →
       covers t (pairsBy (drop i ks) (drop i vs))
       ≡ (cond (eqb (getD ks i 0) 0) true (sameFound (foundIn t (getD ks i 0)) (Value (getD vs i 0))) && covers t (pairsBy (drop (i + 1) ks) (drop (i + 1) vs)))

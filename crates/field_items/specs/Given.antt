@@ -20,7 +20,7 @@ use Rattle.field_items.specs.Items.{address, sensor, itemsAt, itemsOf, i
 
 -- ---- the record that is made of the pairs given
 
--- what is told of the number n, of what is gathered from the first item on; nothing of what is no item
+-- what is gathered of the number n, of what is gathered from the first item on; nothing of what is no item
 unfoldable pub foundIn : Gathered → ℕ → Found
 foundIn t n =
     cond (leb address n) (cond (getD (t .there) (n - address) false) (Value (getD (t .values) (n - address) 0)) Missing) Missing

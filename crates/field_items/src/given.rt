@@ -1,6 +1,7 @@
 // What a C program gives: a type, its items as pairs of numbers, and a list of thirty numbers; and the record and the list that they are.
-// What the pairs tell is gathered once. The record is made of the items that its type has, by what is told of them; each of its items must be
-// told, and there must be as many pairs: so an item that is missing, foreign or given twice is found by one rule. What is no record becomes one that the writer refuses with 30.
+// The pairs are gathered once. The record is made of the items that its type has. Each of its items must be among the pairs, and there must be as
+// many pairs as items. So one rule finds an item that is missing, foreign or given twice. Where the items are no record, the answer is a record
+// that the writer refuses with 30.
 // Relies on fields for the records, pairs for what is given, items for the parts; specs/Given.antt says what each function gives.
 ghost use mathlib.Core.Path.{_≡_};
 ghost use Prim.Native.Nat.{_<_};
@@ -23,12 +24,12 @@ const FIRST: u64 = 201;
 
 // ---- the record
 
-// What is told of an item; nothing of a number that is none.
-fn found(told: Gathered, item: u64) -> Found
-    ensures { λ r. ⌜ r ≡ foundIn told item ⌝ }
+// What is gathered of an item; nothing of a number that is none.
+fn found(gathered: Gathered, item: u64) -> Found
+    ensures { λ r. ⌜ r ≡ foundIn gathered item ⌝ }
 {
-    let there = told.there;
-    let values = told.values;
+    let there = gathered.there;
+    let values = gathered.values;
     if item < FIRST {
         return Found::Missing;
     }
@@ -43,40 +44,40 @@ fn found(told: Gathered, item: u64) -> Found
     }
 }
 
-fn value(told: Gathered, item: u64) -> u64
-    ensures { λ r. ⌜ r ≡ valueOf (foundIn told item) ⌝ }
+fn value(gathered: Gathered, item: u64) -> u64
+    ensures { λ r. ⌜ r ≡ valueOf (foundIn gathered item) ⌝ }
 {
-    items::value(found(told, item))
+    items::value(found(gathered, item))
 }
 
-// The field of the type at place i, of what is told of its items.
-fn field_given(told: Gathered, i: usize) -> Field
+// The field of the type at place i, of what is gathered of its items.
+fn field_given(gathered: Gathered, i: usize) -> Field
     requires { ⌜ i < 22 ⌝ }
-    ensures { λ r. ⌜ r ≡ fieldGiven told i ⌝ }
+    ensures { λ r. ⌜ r ≡ fieldGiven gathered i ⌝ }
 {
     let k = items::items_at(i);
     records::field_at(
         i,
-        value(told, k[1]),
-        value(told, k[2]),
-        value(told, k[3]),
-        value(told, k[4]),
-        value(told, k[5]),
-        value(told, k[6]),
-        value(told, k[7]),
-        value(told, k[8]),
-        value(told, k[9]),
-        value(told, k[10]),
+        value(gathered, k[1]),
+        value(gathered, k[2]),
+        value(gathered, k[3]),
+        value(gathered, k[4]),
+        value(gathered, k[5]),
+        value(gathered, k[6]),
+        value(gathered, k[7]),
+        value(gathered, k[8]),
+        value(gathered, k[9]),
+        value(gathered, k[10]),
     )
 }
 
 // A sensor that is given makes a relay of it.
-fn record_given(told: Gathered, i: usize) -> Record
+fn record_given(gathered: Gathered, i: usize) -> Record
     requires { ⌜ i < 22 ⌝ }
-    ensures { λ r. ⌜ r ≡ recordGiven told i ⌝ }
+    ensures { λ r. ⌜ r ≡ recordGiven gathered i ⌝ }
 {
-    let f = field_given(told, i);
-    let s = found(told, items::SENSOR);
+    let f = field_given(gathered, i);
+    let s = found(gathered, items::SENSOR);
     match s {
         Found::Value(x) => Record::Relay {
             sensor: x,
@@ -88,35 +89,35 @@ fn record_given(told: Gathered, i: usize) -> Record
 
 // ---- the comparison
 
-// An item is told, with this value.
-fn tells(told: Gathered, item: u64, value: u64) -> bool
-    ensures { λ r. ⌜ r ≡ sameFound (foundIn told item) (Found.Value value) ⌝ }
+// An item is gathered, with this value.
+fn tells(gathered: Gathered, item: u64, value: u64) -> bool
+    ensures { λ r. ⌜ r ≡ sameFound (foundIn gathered item) (Found.Value value) ⌝ }
 {
-    let f = found(told, item);
+    let f = found(gathered, item);
     match f {
         Found::Value(x) => x == value,
         Found::Missing => false,
     }
 }
 
-// A part is no item, or is told with this value.
-fn tells_part(told: Gathered, item: u64, value: u64) -> bool
-    ensures { λ r. ⌜ r ≡ cond (eqb item 0) true (sameFound (foundIn told item) (Found.Value value)) ⌝ }
+// A part is no item, or is gathered with this value.
+fn tells_part(gathered: Gathered, item: u64, value: u64) -> bool
+    ensures { λ r. ⌜ r ≡ cond (eqb item 0) true (sameFound (foundIn gathered item) (Found.Value value)) ⌝ }
 {
     if item == 0 {
         true
     } else {
-        tells(told, item, value)
+        tells(gathered, item, value)
     }
 }
 
-// All of these parts that are items are told, with these values.
-fn tells_parts(told: Gathered, items: [u64; 11], v: [u64; 11]) -> bool
-    ensures { λ r. ⌜ r ≡ covers told (pairsBy items v) ⌝ }
+// All of these parts that are items are gathered, with these values.
+fn tells_parts(gathered: Gathered, items: [u64; 11], v: [u64; 11]) -> bool
+    ensures { λ r. ⌜ r ≡ covers gathered (pairsBy items v) ⌝ }
 {
     let mut i: usize = 0;
     while i < 11 {
-        if tells_part(told, items[i], v[i]) {
+        if tells_part(gathered, items[i], v[i]) {
             i += 1;
         } else {
             return false;
@@ -125,25 +126,25 @@ fn tells_parts(told: Gathered, items: [u64; 11], v: [u64; 11]) -> bool
     true
 }
 
-fn tells_field(told: Gathered, f: Field) -> bool
-    ensures { λ r. ⌜ r ≡ covers told (fieldItems f) ⌝ }
+fn tells_field(gathered: Gathered, f: Field) -> bool
+    ensures { λ r. ⌜ r ≡ covers gathered (fieldItems f) ⌝ }
 {
     let v = records::numbers(f);
     let Place::At(i) = table::find(v[0]) else {
         return true;
     };
-    tells_parts(told, items::items_at(i), v)
+    tells_parts(gathered, items::items_at(i), v)
 }
 
-// Each of the record's items is told, with its value.
-fn tells_all(told: Gathered, r: Record) -> bool
-    ensures { λ b. ⌜ b ≡ covers told (itemsOf r) ⌝ }
+// Each of the record's items is gathered, with its value.
+fn tells_all(gathered: Gathered, r: Record) -> bool
+    ensures { λ b. ⌜ b ≡ covers gathered (itemsOf r) ⌝ }
 {
     match r {
-        Record::Single(f) => tells_field(told, f),
+        Record::Single(f) => tells_field(gathered, f),
         Record::Relay { sensor, inner } => {
-            if tells(told, items::SENSOR, sensor) {
-                tells_field(told, inner)
+            if tells(gathered, items::SENSOR, sensor) {
+                tells_field(gathered, inner)
             } else {
                 false
             }
@@ -152,8 +153,8 @@ fn tells_all(told: Gathered, r: Record) -> bool
 }
 
 // Of so many pairs what they tell are the items of this record, and the type is the record's.
-fn fits(code: u32, count: usize, told: Gathered, r: Record) -> bool
-    ensures { λ b. ⌜ b ≡ fits code count told r ⌝ }
+fn fits(code: u32, count: usize, gathered: Gathered, r: Record) -> bool
+    ensures { λ b. ⌜ b ≡ fits code count gathered r ⌝ }
 {
     if items::inner(r) != code {
         return false;
@@ -161,7 +162,7 @@ fn fits(code: u32, count: usize, told: Gathered, r: Record) -> bool
     if count != items::count_of(r) {
         return false;
     }
-    tells_all(told, r)
+    tells_all(gathered, r)
 }
 
 // A record that the writer refuses with 30, whatever list and text are given: state 0 is not in use.
@@ -171,12 +172,12 @@ fn unfit() -> Record
     Record::Single(Field::AtcFailure { state: 0 })
 }
 
-fn checked_by(code: u32, count: usize, told: Gathered, i: usize) -> Record
+fn checked_by(code: u32, count: usize, gathered: Gathered, i: usize) -> Record
     requires { ⌜ i < 22 ⌝ }
-    ensures { λ r. ⌜ r ≡ checkedBy code count told i ⌝ }
+    ensures { λ r. ⌜ r ≡ checkedBy code count gathered i ⌝ }
 {
-    let r = record_given(told, i);
-    if fits(code, count, told, r) {
+    let r = record_given(gathered, i);
+    if fits(code, count, gathered, r) {
         return r;
     }
     unfit()
@@ -191,19 +192,19 @@ fn checked(given: &[u8], code: u32, i: usize) -> Record
 }
 
 // The record of that type and these items, which goes with a list of thirty numbers.
-pub fn record_of(code: u32, told: &[u8], list: &[u8]) -> Record
-    ensures { λ r. ⌜ r ≡ given code (now (told .entry)) (now (list .entry)) ⌝ }
+pub fn record_of(code: u32, gathered: &[u8], list: &[u8]) -> Record
+    ensures { λ r. ⌜ r ≡ given code (now (gathered .entry)) (now (list .entry)) ⌝ }
 {
     if list.len() != 240 {
         return unfit();
     }
-    if !pairs::whole(told) {
+    if !pairs::whole(gathered) {
         return unfit();
     }
     let Place::At(i) = table::find(code as u64) else {
         return unfit();
     };
-    checked(told, code, i)
+    checked(gathered, code, i)
 }
 
 // ---- the list

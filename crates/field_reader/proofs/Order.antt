@@ -21,7 +21,7 @@ use Rattle.field_reader.specs.declared.Passed.{Passed}
 use Rattle.field_reader.specs.declared.Passed.the-variants as Q
 use Rattle.field_reader.specs.declared.Plain.{Plain}
 use Rattle.field_reader.specs.declared.Plain.the-variants as P
-use Rattle.field_reader.specs.Steps.{passed, outerOf, unlessRefused, plain, plainOf, unknownOf, judgedBy, rowRead, handed, answered, relayed, openedOf}
+use Rattle.field_reader.specs.Steps.{passed, outerOf, unlessRefused, asPlain, plainOf, unknownOf, judgedBy, rowRead, handed, answered, relayed, openedOf}
 
 -- the count and the bytes first, then the field
 pub outer-first : (s : List ℕ) (n : ℕ) (w : Direction) → answerOf s n w ≡ unlessRefused (openedOf s n w) (outerOf s n)
@@ -32,7 +32,7 @@ module _ (s : List ℕ) (n a : ℕ) (w : Direction) where
   -- the field before its record is made
   field-first : (k : Field → Record) → firstOf (fieldRows s n a w) (Accepted (k (recordIn s a))) ≡ handed k (plainOf s n a w)
   unfolding plainOf
-  field-first k = each-of Plain Answer (handed k) (each plain (fieldRows s n a w)) (P.Read (recordIn s a))
+  field-first k = each-of Plain Answer (handed k) (each asPlain (fieldRows s n a w)) (P.Read (recordIn s a))
 
   -- a type with no row is 23 or 24
   pub unplaced : placeOf (typeOf s a) ≡ Nowhere → plainOf s n a w ≡ P.Refused (unknownOf (typeOf s a))

@@ -1,9 +1,10 @@
--- What reading a field answers, by steps, as the code goes. proofs/Order.antt shows that it is what specs/Reading.antt of `fields` says.
--- Definitions only.
+-- What the private functions of the reader answer: parts of the rows of specs/Reading.antt of `fields`, and for a type that has a row the
+-- steps as the code goes. proofs/Order.antt shows that together they are what Reading.antt says. Definitions only; no promise of a public
+-- function names them.
 use Prim.Native.Nat.{ℕ}
 use mathlib.Core.List.{List, [], _∷_}
 use mathlib.Core.Bool.{cond, not, _||_}
-use Rattle.rows.specs.Rows.{Row, row, firstOf, each}
+use Rattle.rows.specs.Rows.{row, firstOf, each}
 use Rattle.refusals.specs.declared.FieldRefusal.{FieldRefusal}
 use Rattle.refusals.specs.declared.FieldRefusal.the-variants.{UnknownType, TypeNotCarried, WrongDirection, NotRelayed, WrongBitCount, SpareBitSet, ValueNotInUse}
 use Rattle.fields.specs.declared.Direction.{Direction}
@@ -39,12 +40,12 @@ unlessRefused x (Q.Refused r) = Refused r
 
 -- ---- a field, or that inside a relay
 
-abbrev pub plain : Answer → Plain
-plain (Accepted r) = P.Read (fieldIn r)
-plain (Refused r) = P.Refused r
+abbrev pub asPlain : Answer → Plain
+asPlain (Accepted r) = P.Read (fieldIn r)
+asPlain (Refused r) = P.Refused r
 
 unfoldable pub plainOf : List ℕ → ℕ → ℕ → Direction → Plain
-plainOf s n a w = firstOf (each plain (fieldRows s n a w)) (P.Read (recordIn s a))
+plainOf s n a w = firstOf (each asPlain (fieldRows s n a w)) (P.Read (recordIn s a))
 
 -- a type that has no row in the table
 abbrev pub unknownOf : ℕ → FieldRefusal

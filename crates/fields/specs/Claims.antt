@@ -1,4 +1,4 @@
--- What is claimed of link data fields. Statements only; proofs/Claims.antt proves them.
+-- What is claimed of link data fields. Statements only; proofs/Claims.antt and Exactly.antt prove them.
 use Prim.Native.Nat.{ℕ, _+_, _*_, _/_, _≤_, _<_}
 use mathlib.Core.Path.{_≡_}
 use mathlib.Core.Bool.{true, false}
@@ -45,7 +45,7 @@ WrittenExactly =
 abbrev pub RefusedUntouched : Type 0
 RefusedUntouched = (r : Record) (l : List ℤ) (t s : List ℕ) (x : FieldRefusal) → writtenOf r l t s ≡ W.Refused x → leftOf r l t s ≡ s
 
--- ---- demand 2, its three parts
+-- ---- demand 2
 
 -- values that fit their widths, written as parts, read back
 abbrev pub PartsRead : Type 0

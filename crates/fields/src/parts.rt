@@ -1,5 +1,5 @@
 // The parts of a field by the table's rules: their faults, and what the counted ones say.
-// Relies on the table; specs/Table.antt says what each function means.
+// Relies on the table; specs/Table.antt and specs/Steps.antt say what each function means.
 ghost use mathlib.Core.Path.{_≡_};
 ghost use mathlib.Core.Bool.{_||_};
 ghost use lib.Dec.{eqb};

@@ -49,12 +49,13 @@ runWords line run = take (run .after - run .first) (drop (run .first) line)
 
 -- ---- the answer
 
--- to n words whose first is at a place and which begin with ws, where w is the offset of the first tooWide one and e that of the first one with a
--- fault, n where there is none; no words: the end
+-- The answer to a run of n words that begin with ws. Its first word stands at the place; w is the offset of the first word that is too wide, and e
+-- that of the first word with a fault (n where there is none). Where the run has no words: the end
 abbrev pub answerAt : AltitudeForm → ℕ → ℕ → ℕ → ℕ → List ℕ → Outcome
 answerAt form place n w e ws = cond (eqb n 0) (endOf place) (placed place n (judged form ws n w e))
 
--- to a run that begins with these words. A run with a word that is too wide is refused for it, so its first fault does for its first even word
+-- The answer to a run that begins with these words. Where a word is too wide, 3 answers before 4 is asked, so the first fault is handed on as the
+-- first even word
 abbrev pub answered : AltitudeForm → Places → List ℕ → Outcome
 answered form run ws =
     answerAt form (run .first) (run .after - run .first) (run .«too_wide» - run .first) (run .fault - run .first) ws

@@ -53,8 +53,8 @@ fn seek(bytes: &[u8], from: usize, to: usize, stop: Stop) -> usize
     i
 }
 
-// The places of the run at a place, or behind the idle words there. The words in front of the first fault are looked at once, those behind it
-// at most twice. Where there is no fault the last search has no word to look at.
+// The places of the run at a place, or behind the idle words there. One search passes the words in front of the first fault, two pass those
+// behind it. Where there is no fault the last search has no word to look at.
 fn places(bytes: &[u8], place: usize) -> Places
     requires { ⌜ place ≤ length (wordsIn (now bytes)) ⌝ }
     ensures { λ r. ⌜ RunPlaces (wordsIn (now (bytes .entry))) place r ⌝ }

@@ -13,8 +13,8 @@ use lines::What;
 use refusals::LineRefusal;
 use reports::RunAnswer;
 
-// What a search along the words of a line stops at. A fault is a word that is too wide or an even one; an idle word is even, so a search for a fault needs
-// no test of its own to stop at the end of the run.
+// What a search along the words of a line stops at. A fault is a word that is too wide or an even one. An idle word is even, so a search for a
+// fault needs no test of its own to stop at the end of the run.
 pub enum Stop {
     NotIdle,
     Fault,
@@ -22,8 +22,8 @@ pub enum Stop {
     TooWide,
 }
 
-// The places that decide the answer to a run: of its first word, of its first word with a fault, of its first word that is too wide, and the place after
-// its last word. Where no word has the fault, that place is the place after.
+// The places that decide the answer to a run: of its first word, of its first word with a fault, of its first word that is too wide, and the
+// place after its last word. Where no word has the fault, that place is the place after.
 pub struct Places {
     pub first: usize,
     pub fault: usize,
@@ -71,7 +71,8 @@ fn set_at(first: usize, n: usize, answer: RunAnswer) -> Outcome
 }
 
 impl Places {
-    // The answer to the run, whose first seven words are handed in, with 0 for those past its end; the end where it has no word.
+    // The answer to the run, whose first seven words are handed in, with 0 for those past its end; the end where it has no word. Where the run
+    // has a fault its words do not matter.
     pub fn answer(self, a: u16, b: u16, c: u16, d: u16, e: u16, f: u16, g: u16) -> Outcome
         requires { ⌜ (self .first ≤ self .fault) × (self .fault ≤ self .«too_wide») × (self .«too_wide» ≤ self .after) ⌝ }
         ensures { λ r. ⌜ r ≡ answered signMagnitude self (a ∷ b ∷ c ∷ d ∷ e ∷ f ∷ g ∷ []) ⌝ }

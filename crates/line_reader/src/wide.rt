@@ -38,8 +38,8 @@ fn seek(line: &[u16], from: usize, to: usize, stop: Stop) -> usize
     i
 }
 
-// The places of the run at a place, or behind the idle words there. The words in front of the first fault are looked at once, those behind it
-// at most twice. Where there is no fault the last search has no word to look at.
+// The places of the run at a place, or behind the idle words there. One search passes the words in front of the first fault, two pass those
+// behind it. Where there is no fault the last search has no word to look at.
 fn places(line: &[u16], place: usize) -> Places
     requires { ⌜ place ≤ length (now line) ⌝ }
     ensures { λ r. ⌜ RunPlaces (now (line .entry)) place r ⌝ }

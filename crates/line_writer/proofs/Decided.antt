@@ -22,7 +22,7 @@ use Rattle.lines.specs.declared.Wrote.{Wrote}
 use Rattle.lines.specs.declared.Wrote.the-variants as W
 use Rattle.lines.specs.Line.{most}
 use Rattle.lines.specs.Bytes.{mostBytes, wordsIn}
-use Rattle.lines.specs.Writing.{placeRows, placeAfter, writeAt, Writes}
+use Rattle.lines.specs.Writing.{placeRows, wroteAfter, writeAt, Writes}
 use Rattle.lines.specs.ByteWriting.{writeBytes, WritesBytes}
 use Rattle.lines.proofs.ByteWords as bytes
 use Rattle.line_writer.specs.Deciding.{room, roomFor, decided, wideAnswer, byteAnswer, Puts, PutsBytes}
@@ -66,7 +66,7 @@ handed-words form r m e h =
 
 -- ---- the answer by rows
 
-decided-rows : (form : AltitudeForm) (n place : ℕ) (r : Report) → decided n place (written form r) ≡ firstOf (placeRows form n place r) (placeAfter form place r)
+decided-rows : (form : AltitudeForm) (n place : ℕ) (r : Report) → decided n place (written form r) ≡ firstOf (placeRows form n place r) (wroteAfter form place r)
 unfolding decided
 decided-rows form n place r = ap (cond (ltb n place) (W.Refused PlaceBeyondLine place)) (go (takes form r) refl)
   where

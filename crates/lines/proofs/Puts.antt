@@ -19,7 +19,7 @@ use Rattle.lines.specs.declared.Wrote.{Wrote}
 use Rattle.lines.specs.declared.Wrote.the-variants as W
 use Rattle.lines.specs.Line.{most}
 use Rattle.lines.specs.Bytes.{mostBytes, wordsIn}
-use Rattle.lines.specs.Writing.{placeRows, placeAfter, writeAt}
+use Rattle.lines.specs.Writing.{placeRows, wroteAfter, writeAt}
 use Rattle.lines.specs.ByteWriting.{writeBytes}
 use Rattle.lines.specs.Claims.{put}
 use Rattle.words.proofs.Tests.{picked, passed, by-test, holds}
@@ -48,9 +48,9 @@ put-put line place ws vs h =
 abbrev Cases : AltitudeForm → ℕ → ℕ → Report → Wrote → Type 0
 Cases form n place r w =
     ((q : LineRefusal) × (w ≡ W.Refused q place))
-    ⊎ (Takes form r × (place ≤ n) × (length (wordsOf form r) < n - place) × (w ≡ placeAfter form place r))
+    ⊎ (Takes form r × (place ≤ n) × (length (wordsOf form r) < n - place) × (w ≡ wroteAfter form place r))
 
-place-cases : (form : AltitudeForm) (n place : ℕ) (r : Report) → Cases form n place r (firstOf (placeRows form n place r) (placeAfter form place r))
+place-cases : (form : AltitudeForm) (n place : ℕ) (r : Report) → Cases form n place r (firstOf (placeRows form n place r) (wroteAfter form place r))
 place-cases form n place r =
     let k = length (wordsOf form r) in
     by-test (ltb n place) (λ b. inl (PlaceBeyondLine, picked _ _ b))

@@ -19,10 +19,10 @@ use Rattle.lines.specs.declared.Wrote.{Wrote}
 use Rattle.lines.specs.declared.Wrote.the-variants as P
 use Rattle.lines.specs.Line.{isRefusal, placed, gap, runIn, outcomeAt, lineRows, readBy}
 use Rattle.lines.specs.Bytes.{wordsIn, byteRows, readBytes}
-use Rattle.lines.specs.Writing.{writerRows, placeAfter, writeAt}
+use Rattle.lines.specs.Writing.{writerRows, wroteAfter, writeAt}
 use Rattle.lines.specs.ByteWriting.{byteWriterRows, writeBytes}
 use Rattle.lines.specs.Rows.{runRows}
-use Rattle.lines.specs.Claims.{ReaderRefuses, ByteReaderRefuses, WriterRefuses, ByteWriterRefuses}
+use Rattle.lines.specs.Claims.{ReaderRefuses, ByteReaderRefuses, PlacesGiven, WriterRefuses, ByteWriterRefuses}
 
 -- ---- the readers: their own rows, and behind them those of the run
 
@@ -58,6 +58,9 @@ unfolding readBytes
 byte-reader-refuses form bytes place =
     let rest = drop place (wordsIn bytes) in reads (byteRows bytes place) form (length (wordsIn bytes)) (place + gap rest) (runIn rest)
 
+pub places-given : PlacesGiven
+places-given = record { refused-run = λ first n o q. refl; report = λ first n r. refl; not-taken = λ q place. refl }
+
 -- ---- the writers
 
 abbrev wrote : Wrote → Bool
@@ -66,9 +69,9 @@ wrote (P.Refused q p) = false
 
 pub writer-refuses : WriterRefuses
 unfolding writeAt
-writer-refuses form line place r q p = law.refused-exactly Wrote wrote (writerRows form line place r) (placeAfter form place r) (P.Refused q p) refl refl
+writer-refuses form line place r q p = law.refused-exactly Wrote wrote (writerRows form line place r) (wroteAfter form place r) (P.Refused q p) refl refl
 
 pub byte-writer-refuses : ByteWriterRefuses
 unfolding writeBytes
 byte-writer-refuses form bytes place r q p =
-    law.refused-exactly Wrote wrote (byteWriterRows form bytes place r) (placeAfter form place r) (P.Refused q p) refl refl
+    law.refused-exactly Wrote wrote (byteWriterRows form bytes place r) (wroteAfter form place r) (P.Refused q p) refl refl

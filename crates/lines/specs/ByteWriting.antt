@@ -13,7 +13,7 @@ use Rattle.reports.specs.Layouts.{wordsOf}
 use Rattle.lines.specs.declared.Wrote.{Wrote}
 use Rattle.lines.specs.declared.Wrote.the-variants as W
 use Rattle.lines.specs.Bytes.{mostBytes, wordsIn, bytesOf}
-use Rattle.lines.specs.Writing.{placeRows, placeAfter}
+use Rattle.lines.specs.Writing.{placeRows, wroteAfter}
 
 -- the writer's rows: 2, 14, then 1, 11 and 10
 abbrev pub byteWriterRows : AltitudeForm → List ℕ → ℕ → Report → List (Row Wrote)
@@ -24,7 +24,7 @@ byteWriterRows form bytes place r =
 
 -- the writer's answer
 unfoldable pub writeBytes : AltitudeForm → List ℕ → ℕ → Report → Wrote
-writeBytes form bytes place r = firstOf (byteWriterRows form bytes place r) (placeAfter form place r)
+writeBytes form bytes place r = firstOf (byteWriterRows form bytes place r) (wroteAfter form place r)
 
 -- the bytes that a call leaves: what stood before the place, the words' bytes, the idle word's, what stood behind; refused, nothing has
 -- changed

@@ -25,7 +25,7 @@ unfoldable pub bytesOf : List ℕ → List ℕ
 bytesOf [] = []
 bytesOf (w ∷ ws) = w / 256 % 256 ∷ w % 256 ∷ bytesOf ws
 
--- the reader's own rows: 2, 14, then 1
+-- the rows of the line and the place: 2, 14, then 1
 abbrev pub byteRows : List ℕ → ℕ → List (Row Outcome)
 byteRows bytes place =
     row (ltb mostBytes (length bytes)) (notTaken LineTooLong place)
@@ -33,6 +33,6 @@ byteRows bytes place =
     ∷ beyond (length (wordsIn bytes)) place
     ∷ []
 
--- the reader: its own rows, and where none holds, what the run gets on the line of the words that the bytes hold
+-- the reader: these rows, and where none holds, what the run gets on the line of the words that the bytes hold
 unfoldable pub readBytes : AltitudeForm → List ℕ → ℕ → Outcome
 readBytes form bytes place = firstOf (byteRows bytes place) (runAt (readRun form) (wordsIn bytes) place)

@@ -24,7 +24,7 @@ use Rattle.lines.specs.declared.What.{What}
 use Rattle.lines.specs.declared.What.the-variants as W
 use Rattle.lines.specs.declared.Outcome.{Outcome}
 use Rattle.lines.specs.declared.Wrote.the-variants as P
-use Rattle.lines.specs.Line.{most, outcomeOf, endOf, isReport, isRefusal, isEnd, readBy, readAt, calls, outcomes}
+use Rattle.lines.specs.Line.{most, outcomeOf, endOf, notTaken, placed, isReport, isRefusal, isEnd, readBy, readAt, calls, outcomes}
 use Rattle.lines.specs.Bytes.{mostBytes, wordsIn, readBytes}
 use Rattle.lines.specs.ByteWriting.{byteWriterRows, writeBytes, bytesLeft}
 use Rattle.lines.specs.Stretches.{Run, runs, idleWords, reportedWords, refusedWords}
@@ -58,6 +58,13 @@ abbrev pub ByteWriterRefuses : Type 0
 ByteWriterRefuses =
     (form : AltitudeForm) (bytes : List ℕ) (place : ℕ) (r : Report) (q : LineRefusal) (p : ℕ)
     → (writeBytes form bytes place r ≡ P.Refused q p) ↔ FirstIs (byteWriterRows form bytes place r) (P.Refused q p)
+
+-- and these are the places: of a run the place of its first word, the place after its last, and the word that is named, at the refusal's
+-- offset or, of a report, its first; of a line or a place that is not taken the caller's place three times
+pub record PlacesGiven : Type 0 where
+  pub refused-run : (first n o : ℕ) (q : LineRefusal) → placed first n (A.Refused q o) ≡ outcomeOf (W.Refused q) first (first + n) (first + o)
+  pub report : (first n : ℕ) (r : Report) → placed first n (A.Accepted r) ≡ outcomeOf (W.Accepted r) first (first + n) (first + 0)
+  pub not-taken : (q : LineRefusal) (place : ℕ) → notTaken q place ≡ outcomeOf (W.Refused q) place place place
 
 -- ---- demand 1: the calls come to an end (proofs/Outcomes.antt)
 

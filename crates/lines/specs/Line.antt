@@ -87,11 +87,11 @@ runAt answer line place = let rest = drop place line in outcomeAt answer (length
 abbrev pub beyond : ℕ → ℕ → Row Outcome
 beyond n place = row (ltb n place) (notTaken PlaceBeyondLine place)
 
--- the reader's own rows: 2, then 1
+-- the rows of the line and the place: 2, then 1
 abbrev pub lineRows : List ℕ → ℕ → List (Row Outcome)
 lineRows line place = row (ltb most (length line)) (notTaken LineTooLong place) ∷ beyond (length line) place ∷ []
 
--- the reader: its own rows, and where none holds, what the run gets
+-- the reader: these rows, and where none holds, what the run gets
 unfoldable pub readBy : (List ℕ → RunAnswer) → List ℕ → ℕ → Outcome
 readBy answer line place = firstOf (lineRows line place) (runAt answer line place)
 

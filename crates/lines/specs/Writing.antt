@@ -30,12 +30,12 @@ abbrev pub writerRows : AltitudeForm → List ℕ → ℕ → Report → List (R
 writerRows form line place r = row (ltb most (length line)) (W.Refused LineTooLong place) ∷ placeRows form (length line) place r
 
 -- the place after a report's words and one idle word
-abbrev pub placeAfter : AltitudeForm → ℕ → Report → Wrote
-placeAfter form place r = W.Next (place + length (wordsOf form r) + 1)
+abbrev pub wroteAfter : AltitudeForm → ℕ → Report → Wrote
+wroteAfter form place r = W.Next (place + length (wordsOf form r) + 1)
 
 -- the writer's answer
 unfoldable pub writeAt : AltitudeForm → List ℕ → ℕ → Report → Wrote
-writeAt form line place r = firstOf (writerRows form line place r) (placeAfter form place r)
+writeAt form line place r = firstOf (writerRows form line place r) (wroteAfter form place r)
 
 -- the line that a call leaves: what stood before the place, the words, the idle word, what stood behind; refused, nothing has changed
 abbrev pub leftBy : Wrote → List ℕ → ℕ → List ℕ → List ℕ

@@ -14,7 +14,7 @@ use Rattle.listing.specs.declared.Walk.{Walk}
 use Rattle.listing.specs.declared.Piece.{Piece}
 use Rattle.listing.specs.declared.Piece.the-variants as P
 use Rattle.listing.specs.Letters.{text, Put}
-use Rattle.listing.specs.Listing.{form}
+use Rattle.listing.specs.Listing.{listerForm}
 use Rattle.listing.specs.Walking.{closed, Step, Says, Ended, Astray, Cramped, stepOn, stepAt, stepIn, said, answered, Tells}
 use Rattle.listing.proofs.Putting.{from-start}
 
@@ -90,14 +90,14 @@ module _ (bytes : List ℕ) (w : Walk) (n : ℕ) (d : w .done ≡ false) (s : le
       ∙ picked _ _ (lt-ltb (w .place - w .reported) (w .refused) h)
 
   pub is-read : w .place ≤ n → w .reported ≤ w .place → w .refused ≤ w .place - w .reported
-      → stepAt bytes w ≡ stepOn n w (readBytes form bytes (w .place))
+      → stepAt bytes w ≡ stepOn n w (readBytes listerForm bytes (w .place))
   unfolding stepAt
   is-read a b c =
       passed _ _ d ∙ passed _ _ (le-ltb mostBytes (length bytes) s) ∙ passed _ _ (ne-eqb (length bytes % 2) 1 e)
       ∙ passed _ _ (le-ltb (length (wordsIn bytes)) (w .place) (let k = words-are in omega arith))
       ∙ passed _ _ (le-ltb (w .place) (w .reported) b)
       ∙ passed _ _ (le-ltb (w .place - w .reported) (w .refused) c)
-      ∙ ap (λ (k : ℕ). stepOn k w (readBytes form bytes (w .place))) words-are
+      ∙ ap (λ (k : ℕ). stepOn k w (readBytes listerForm bytes (w .place))) words-are
 
 pub roomy : (room : ℕ) (bytes : List ℕ) (w : Walk) → 64 ≤ room → stepIn room bytes w ≡ stepAt bytes w
 unfolding stepIn

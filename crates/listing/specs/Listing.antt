@@ -15,13 +15,13 @@ use Rattle.lines.specs.Bytes.{mostBytes, wordsIn}
 use Rattle.lines.specs.Stretches.{Run, runs, idleWords, reportedWords, refusedWords}
 use Rattle.listing.specs.Letters.{text, reportLine, refusedLine, totalsLine}
 
--- the lister reads altitudes in document 01's form
-abbrev pub form : AltitudeForm
-form = signMagnitude
+-- the lister reads altitudes in document 01's listerForm
+abbrev pub listerForm : AltitudeForm
+listerForm = signMagnitude
 
 -- the answer to the words of a run
 abbrev pub answer : List ℕ → RunAnswer
-answer ws = readRun form ws
+answer ws = readRun listerForm ws
 
 -- the line of a run of n words at a place that got this answer
 abbrev pub lineFor : ℕ → ℕ → RunAnswer → List ℕ

@@ -15,7 +15,7 @@ use Rattle.lines.specs.Bytes.{mostBytes, wordsIn, readBytes}
 use Rattle.listing.specs.declared.Walk.{Walk}
 use Rattle.listing.specs.declared.Piece.{Piece}
 use Rattle.listing.specs.declared.Piece.the-variants as P
-use Rattle.listing.specs.Listing.{form}
+use Rattle.listing.specs.Listing.{listerForm}
 use Rattle.listing.specs.Letters.{text, reportLine, refusedLine, totalsLine}
 
 -- the place that the walk has come to, the words in reports and in refused runs before it
@@ -62,7 +62,7 @@ stepRows bytes w =
 
 -- a call: where no row holds, the reader's outcome at the place
 unfoldable pub stepAt : List ℕ → Walk → Step
-stepAt bytes w = firstOf (stepRows bytes w) (stepOn (length (wordsIn bytes)) w (readBytes form bytes (w .place)))
+stepAt bytes w = firstOf (stepRows bytes w) (stepOn (length (wordsIn bytes)) w (readBytes listerForm bytes (w .place)))
 
 -- the same into a buffer of so many bytes
 unfoldable pub stepIn : ℕ → List ℕ → Walk → Step

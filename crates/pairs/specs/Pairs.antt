@@ -46,14 +46,14 @@ unfoldable pub eachFrom : {X : Type 0} → (Found → X) → ℕ → ℕ → Lis
 eachFrom f n zero ps = []
 eachFrom f n (suc k) ps = f (findIn n ps) ∷ eachFrom f (suc n) k ps
 
--- so many are asked for at once
+-- so many numbers are looked for at once: a record has at most 36 items, whose numbers stand together, and reports also use 0
 abbrev pub slots : ℕ
 slots = 37
 
--- of those from n on
+-- what is found for the numbers from n on
 unfoldable pub gatheredFrom : ℕ → List Pair → Gathered
 gatheredFrom n ps = record { there = eachFrom isFound n slots ps; values = eachFrom valueOf n slots ps }
 
--- k is the place of the number m among those, or slots and m is none of them
+-- k is the place of the number m among the numbers from n on; or k is slots, and m is none of them
 abbrev pub Slot : ℕ → ℕ → ℕ → Type 0
 Slot n m k = ((k < slots) × (n + k ≡ m)) ⊎ ((k ≡ slots) × ((m < n) ⊎ (n + slots ≤ m)))

@@ -37,7 +37,7 @@ use Rattle.report_items.specs.declared.items.Item.the-variants as I
 use Rattle.report_items.specs.Items as N
 use Rattle.report_items.specs.Items.{last, heightItems, lookup, itemOf}
 use Rattle.report_items.specs.Given.{asSigned, itemFrom, itemGiven, valuesIn, plainGiven, cdGiven, mtdHeightGiven, rdasHeightGiven, dabsGiven, atcrbsGiven, built, builtFrom}
-use Rattle.report_items.specs.Claims.{InSixteenBits, Narrow}
+use Rattle.report_items.specs.Claims.{InSixteenBits, FitsSixteenBits}
 use Rattle.report_items.proofs.Signed.{low, high}
 
 -- ---- one value
@@ -164,7 +164,7 @@ flag-own false = refl
 
 -- ---- four words
 
-module _ (form : AltitudeForm) (narrow : Narrow form) (ps : List Pair) where
+module _ (form : AltitudeForm) (narrow : FitsSixteenBits form) (ps : List Pair) where
   search-back : (s : Search) → Fits form (R.Search s) → Said ps (R.Search s) → builtFrom (kindNumber K.Search) ps ≡ R.Search s
   unfolding built valuesIn eachFrom
   search-back s f t =

@@ -21,14 +21,14 @@ use Rattle.report_items.specs.declared.items.Item.{Item}
 use Rattle.report_items.specs.declared.items.Item.the-variants as I
 use Rattle.report_items.specs.Items.{altitude, last, itemsOf, itemOf}
 use Rattle.report_items.specs.Given.{itemGiven, valuesIn, plainGiven, built, builtFrom, sameItem, agreeTo, agree, givenBy, given, unfit}
-use Rattle.report_items.specs.Claims.{ItemsOf, InSixteenBits, Narrow, SignMagnitudeIsNarrow, GivenExactly, NoneIsTaken}
+use Rattle.report_items.specs.Claims.{ItemsOf, InSixteenBits, FitsSixteenBits, SignMagnitudeFits, GivenExactly, NoneIsTaken}
 use Rattle.report_items.proofs.Back.{both, back}
 
 pub none-is-taken : NoneIsTaken
 none-is-taken form e = let z : _≡_ {A = ℕ} 0 1 = cc in omega arith
 
-pub sign-magnitude-is-narrow : SignMagnitudeIsNarrow
-sign-magnitude-is-narrow z h =
+pub sign-magnitude-fits : SignMagnitudeFits
+sign-magnitude-fits z h =
     by-test (leb (natAbs z) 2047) (λ t. small z (leb-true _ _ t))
     (λ t.
     let e : signMagnitude .bitsOf z ≡ 4096 = passed _ _ t in
@@ -117,7 +117,7 @@ kinded kind high v =
 
 -- ---- what is given
 
-module _ (form : AltitudeForm) (narrow : Narrow form) (r : Report) (taken : Takes form r) (kind : ℕ) (items : List ℕ) where
+module _ (form : AltitudeForm) (narrow : FitsSixteenBits form) (r : Report) (taken : Takes form r) (kind : ℕ) (items : List ℕ) where
   ps : List Pair
   ps = pairsIn items
 

@@ -25,17 +25,17 @@ InSixteenBits (pos n) = n < 2 ^ 15
 InSixteenBits (negsuc n) = n < 2 ^ 15
 
 -- what is asked of a form of the altitude: whatever it can write, sixteen bits hold
-abbrev pub Narrow : AltitudeForm → Type 0
-Narrow form = (z : ℤ) → form .bitsOf z < 4096 → InSixteenBits z
+abbrev pub FitsSixteenBits : AltitudeForm → Type 0
+FitsSixteenBits form = (z : ℤ) → form .bitsOf z < 4096 → InSixteenBits z
 
 -- document 01's form is so
-abbrev pub SignMagnitudeIsNarrow : Type 0
-SignMagnitudeIsNarrow = Narrow signMagnitude
+abbrev pub SignMagnitudeFits : Type 0
+SignMagnitudeFits = FitsSixteenBits signMagnitude
 
 -- a report that the writer takes is given by its own kind and its own items, in any order, and by nothing else
 abbrev pub GivenExactly : Type 0
 GivenExactly =
-    (form : AltitudeForm) → Narrow form → (r : Report) → Takes form r
+    (form : AltitudeForm) → FitsSixteenBits form → (r : Report) → Takes form r
     → (kind : ℕ) (items : List ℕ) → (given kind items ≡ r) ↔ ((kind ≡ kindNumber (kindOf r)) × ItemsOf r items)
 
 -- what stands for no record is refused by the writer

@@ -74,7 +74,7 @@ fn four_of(a: u16, b: u16, c: u16, d: u16) -> Content
 
 // ---- seven words
 
-// Bits 88 to 90 where bit 12 is one, else 8, which no three bits are.
+// Bits 88 to 90 where bit 12 is one, else what no three bits are.
 fn radar_code(a: u16, g: u16) -> u16
     ensures { λ r. ⌜ r ≡ radarCode (a ∷ 0 ∷ 0 ∷ 0 ∷ 0 ∷ 0 ∷ g ∷ []) ⌝ }
 {
@@ -82,7 +82,7 @@ fn radar_code(a: u16, g: u16) -> u16
     if radar == 1 {
         g / BIT_12 % THREE_BITS // 88-90
     } else {
-        THREE_BITS
+        forms::NO_RADAR
     }
 }
 
@@ -296,8 +296,8 @@ fn judge_words(a: u16, b: u16, c: u16, d: u16, e: u16, f: u16, g: u16) -> RunAns
     RunAnswer::Accepted(report)
 }
 
-// The answer to a run of `n` words whose first seven are given, with 0 for those past its end; its first word above 8191 is at `wide` and
-// its first word with an even number of ones at `even`, or these are `n`.
+// The answer to a run of `n` words whose first seven are given, with 0 for those past its end; its first word that is too wide is at
+// `too_wide` and its first word with an even number of ones at `even`, or these are `n`. Where a word is too wide, `even` does not matter.
 pub fn judge(
     a: u16,
     b: u16,
@@ -307,13 +307,13 @@ pub fn judge(
     f: u16,
     g: u16,
     n: usize,
-    wide: usize,
+    too_wide: usize,
     even: usize,
 ) -> RunAnswer
-    ensures { λ r. ⌜ r ≡ judged signMagnitude (a ∷ b ∷ c ∷ d ∷ e ∷ f ∷ g ∷ []) n wide even ⌝ }
+    ensures { λ r. ⌜ r ≡ judged signMagnitude (a ∷ b ∷ c ∷ d ∷ e ∷ f ∷ g ∷ []) n «too_wide» even ⌝ }
 {
-    if wide < n {
-        return RunAnswer::Refused(LineRefusal::WordTooWide, wide);
+    if too_wide < n {
+        return RunAnswer::Refused(LineRefusal::WordTooWide, too_wide);
     }
     if even < n {
         return RunAnswer::Refused(LineRefusal::EvenWord, even);

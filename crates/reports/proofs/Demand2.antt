@@ -129,7 +129,7 @@ words-good form r f = words.words-good (layoutOf form r) (twelve form r) f
 words-read : (form : AltitudeForm) → Sound form → (r : Report) → Fits form r → ReadAs form (wordsOf form r) r
 words-read form sound r f = laid-read form sound (wordsOf form r) r (words-good form r f) (words.words-laid (layoutOf form r) (twelve form r) f)
 
-pub words-length : (form : AltitudeForm) (r : Report) → (length (wordsOf form r) ≡ 4) ⊎ (length (wordsOf form r) ≡ 7)
+pub words-length : claims.FourOrSeven
 words-length form (R.Search s) = inl refl
 words-length form (R.Strobe s) = inl refl
 words-length form (R.Map m) = inl refl

@@ -4,7 +4,7 @@ use Prim.Native.Nat.{ℕ}
 use mathlib.Core.Path.{_≡_}
 use mathlib.Core.Bool.{true}
 use mathlib.Core.List.{List, [], _∷_}
-use mathlib.Core.Logic.{_↔_}
+use mathlib.Core.Logic.{_↔_, _⊎_}
 use lib.ListN.{length, getD}
 use Rattle.rows.specs.Claims.{FirstIs}
 use Rattle.refusals.specs.declared.LineRefusal.{LineRefusal}
@@ -38,6 +38,10 @@ LayoutIsWords = (form : AltitudeForm) → Sound form → (ws : List ℕ) → Has
 abbrev pub TwelveBitsAWord : Type 0
 TwelveBitsAWord = (form : AltitudeForm) (r : Report) → twelveEach (layoutOf form r) ≡ true
 
+-- a report has four words or seven
+abbrev pub FourOrSeven : Type 0
+FourOrSeven = (form : AltitudeForm) (r : Report) → (length (wordsOf form r) ≡ 4) ⊎ (length (wordsOf form r) ≡ 7)
+
 -- an accepted run's record written out again gives the same words, and the writer, where it takes the record, hands them out
 abbrev pub WrittenAgain : Type 0
 WrittenAgain =
@@ -66,10 +70,10 @@ RefusedExactly = (form : AltitudeForm) (ws : List ℕ) (q : LineRefusal) (o : �
 abbrev pub firstSeven : List ℕ → List ℕ
 firstSeven ws = getD ws 0 0 ∷ getD ws 1 0 ∷ getD ws 2 0 ∷ getD ws 3 0 ∷ getD ws 4 0 ∷ getD ws 5 0 ∷ getD ws 6 0 ∷ []
 
--- no more than those are looked at once the count and the first tooWide and first even word are known
+-- no more than those are looked at once the count and the first too wide and first even word are known
 abbrev pub FirstSeven : Type 0
 FirstSeven = (form : AltitudeForm) (ws : List ℕ) (n w e : ℕ) → judged form (firstSeven ws) n w e ≡ judged form ws n w e
 
--- so what is judged of a run's first seven words, its length and its first tooWide and first even word is what the whole run is read as
+-- so what is judged of a run's first seven words, its length and its first too wide and first even word is what the whole run is read as
 abbrev pub JudgedIsRead : Type 0
 JudgedIsRead = (form : AltitudeForm) (ws : List ℕ) → judged form (firstSeven ws) (length ws) (first tooWide ws) (first even ws) ≡ readRun form ws

@@ -33,7 +33,7 @@ unassigned ws = all (isSeven ws ∷ bit ws 12 ∷ not (any (isCd ws ∷ isMtd ws
 
 -- ---- 8: a zero or spare bit is one. Each sum is 0 exactly when all of its bits are
 
--- the zero bits of four words: 25, of a Map 51 too, of Status none. What is known (5) and none of the first four is an RTQC
+-- the zero bits of four words: 25, of a Map 51 too, of Status none. Where 5 is not given, words of none of the first four forms are an RTQC
 unfoldable pub fourZeros : List ℕ → ℕ
 fourZeros ws =
     cond (isSearch ws) (bits ws 25 25)

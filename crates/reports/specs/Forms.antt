@@ -50,6 +50,10 @@ mtdSearchCode = 0b010
 abbrev pub rdasSearchCode : ℕ
 rdasSearchCode = 0b001
 
+-- what stands for those bits where bit 12 is zero: no three bits are this number
+abbrev pub noRadar : ℕ
+noRadar = 8
+
 -- ---- how many words: bits 2-3
 
 abbrev pub isFour : List ℕ → Bool
@@ -83,9 +87,9 @@ isRtqc ws = all (isFour ws ∷ eqb (bits ws 4 10) rtqcPattern ∷ bit ws 1 ∷ [
 
 -- ---- seven words: bits 2-3, bit 4, and with bit 12 one bits 88-90
 
--- bits 88-90 where bit 12 is one; with bit 12 zero they tell no radar, and this is 8, which no three bits are
+-- bits 88-90 where bit 12 is one; with bit 12 zero they tell no radar
 abbrev pub radarCode : List ℕ → ℕ
-radarCode ws = cond (bit ws 12) (bits ws 88 90) 8
+radarCode ws = cond (bit ws 12) (bits ws 88 90) noRadar
 
 abbrev pub isDabs : List ℕ → Bool
 isDabs ws = all (isSeven ws ∷ bit ws 4 ∷ [])

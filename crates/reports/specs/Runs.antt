@@ -32,7 +32,7 @@ readRun form ws = firstOf (tableOf form ws) (Accepted (reportOf form ws))
 
 -- ---- the same from what a reader of a line remembers
 
--- the table for n words that begin ws, of which the first tooWide one is at w and the first even one at e (n where there is none)
+-- the table for n words that begin ws, of which the first one that is too wide is at w and the first even one at e (n where there is none)
 abbrev pub table : AltitudeForm → List ℕ → ℕ → ℕ → ℕ → List (Row RunAnswer)
 table form ws n w e =
     row (ltb w n) (Refused WordTooWide w)

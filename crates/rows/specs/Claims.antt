@@ -1,5 +1,5 @@
 -- The law of rows: a row's answer is given exactly where its condition holds and that of no earlier row does. A, `accepts`, the rows and the
--- answers are any, so a table needs no proof of its own. Statements only, with what they need to be said; proofs/Claims.antt proves them.
+-- answers are any, so a table needs no proof of its own order: only that its rows refuse and that the other answer does not. Statements only, with what they need to be said; proofs/Claims.antt proves them.
 use mathlib.Core.Bool.{Bool, true, false}
 use mathlib.Core.List.{List, [], _∷_, _++_}
 use mathlib.Core.Logic.{_↔_, _⊎_}

@@ -1,4 +1,4 @@
--- Words are good, all of them, exactly when there is no first tooWide word and no first even one.
+-- Words are good, all of them, exactly when there is no first word that is too wide and no first even one.
 -- Assumes nothing.
 use Prim.Native.Nat.{ℕ, suc, _%_}
 use mathlib.Core.Path.{_≡_, refl, sym, _∙_}

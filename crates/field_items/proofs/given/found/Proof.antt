@@ -18,8 +18,8 @@ returns-2 : tie.Need-returns-2
 unfolding foundIn
 returns-2 c =
     let a = c .before .before .before .before .args in
-    let n : length (a .told .there) ≡ 37 = search needs in
-    rw (le-leb 201 (a .item) (omega arith), List·getD-eq-default (a .told .there) false {n = a .item - 201} (omega arith)) refl
+    let n : length (a .gathered .there) ≡ 37 = search needs in
+    rw (le-leb 201 (a .item) (omega arith), List·getD-eq-default (a .gathered .there) false {n = a .item - 201} (omega arith)) refl
 
 returns-3 : tie.Need-returns-3
 unfolding foundIn

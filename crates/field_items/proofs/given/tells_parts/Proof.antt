@@ -1,4 +1,4 @@
--- `field_items::given::tells_parts` meets its contract: what is told covers the parts from i on where it covers all. Assumes nothing.
+-- `field_items::given::tells_parts` meets its contract: what is gathered covers the parts from i on where it covers all. Assumes nothing.
 use borrow.Author.Needs.{needs}
 use mathlib.Core.Path.{_≡_, refl, sym, ap, _∙_}
 use mathlib.Core.Bool.{Bool, _&&_}
@@ -12,10 +12,10 @@ use Rattle.field_items.proofs.given.tells_parts.Statement.{statement}
 use Rattle.field_items.proofs.given.tells_parts.Tie as tie
 
 abbrev Inv-loop : tie.InvT-loop
-Inv-loop told items v i₀ i = (i ≤ 11) × (covers told (pairsBy (drop i items) (drop i v)) ≡ covers told (pairsBy items v))
+Inv-loop gathered items v i₀ i = (i ≤ 11) × (covers gathered (pairsBy (drop i items) (drop i v)) ≡ covers gathered (pairsBy items v))
 
 abbrev μ-loop : tie.MeasureT-loop
-μ-loop told items v i₀ i = 11 - i
+μ-loop gathered items v i₀ i = 11 - i
 
 loop-holds : tie.Need-loop-holds Inv-loop μ-loop
 loop-holds c = (omega arith, refl)
@@ -24,27 +24,27 @@ loop-holds c = (omega arith, refl)
 next : (c : tie.After-tells-part Inv-loop μ-loop) →
     let l = c .before .before .loop in
     let a = c .before .before .before .args in
-    covers (a .told) (pairsBy (a .t2) (a .t3)) ≡ (c .tells-part .result && covers (a .told) (pairsBy (drop (l .i + 1) (a .t2)) (drop (l .i + 1) (a .t3))))
+    covers (a .gathered) (pairsBy (a .t2) (a .t3)) ≡ (c .tells-part .result && covers (a .gathered) (pairsBy (drop (l .i + 1) (a .t2)) (drop (l .i + 1) (a .t3))))
 next c =
     let l = c .before .before .loop in
     let a = c .before .before .before .args in
     let m : length (a .t2) ≡ 11 = search needs in
     let n : length (a .t3) ≡ 11 = search needs in
     sym (l .inv .1)
-    ∙ covers-step (a .t2) (a .t3) (l .i) (omega arith) (omega arith) (a .told)
-    ∙ ap (λ (b : Bool). b && covers (a .told) (pairsBy (drop (l .i + 1) (a .t2)) (drop (l .i + 1) (a .t3)))) (sym (c .tells-part .ensures))
+    ∙ covers-step (a .t2) (a .t3) (l .i) (omega arith) (omega arith) (a .gathered)
+    ∙ ap (λ (b : Bool). b && covers (a .gathered) (pairsBy (drop (l .i + 1) (a .t2)) (drop (l .i + 1) (a .t3)))) (sym (c .tells-part .ensures))
 
 loop-again : tie.Need-loop-again Inv-loop μ-loop
 loop-again c =
     let l = c .before .before .before .loop in
     let a = c .before .before .before .before .args in
-    (omega arith, sym (next (c .before) ∙ ap (λ (b : Bool). b && covers (a .told) (pairsBy (drop (l .i + 1) (a .t2)) (drop (l .i + 1) (a .t3)))) (c .if1 .taken)))
+    (omega arith, sym (next (c .before) ∙ ap (λ (b : Bool). b && covers (a .gathered) (pairsBy (drop (l .i + 1) (a .t2)) (drop (l .i + 1) (a .t3)))) (c .if1 .taken)))
 
 returns : tie.Need-returns Inv-loop μ-loop
 returns c =
     let l = c .before .before .before .loop in
     let a = c .before .before .before .before .args in
-    sym (next (c .before) ∙ ap (λ (b : Bool). b && covers (a .told) (pairsBy (drop (l .i + 1) (a .t2)) (drop (l .i + 1) (a .t3)))) (c .if1 .left))
+    sym (next (c .before) ∙ ap (λ (b : Bool). b && covers (a .gathered) (pairsBy (drop (l .i + 1) (a .t2)) (drop (l .i + 1) (a .t3)))) (c .if1 .left))
 
 returns-2 : tie.Need-returns-2 Inv-loop μ-loop
 unfolding covers pairsBy
