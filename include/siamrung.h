@@ -135,7 +135,7 @@ extern "C" {
 #define SIAMRUNG_ITEM_FALSE_TARGET 28
 /* twelve bits, octal ABCD */
 #define SIAMRUNG_ITEM_CODE 29
-/* file number; 0 means uncorrelated */
+/* file number; 0 means: belongs to no track */
 #define SIAMRUNG_ITEM_FILE 30
 /* in hundreds of feet, signed */
 #define SIAMRUNG_ITEM_ALTITUDE 31
