@@ -1,6 +1,6 @@
 /*
  * siamrung.h: the calls of the Siamrung converter for C and C++ programs. They read a line of words, write a report into a line, read a link
- * data field and write one.
+ * data field and write one, and read a frame of the communications channel and write one.
  *
  * Lines. A line is a slice of bytes: a pointer and the number of bytes. Two bytes are a word, high byte first. A line has at most 65,536
  * bytes, which are 32,768 words. An empty slice may be NULL with the length 0. A place is a number of words from the start of the line,
@@ -203,6 +203,28 @@ extern "C" {
 /* writing: there are too few bytes for the field */
 #define SIAMRUNG_FIELD_REFUSAL_NO_ROOM 31
 
+/* ---- what siamrung_frame_kind answers, besides SIAMRUNG_KIND_REFUSED and SIAMRUNG_KIND_END */
+
+#define SIAMRUNG_KIND_FRAME 122
+
+/* ---- refusals of frames: what siamrung_frame_refusal and siamrung_frame_write_refusal answer; 0 means not refused */
+
+/* the count is greater than eight times the number of bytes (in writing: the count of the bytes, or that of the field); or, in reading, no flag
+ * begins at the place */
+#define SIAMRUNG_FRAME_REFUSAL_COUNT_OR_FLAG 44
+/* before the closing flag five ones have no zero after them that was inserted; if there is no closing flag, before the end */
+#define SIAMRUNG_FRAME_REFUSAL_ZERO_MISSING 41
+/* there is no closing flag */
+#define SIAMRUNG_FRAME_REFUSAL_NO_CLOSING_FLAG 45
+/* between the flags, without the inserted zeros, stand fewer than 32 bits or more than 2040; in writing: the field has more than 2008 bits */
+#define SIAMRUNG_FRAME_REFUSAL_WRONG_LENGTH 40
+/* the frame check sequence is wrong */
+#define SIAMRUNG_FRAME_REFUSAL_WRONG_CHECK 43
+/* the address is neither of the two */
+#define SIAMRUNG_FRAME_REFUSAL_UNKNOWN_ADDRESS 42
+/* writing: the frame does not fit between the place and the count */
+#define SIAMRUNG_FRAME_REFUSAL_NO_ROOM 46
+
 /*
  * ---- items of link data fields, for siamrung_field_has, siamrung_field_item and siamrung_field_write. Each has the bits that the document
  * gives it.
@@ -396,6 +418,67 @@ size_t siamrung_field_write(uint8_t *bytes, size_t length, uint32_t type, const 
  */
 uint32_t siamrung_field_write_refusal(const uint8_t *bytes, size_t length, uint32_t type, const uint8_t *items, size_t items_length,
                                       const uint8_t *list, size_t list_length, const uint8_t *text, size_t text_length);
+
+/*
+ * ---- calls that read a frame of the communications channel
+ *
+ * A stream is a slice of bytes and a count of its bits, which may be fewer than eight for each byte. The first bit is the top bit of the first
+ * byte, and the bits stand in the order in which they are sent. Here a place is a number of bits from the start of the stream, counted from 0.
+ *
+ * A frame is a flag, an address of eight bits, a control of eight bits, a field of 0 to 2008 bits, a frame check sequence of sixteen bits, and
+ * a flag. A flag is 01111110. Between the flags a zero is inserted after each five ones. The address is 11000000 to the sensor and 10000000
+ * from it. The closing flag of a frame may be the opening flag of the next one. Flags with nothing between them are idle.
+ *
+ * A call looks at the place, where a flag must begin. It passes the flags that follow directly, and reads the frame behind the last one. To
+ * walk a stream, call siamrung_frame_kind, then go on from the place that siamrung_frame_place answers. After a frame and after the refusals
+ * 40, 43 and 42 this is the place of the closing flag. After the refusals 44, 41 and 45 it is the place that was passed: the walk ends there, or
+ * the program looks for another flag itself.
+ */
+
+/* Answers what stands at the place: SIAMRUNG_KIND_FRAME, SIAMRUNG_KIND_REFUSED, or SIAMRUNG_KIND_END if only flags, one or more, are left. */
+uint32_t siamrung_frame_kind(const uint8_t *bytes, size_t length, size_t count, size_t place);
+
+/* Answers why the place gives no frame: the first of 44, 41, 45, 40, 43, 42 whose condition holds. Answers 0 for a frame and at the end. */
+uint32_t siamrung_frame_refusal(const uint8_t *bytes, size_t length, size_t count, size_t place);
+
+/* Answers the place to go on from: that of the closing flag for a frame and for the refusals 40, 43 and 42; the count at the end; else the place
+ * that was passed. */
+size_t siamrung_frame_place(const uint8_t *bytes, size_t length, size_t count, size_t place);
+
+/* Answers which way the frame travels: 0 to the sensor, 1 from the sensor. Answers 0 if there is no frame. */
+uint32_t siamrung_frame_from_sensor(const uint8_t *bytes, size_t length, size_t count, size_t place);
+
+/* Answers the frame's control, eight bits. Answers 0 if there is no frame. */
+uint32_t siamrung_frame_control(const uint8_t *bytes, size_t length, size_t count, size_t place);
+
+/* Answers how many bits the frame's field has: 0 to 2008. Answers 0 if there is no frame. */
+size_t siamrung_frame_field_count(const uint8_t *bytes, size_t length, size_t count, size_t place);
+
+/*
+ * Copies the frame's field to the start of the bytes field, and answers how many bytes it wrote: the number of the field's bits divided by
+ * eight, rounded up. The unused bits of the last of them become 0, and the bytes behind it stay. If field has too few bytes, or if there is
+ * no frame, the call writes nothing and answers 0. For a field of no bits, too, it writes nothing and answers 0.
+ */
+size_t siamrung_frame_field(const uint8_t *bytes, size_t length, size_t count, size_t place, uint8_t *field, size_t field_length);
+
+/* ---- calls that write a frame */
+
+/*
+ * Writes a frame from the place on: both flags, and what stands between them. field_count is the number of bits of the field, which begin at the
+ * top of its first byte; other bits of field make no difference. from_sensor is 0 for a frame to the sensor, any other number for one from it.
+ * The bits in front of the place and behind the closing flag stay, those in the same byte too. Answers the place of the closing flag; a frame
+ * that is written there next shares that flag. If the call is refused, it leaves every byte as it was and answers the place that was passed;
+ * siamrung_frame_write_refusal says why.
+ */
+size_t siamrung_frame_write(uint8_t *bytes, size_t length, size_t count, size_t place, uint32_t from_sensor, uint8_t control,
+                            const uint8_t *field, size_t field_length, size_t field_count);
+
+/*
+ * Answers why siamrung_frame_write with the same arguments is refused: the first of 44, 40, 46 whose condition holds, else 0. It writes
+ * nothing. It answers the same before that call and after it.
+ */
+uint32_t siamrung_frame_write_refusal(const uint8_t *bytes, size_t length, size_t count, size_t place, uint32_t from_sensor, uint8_t control,
+                                      const uint8_t *field, size_t field_length, size_t field_count);
 
 #ifdef __cplusplus
 }

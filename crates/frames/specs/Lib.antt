@@ -1,0 +1,10 @@
+pub mod Stream
+pub mod Check
+pub mod Zeros
+pub mod Numbers
+pub mod Frame
+pub mod Reading
+pub mod Writing
+pub mod Steps
+pub mod Lists
+pub mod Claims

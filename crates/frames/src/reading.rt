@@ -1,0 +1,167 @@
+// The reader of frames: a place of a stream of bits to the frame there, a refusal, or the end.
+// It looks for the opening flag, then for the closing one, and then goes through the bits between them once.
+// Relies on stream.rt for the bits, check.rt for the check sequence; specs/Reading.antt says what it answers.
+ghost use mathlib.Core.Path.{_≡_};
+ghost use mathlib.Core.Bool.{true, false};
+ghost use Prim.Native.Nat.{_+_, _-_, _*_, _≤_};
+ghost use lib.Dec.{eqb};
+ghost use lib.ListN.{length, take, replicate};
+ghost use Rattle.frames.specs.Stream.{bitsFrom, putAll};
+ghost use Rattle.frames.specs.Zeros.{ones, zerosOut, zeroMissing};
+ghost use Rattle.frames.specs.Frame.{flag};
+ghost use Rattle.frames.specs.Reading.{begins, pastFlags, upToFlag, countOver, streamAt, readFrame, fieldBytes};
+ghost use Rattle.frames.specs.Steps.{BodyIs};
+use crate::check::check;
+use crate::stream::{bit, put_bit};
+use crate::Found;
+use crate::FrameRefusal;
+use crate::What;
+use fields::Direction;
+
+// A flag as a number of eight bits.
+const FLAG: u64 = 0x7E;
+
+// Whether so many bytes have fewer bits than the count.
+pub fn count_over(length: usize, count: usize) -> bool
+    ensures { λ r. ⌜ r ≡ countOver length count ⌝ }
+{
+    if count / 8 < length {
+        return false;
+    }
+    if length < count / 8 {
+        return true;
+    }
+    if count % 8 == 0 {
+        return false;
+    }
+    true
+}
+
+// Whether a flag begins at a place.
+fn flag_at(b: &[u8], count: usize, p: usize) -> bool
+    ensures { λ r. ⌜ r ≡ begins flag (streamAt (now (b .entry)) count p) ⌝ }
+{
+    if count <= p {
+        return false;
+    }
+    if count - p < 8 {
+        return false;
+    }
+    if bits::read(b, p, 8) == FLAG {
+        return true;
+    }
+    false
+}
+
+// The place behind neighbouring flags.
+fn past_flags(b: &[u8], count: usize, place: usize) -> usize
+    requires { ⌜ place ≤ count ⌝ }
+    ensures { λ r. ⌜ (r ≤ count) × (streamAt (now (b .entry)) count r ≡ pastFlags 0 (streamAt (now (b .entry)) count place)) ⌝ }
+{
+    let mut p = place;
+    while flag_at(b, count, p) {
+        p += 8;
+    }
+    p
+}
+
+// The place of the first flag; the count where there is none.
+fn closing(b: &[u8], count: usize, from: usize) -> usize
+    requires { ⌜ from ≤ count ⌝ }
+    ensures { λ r. ⌜ r ≡ from + length (upToFlag (streamAt (now (b .entry)) count from)) ⌝ }
+{
+    if count - from < 8 {
+        return count;
+    }
+    let last = count - 8;
+    let mut p = from;
+    // the eight bits from p on
+    let mut eight = bits::read(b, from, 8);
+    while p < last {
+        if eight == FLAG {
+            return p;
+        }
+        eight = eight * 2 % 256 + bit(b, p + 8);
+        p += 1;
+    }
+    if eight == FLAG {
+        return p;
+    }
+    count
+}
+
+// What stands between the flags without the inserted zeros: its bits, as many as there is room for, and how many they are. Where a zero is
+// missing, that is all that is said of it.
+struct Body {
+    bytes: [u8; 255],
+    count: usize,
+    missing: bool,
+}
+
+// How many ones stand in front, with one bit more.
+fn ones_with(n: u64, b: u64) -> u64
+    requires { ⌜ (n ≤ 4) × (b ≤ 1) ⌝ }
+    ensures { λ r. ⌜ (r ≡ ones n (eqb b 1)) × (r ≤ 5) ⌝ }
+{
+    if b == 1 {
+        return n + 1;
+    }
+    0
+}
+
+// Goes through the bits from a place up to another.
+fn body_of(b: &[u8], from: usize, to: usize) -> Body
+    requires { ⌜ from ≤ to ⌝ }
+    ensures { λ r. ⌜ BodyIs (bitsFrom (now (b .entry)) from (to - from)) (r .bytes) (r .count) (r .missing) ⌝ }
+{
+    let mut bytes = [0u8; 255];
+    let mut count = 0;
+    let mut n: u64 = 0;
+    let mut p = from;
+    while p < to {
+        let v = bit(b, p);
+        p += 1;
+        if n == 5 {
+            if v == 1 {
+                return Body {
+                    bytes,
+                    count,
+                    missing: true,
+                };
+            }
+            n = 0;
+        } else {
+            // past the last byte nothing is put: so long a frame is refused
+            put_bit(&mut bytes, count, v);
+            count += 1;
+            n = ones_with(n, v);
+        }
+    }
+    if n == 5 {
+        return Body {
+            bytes,
+            count,
+            missing: true,
+        };
+    }
+    Body {
+        bytes,
+        count,
+        missing: false,
+    }
+}
+
+// The field of a body: the bits behind address and control, as bytes with zeros behind them.
+fn field_of(body: [u8; 255], count: usize) -> [u8; 251]
+    requires { ⌜ count ≤ 2008 ⌝ }
+    ensures { λ r. ⌜ r ≡ fieldBytes (bitsFrom body 16 count) ⌝ }
+{
+    let mut field = [0u8; 251];
+    let mut p = 0;
+    while p + 8 <= count {
+        bits::write(&mut field, p, 8, bits::read(&body, 16 + p, 8));
+        p += 8;
+    }
+    bits::write(&mut field, p, count - p, bits::read(&body, 16 + p, count - p));
+    field
+}
