@@ -8,7 +8,7 @@ use native.Mathlib.Nat.{add-comm}
 use native.Mathlib.Decide.{decLt}
 use native.Mathlib.Omega.{arith}
 use borrow.Author.Tests.{eq-eqb, ne-eqb}
-use lib.Dec.{eqb}
+use lib.Dec.{eqb, lit<}
 use lib.ListN.{length, take, drop}
 use lib.Pow.{mod-mod-pow}
 use Rattle.bits.specs.Bits.{bitAt, bitsOf}
@@ -17,8 +17,15 @@ use Rattle.frames.specs.Stream.{bitsFrom, number, digits}
 use Rattle.frames.specs.Frame.{flag}
 use Rattle.frames.specs.Reading.{begins, pastFlags, upToFlag, streamAt}
 use Rattle.frames.proofs.Tests.{differ}
-use Rattle.frames.proofs.Numbered.{begins-number, begins-short, begins-eq}
+use Rattle.frames.proofs.Numbered.{length-digits, number-digits, begins-number, begins-short, begins-eq}
 use Rattle.frames.proofs.Streamed.{length-bitsFrom, take-bitsFrom, drop-bitsFrom, number-bitsFrom, stream-cons, stream-none}
+
+-- bits begin with those of a number exactly where they make it
+pub begins-by-number : (s : List ℕ) (p m n v : ℕ) → n ≤ m → v < 2 ^ n → begins (digits n v) (bitsFrom s p m) ≡ eqb v (bitsOf s p n)
+begins-by-number s p m n v h l =
+    let k = length-digits n v in
+    begins-number (digits n v) (bitsFrom s p m) (rw (k, length-bitsFrom s p m) h)
+    ∙ rw (k, number-digits n v l, take-bitsFrom s p n m h, number-bitsFrom s p n) refl
 
 -- fewer than eight bits are no flag
 pub no-flag-short : (s : List ℕ) (count p : ℕ) → count - p < 8 → begins flag (streamAt s count p) ≡ false
@@ -35,10 +42,7 @@ flag-room s count p h = go (decLt (count - p) 8)
 
 -- of eight bits and more, the first eight tell
 by-number : (s : List ℕ) (count p : ℕ) → 8 ≤ count - p → begins flag (streamAt s count p) ≡ eqb 0x7E (bitsOf s p 8)
-unfolding digits number
-by-number s count p h =
-    begins-number flag (streamAt s count p) (rw (length-bitsFrom s p (count - p)) h)
-    ∙ ap (eqb 0x7E) (ap number (take-bitsFrom s p 8 (count - p) h) ∙ number-bitsFrom s p 8)
+by-number s count p h = begins-by-number s p (count - p) 8 0x7E h (lit< tt)
 
 pub flag-is : (s : List ℕ) (count p : ℕ) → 8 ≤ count - p → bitsOf s p 8 ≡ 0x7E → begins flag (streamAt s count p) ≡ true
 flag-is s count p h e = by-number s count p h ∙ eq-eqb _ _ (sym e)

@@ -1,8 +1,13 @@
+pub mod Tests
 pub mod Numbered
 pub mod Streamed
+pub mod Chunks
 pub mod Checked
-pub mod Tests
 pub mod Zeros
 pub mod Refused
+pub mod Flags
 pub mod Flagged
-pub mod Chunks
+pub mod Judging
+pub mod Behind
+pub mod Back
+pub mod Lists

@@ -37,6 +37,6 @@ wrote (P.Refused q p) = false
 
 pub writer-refuses : WriterRefuses
 unfolding writeFrame
-writer-refuses bytes count place way control field n q p =
+writer-refuses len count place way control field n q p =
     let f = given way control field n in
-    law.refused-exactly Wrote wrote (writeRows bytes count place field n f) (P.Closing (closingAt place f)) (P.Refused q p) refl refl
+    law.refused-exactly Wrote wrote (writeRows len count place field n f) (P.Closing (closingAt place f)) (P.Refused q p) refl refl

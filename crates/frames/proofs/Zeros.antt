@@ -57,7 +57,9 @@ unfolding withZeros zerosOut zeroMissing
 again n [] h e = rw e refl
 again n (b ∷ s) h e =
     by-test (eqb n 5)
-    (λ five. let m = both-false b (zeroMissing 0 s) (rw five at e) in rw (five, m .0) (ap (λ (l : List Bool). false ∷ l) (again 0 s (omega arith) (m .1))))
+    (λ five.
+    let m = both-false b (zeroMissing 0 s) (rw five at e) in
+    rw (five, m .0) (ap (λ (l : List Bool). false ∷ l) (again 0 s (omega arith) (m .1))))
     (λ few.
     rw few
     (ap (λ (l : List Bool). b ∷ l)

@@ -5,7 +5,7 @@ use mathlib.Core.Bool.{Bool, true, false, not, cond, Bool·beq, _&&_, _||_}
 use mathlib.Core.List.{List, [], _∷_}
 use lib.Dec.{eqb, ltb}
 use lib.ListN.{length, take, drop, replicate}
-use Rattle.rows.specs.Rows.{Row, row, firstOf}
+use Rattle.rows.specs.Rows.{Row, row, firstOf, each}
 use Rattle.fields.specs.declared.Direction.{Direction}
 use Rattle.fields.specs.declared.Direction.the-variants.{ToSensor, FromSensor}
 use Rattle.frames.specs.declared.FrameRefusal.{FrameRefusal}
@@ -97,6 +97,14 @@ unknownAddress b = not (begins (address ToSensor) b || begins (address FromSenso
 
 -- ---- the reader
 
+-- the rows of a body: 40, 43, 42
+abbrev pub bodyRows : List Bool → List (Row Answer)
+bodyRows b =
+    row (wrongLength b) (refused R.WrongLength)
+    ∷ row (wrongCheck b) (refused R.WrongCheck)
+    ∷ row (unknownAddress b) (refused R.UnknownAddress)
+    ∷ []
+
 -- the rows over the bits from the place on; `over`: the count is over the lent bits. "A frame, or refusal 40, 42 or 43 in reading, answers the
 -- place of its closing flag; other refusals give the place back."
 abbrev pub readRows : Bool → List Bool → List (Row Outcome)
@@ -105,10 +113,7 @@ readRows over s =
     ∷ row (onlyFlags s) (outcome end (length s))
     ∷ row (zeroMissing 0 (stretch s)) (outcome (refused R.ZeroMissing) 0)
     ∷ row (noClosingFlag s) (outcome (refused R.NoClosingFlag) 0)
-    ∷ row (wrongLength (bodyIn s)) (outcome (refused R.WrongLength) (closing s))
-    ∷ row (wrongCheck (bodyIn s)) (outcome (refused R.WrongCheck) (closing s))
-    ∷ row (unknownAddress (bodyIn s)) (outcome (refused R.UnknownAddress) (closing s))
-    ∷ []
+    ∷ each (λ a. outcome a (closing s)) (bodyRows (bodyIn s))
 
 -- the frame whose address, control, field and check sequence are these bits
 abbrev pub wayIn : List Bool → Direction
@@ -122,6 +127,10 @@ fieldIn b = take (length b - fewest) (drop 16 b)
 
 abbrev pub frameIn : List Bool → Frame
 frameIn b = frameOf (wayIn b) (controlIn b) (fieldIn b)
+
+-- the answer of a body by itself
+abbrev pub judgedBody : List Bool → Answer
+judgedBody b = firstOf (bodyRows b) (accepted (frameIn b))
 
 unfoldable pub readBits : Bool → List Bool → Outcome
 readBits over s = firstOf (readRows over s) (outcome (accepted (frameIn (bodyIn s))) (closing s))
@@ -146,8 +155,10 @@ fieldOf end = []
 abbrev pub fieldBytes : List Bool → List ℕ
 fieldBytes bs = putAll (replicate 251 0) 0 bs
 
-abbrev pub foundAt : ℕ → Outcome → Found
-foundAt place o = record { what = whatOf (o .answer); place = place + o .on; field = fieldBytes (fieldOf (o .answer)) }
+-- an answer, with the place that is answered
+abbrev pub foundAt : ℕ → Answer → Found
+foundAt place a = record { what = whatOf a; place = place; field = fieldBytes (fieldOf a) }
 
 unfoldable pub readFrame : List ℕ → ℕ → ℕ → Found
-readFrame bytes count place = foundAt place (readBits (countOver (length bytes) count) (streamAt bytes count place))
+readFrame bytes count place =
+    let o = readBits (countOver (length bytes) count) (streamAt bytes count place) in foundAt (place + o .on) (o .answer)

@@ -1,14 +1,25 @@
 -- What the steps of the reader and of the writer leave to the next one; no caller of theirs sees it. Definitions only.
-use Prim.Native.Nat.{ℕ}
+use Prim.Native.Nat.{ℕ, _+_}
 use mathlib.Core.Path.{_≡_}
-use mathlib.Core.Bool.{Bool, true, false}
+use mathlib.Core.Bool.{Bool, true, false, cond}
 use mathlib.Core.List.{List}
 use lib.ListN.{length, replicate}
 use Rattle.frames.specs.Stream.{putAll}
+use Rattle.frames.specs.declared.FrameRefusal.the-variants as R
+use Rattle.frames.specs.declared.Found.{Found}
 use Rattle.frames.specs.Zeros.{zerosOut, zeroMissing}
+use Rattle.frames.specs.Reading.{Answer, accepted, refused, Outcome, unknownAddress, frameIn, readBits, foundAt}
 
 -- a stretch without its inserted zeros: how many bits, and the bits in 255 bytes, as many as there is room for; or a zero is missing
 pub record BodyIs (stretch : List Bool) (bytes : List ℕ) (count : ℕ) (missing : Bool) : Type 0 where
   pub missing-is : missing ≡ zeroMissing 0 stretch
   pub count-is : zeroMissing 0 stretch ≡ false → count ≡ length (zerosOut 0 stretch)
   pub bytes-are : zeroMissing 0 stretch ≡ false → bytes ≡ putAll (replicate 255 0) 0 (zerosOut 0 stretch)
+
+-- the answer of a body whose length and check sequence are right
+abbrev pub addressedBody : List Bool → Answer
+addressedBody b = cond (unknownAddress b) (refused R.UnknownAddress) (accepted (frameIn b))
+
+-- what is found at a place in bits that begin with a flag, if the count is not over the lent bits
+abbrev pub behindFlag : ℕ → List Bool → Found
+behindFlag place s = let o = readBits false s in foundAt (place + o .on) (o .answer)

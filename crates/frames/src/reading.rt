@@ -2,15 +2,16 @@
 // It looks for the opening flag, then for the closing one, and then goes through the bits between them once.
 // Relies on stream.rt for the bits, check.rt for the check sequence; specs/Reading.antt says what it answers.
 ghost use mathlib.Core.Path.{_≡_};
-ghost use mathlib.Core.Bool.{true, false};
-ghost use Prim.Native.Nat.{_+_, _-_, _*_, _≤_};
+ghost use mathlib.Core.Bool.{true};
+ghost use mathlib.Core.List.{[]};
+ghost use Prim.Native.Nat.{_+_, _-_, _≤_};
 ghost use lib.Dec.{eqb};
-ghost use lib.ListN.{length, take, replicate};
-ghost use Rattle.frames.specs.Stream.{bitsFrom, putAll};
-ghost use Rattle.frames.specs.Zeros.{ones, zerosOut, zeroMissing};
-ghost use Rattle.frames.specs.Frame.{flag};
-ghost use Rattle.frames.specs.Reading.{begins, pastFlags, upToFlag, countOver, streamAt, readFrame, fieldBytes};
-ghost use Rattle.frames.specs.Steps.{BodyIs};
+ghost use lib.ListN.{length};
+ghost use Rattle.frames.specs.Stream.{bitsFrom};
+ghost use Rattle.frames.specs.Zeros.{ones};
+ghost use Rattle.frames.specs.Frame.{frameOf, flag};
+ghost use Rattle.frames.specs.Reading.{accepted, begins, pastFlags, upToFlag, countOver, controlIn, fieldIn, judgedBody, streamAt, fieldBytes, foundAt, readFrame};
+ghost use Rattle.frames.specs.Steps.{BodyIs, addressedBody, behindFlag};
 use crate::check::check;
 use crate::stream::{bit, put_bit};
 use crate::Found;
@@ -18,8 +19,12 @@ use crate::FrameRefusal;
 use crate::What;
 use fields::Direction;
 
-// A flag as a number of eight bits.
+// Eight bits as a number: a flag, and the addresses.
 const FLAG: u64 = 0x7E;
+
+const TO_SENSOR: u64 = 0xC0;
+
+const FROM_SENSOR: u64 = 0x80;
 
 // Whether so many bytes have fewer bits than the count.
 pub fn count_over(length: usize, count: usize) -> bool
@@ -56,7 +61,7 @@ fn flag_at(b: &[u8], count: usize, p: usize) -> bool
 // The place behind neighbouring flags.
 fn past_flags(b: &[u8], count: usize, place: usize) -> usize
     requires { ⌜ place ≤ count ⌝ }
-    ensures { λ r. ⌜ (r ≤ count) × (streamAt (now (b .entry)) count r ≡ pastFlags 0 (streamAt (now (b .entry)) count place)) ⌝ }
+    ensures { λ r. ⌜ (place ≤ r) × (r ≤ count) × (streamAt (now (b .entry)) count r ≡ pastFlags 0 (streamAt (now (b .entry)) count place)) ⌝ }
 {
     let mut p = place;
     while flag_at(b, count, p) {
@@ -164,4 +169,99 @@ fn field_of(body: [u8; 255], count: usize) -> [u8; 251]
     }
     bits::write(&mut field, p, count - p, bits::read(&body, 16 + p, count - p));
     field
+}
+
+// A refusal, or the end: the answered place, and no field.
+fn nothing(what: What, place: usize) -> Found
+    ensures { λ r. ⌜ r ≡ record { what = what; place = place; field = fieldBytes [] } ⌝ }
+{
+    Found {
+        what,
+        place,
+        field: [0u8; 251],
+    }
+}
+
+// A body with an address, as the frame that it is.
+fn frame(bytes: [u8; 255], count: usize, way: Direction, place: usize) -> Found
+    requires { ⌜ (32 ≤ count) × (count ≤ 2040) ⌝ }
+    ensures { λ r. ⌜ r ≡ foundAt place (accepted (frameOf way (controlIn (bitsFrom bytes 0 count)) (fieldIn (bitsFrom bytes 0 count)))) ⌝ }
+{
+    let field = field_of(bytes, count - 32);
+    let control = bits::read(&bytes, 8, 8) as u8;
+    Found {
+        what: What::Frame {
+            way,
+            control,
+            count: count - 32,
+        },
+        place,
+        field,
+    }
+}
+
+// The address of a body whose length and check sequence are right: 42, or a frame.
+fn addressed(bytes: [u8; 255], count: usize, place: usize) -> Found
+    requires { ⌜ (32 ≤ count) × (count ≤ 2040) ⌝ }
+    ensures { λ r. ⌜ r ≡ foundAt place (addressedBody (bitsFrom bytes 0 count)) ⌝ }
+{
+    let address = bits::read(&bytes, 0, 8);
+    if address == TO_SENSOR {
+        return frame(bytes, count, Direction::ToSensor, place);
+    }
+    if address == FROM_SENSOR {
+        return frame(bytes, count, Direction::FromSensor, place);
+    }
+    nothing(What::Refused(FrameRefusal::UnknownAddress), place)
+}
+
+// What a body is, with its closing flag at a place: 40, 43, 42, or a frame.
+fn judged(body: Body, place: usize) -> Found
+    ensures { λ r. ⌜ r ≡ foundAt place (judgedBody (bitsFrom (body .bytes) 0 (body .count))) ⌝ }
+{
+    let bytes = body.bytes;
+    let count = body.count;
+    if count < 32 {
+        return nothing(What::Refused(FrameRefusal::WrongLength), place);
+    }
+    if 2040 < count {
+        return nothing(What::Refused(FrameRefusal::WrongLength), place);
+    }
+    if check(&bytes, count - 16) == bits::read(&bytes, count - 16, 16) {
+        return addressed(bytes, count, place);
+    }
+    nothing(What::Refused(FrameRefusal::WrongCheck), place)
+}
+
+// What stands at a place where a flag begins.
+fn behind_flag(b: &[u8], count: usize, place: usize) -> Found
+    requires { ⌜ begins flag (streamAt (now b) count place) ≡ true ⌝ }
+    ensures { λ r. ⌜ r ≡ behindFlag place (streamAt (now (b .entry)) count place) ⌝ }
+{
+    let from = past_flags(b, count, place);
+    if from == count {
+        return nothing(What::End, count);
+    }
+    let to = closing(b, count, from);
+    let body = body_of(b, from, to);
+    if body.missing {
+        return nothing(What::Refused(FrameRefusal::ZeroMissing), place);
+    }
+    if to == count {
+        return nothing(What::Refused(FrameRefusal::NoClosingFlag), place);
+    }
+    judged(body, to)
+}
+
+// What stands at a place of a stream of so many bits.
+pub fn read(b: &[u8], count: usize, place: usize) -> Found
+    ensures { λ r. ⌜ r ≡ readFrame (now (b .entry)) count place ⌝ }
+{
+    if count_over(b.len(), count) {
+        return nothing(What::Refused(FrameRefusal::CountOrFlag), place);
+    }
+    if flag_at(b, count, place) {
+        return behind_flag(b, count, place);
+    }
+    nothing(What::Refused(FrameRefusal::CountOrFlag), place)
 }

@@ -9,13 +9,13 @@ use Rattle.frames.proofs.reading.past_flags.Statement.{statement}
 use Rattle.frames.proofs.reading.past_flags.Tie as tie
 
 abbrev Inv-loop : tie.InvT-loop
-Inv-loop b count place p₀ p = (p ≤ count) × (pastFlags 0 (streamAt b count p) ≡ pastFlags 0 (streamAt b count place))
+Inv-loop b count place p₀ p = (place ≤ p) × (p ≤ count) × (pastFlags 0 (streamAt b count p) ≡ pastFlags 0 (streamAt b count place))
 
 abbrev μ-loop : tie.MeasureT-loop
 μ-loop b count place p₀ p = count - p
 
 loop-holds : tie.Need-loop-holds Inv-loop μ-loop
-loop-holds c = (omega arith, refl)
+loop-holds c = (omega arith, omega arith, refl)
 
 add-p : tie.Need-add-p Inv-loop μ-loop
 add-p c = omega (arith, flag-room _ _ _ (sym (c .before .flag-at .ensures) ∙ c .if1 .taken))
@@ -26,12 +26,12 @@ loop-less c = omega (arith, flag-room _ _ _ (sym (c .before .flag-at .ensures) �
 loop-again : tie.Need-loop-again Inv-loop μ-loop
 loop-again c =
     let h = sym (c .before .flag-at .ensures) ∙ c .if1 .taken in
-    (omega (arith, flag-room _ _ _ h), sym (past-one _ _ _ h) ∙ c .before .before .loop .inv .1)
+    (omega arith, omega (arith, flag-room _ _ _ h), sym (past-one _ _ _ h) ∙ c .before .before .loop .inv .2)
 
 returns : tie.Need-returns Inv-loop μ-loop
 returns c =
     let l = c .before .before .loop in
-    (l .inv .0, sym (past-none _ (sym (c .before .flag-at .ensures) ∙ c .if1 .left)) ∙ l .inv .1)
+    (l .inv .0, l .inv .1, sym (past-none _ (sym (c .before .flag-at .ensures) ∙ c .if1 .left)) ∙ l .inv .2)
 
 pub past-flags-spec : {M : Type 1} → statement M
 past-flags-spec = tie.close (tie.spec Inv-loop μ-loop loop-holds (λ c κs. search needs) add-p loop-less loop-again returns)
