@@ -19,9 +19,10 @@ use Rattle.frames.specs.Stream.{digits}
 use Rattle.frames.specs.Check.{checkOf}
 use Rattle.frames.specs.Zeros.{withZeros, zerosOut, zeroMissing}
 use Rattle.frames.specs.Frame.{Frame, Fits, flag, address, message, body, between, frameBits}
-use Rattle.frames.specs.Reading.{accepted, Outcome, outcome, begins, behindOpening, wrongLength, wrongCheck, unknownAddress, wayIn, controlIn, fieldIn, frameIn, readBits}
+use Rattle.frames.specs.Reading.{accepted, Outcome, outcome, begins, wrongLength, wrongCheck, unknownAddress, wayIn, controlIn, fieldIn, frameIn, readBits}
+use Rattle.frames.specs.Writing.{closingAt}
 use Rattle.frames.specs.Lists.{flags}
-use Rattle.frames.specs.Claims.{Stretch, ReadsBack, AcceptedExactly, WrittenAgain}
+use Rattle.frames.specs.Claims.{Stretch, opening, ReadsBack, AcceptedExactly, WrittenAgain}
 use Rattle.frames.proofs.Tests.{by-test}
 use Rattle.frames.proofs.Numbered.{number-lt, length-digits, number-digits, digits-number, begins-eq, begins-whole}
 use Rattle.frames.proofs.Checked.{length-checkOf}
@@ -178,11 +179,10 @@ unfolding frameBits
 framed k f rest = simp append-assoc
 
 -- how many bits stand in front of its opening flag, and in front of its closing flag
-pub opening : (k : ℕ) (f : Frame) (rest : List Bool)
-    → length (laid k (between f) rest) - length (behindOpening (laid k (between f) rest)) - 8 ≡ length (flags k)
-opening k f rest = rw (laid-open k (between f) rest (between-stretch f)) (omega arith)
+pub opening-at : (k : ℕ) (f : Frame) (rest : List Bool) → opening (laid k (between f) rest) ≡ length (flags k)
+opening-at k f rest = rw (laid-open k (between f) rest (between-stretch f)) (omega arith)
 
-pub closing-at : (k : ℕ) (f : Frame) → length (flags k) + length (frameBits f) - 8 ≡ ahead k (between f)
+pub closing-at : (k : ℕ) (f : Frame) → closingAt (length (flags k)) f ≡ ahead k (between f)
 closing-at k f = rw length-frame (omega arith)
 
 -- ---- the claims
@@ -207,8 +207,8 @@ pub record Stands (s : List Bool) (f : Frame) (n : ℕ) : Type 0 where
   pub more : ℕ
   pub rest : List Bool
   pub whole : s ≡ flags more ++ (frameBits f ++ rest)
-  pub opens : length s - length (behindOpening s) - 8 ≡ length (flags more)
-  pub closes : n ≡ length (flags more) + length (frameBits f) - 8
+  pub opens : opening s ≡ length (flags more)
+  pub closes : n ≡ closingAt (opening s) f
   pub fits : Fits f
 
 pub stands : (over : Bool) (s : List Bool) (f : Frame) (n : ℕ) → readBits over s ≡ outcome (accepted f) n → (over ≡ false) × Stands s f n
@@ -218,14 +218,15 @@ stands over s f n e =
     let m = l .more in
     let j = judged-exactly (l .bits) (ahead m (l .bits)) f n .0
     (sym (read-laid m (l .bits) (l .rest) (l .between)) ∙ (λ i. readBits (sym (k .0) i) (sym (l .whole) i)) ∙ e) in
-    let w : s ≡ laid m (between f) (l .rest) = l .whole ∙ ap (λ (t : List Bool). laid m t (l .rest)) (j .0) in (
+    let w : s ≡ laid m (between f) (l .rest) = l .whole ∙ ap (λ (t : List Bool). laid m t (l .rest)) (j .0) in
+    let o : opening s ≡ length (flags m) = ap opening w ∙ opening-at m f (l .rest) in (
       k .0,
       record {
         more = m;
         rest = l .rest;
         whole = w ∙ sym (framed m f (l .rest));
-        opens = ap (λ (s : List Bool). length s - length (behindOpening s) - 8) w ∙ opening m f (l .rest);
-        closes = j .2 ∙ ap (ahead m) (j .0) ∙ sym (closing-at m f);
+        opens = o;
+        closes = j .2 ∙ ap (ahead m) (j .0) ∙ sym (closing-at m f) ∙ ap (λ (k : ℕ). closingAt k f) (sym o);
         fits = j .1;
       },
     )
@@ -237,4 +238,5 @@ written-again over s f n e =
       ap (λ (p : ℕ). take (length (frameBits f)) (drop p s)) (h .opens)
           ∙ ap (λ (s : List Bool). take (length (frameBits f)) (drop (length (flags (h .more))) s)) (h .whole)
           ∙ simp (drop-append-seam, take-append-seam),
+      h .closes,
     )

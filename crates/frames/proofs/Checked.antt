@@ -17,7 +17,7 @@ use lib.Seq.{take-at, getD-at}
 use Rattle.frames.specs.Stream.{bit, number, digits}
 use Rattle.frames.specs.Check.{sum, generator, fed, feed, preset, checkOf}
 use Rattle.frames.specs.Reading.{begins, wrongCheck}
-use Rattle.frames.specs.Claims.{Remainder, OneFlipFound, TwoFlipsFound, KnownChecks}
+use Rattle.frames.specs.Claims.{Remainder, BurstFound, OneFlipFound, TwoFlipsFound, KnownChecks}
 use Rattle.frames.proofs.Numbered.{number-lt, number-cons, number-append, length-digits, number-digits, begins-whole}
 
 -- a register without its first bit, moved up one power
@@ -310,9 +310,7 @@ remainder b l = (λ w. all ∙ last .0 (whole .0 (not-false _ w)), λ e. ap not 
     whole : (begins (map not rs) (drop n b) ≡ true) ↔ (map not rs ≡ drop n b)
     whole = begins-whole (map not rs) (drop n b) (length-checkOf (take n b) ∙ sym rest)
 
--- any bits put in the place of as many, at most sixteen, are found; flips are a case of it
-pub burst-found : (xs ds es ys : List Bool) → length ds ≤ 16 → length ds ≡ length es → (ds ≡ es → ⊥) → 16 ≤ length (xs ++ (ds ++ ys))
-    → wrongCheck (xs ++ (ds ++ ys)) ≡ false → wrongCheck (xs ++ (es ++ ys)) ≡ true
+pub burst-found : BurstFound
 burst-found xs ds es ys l n differ k e = go (wrongCheck (xs ++ (es ++ ys))) refl
   where
     rs : List Bool

@@ -12,8 +12,8 @@ use lib.ListN.{length, getD, replicate}
 use Rattle.bits.specs.Bits.{bitsOf, putBits, Bytes}
 use Rattle.bits.proofs.Laws.{whole, bitsOf-lt, bitsOf-putBits, putBits-other, putBits-bytes, length-putBits}
 use Rattle.frames.specs.Stream.{bitsFrom, putAll, number, digits}
-use Rattle.frames.proofs.Numbered.{number-inj, length-digits, number-digits, digits-number}
-use Rattle.frames.proofs.Streamed.{length-bitsFrom, bitsFrom-join, bitsFrom-same, number-bitsFrom, length-putAll, putAll-bytes, bitsFrom-putAll, bitsFrom-putAll-other, told-by-bits}
+use Rattle.frames.proofs.Numbered.{number-lt, number-inj, length-digits, number-digits, digits-number}
+use Rattle.frames.proofs.Streamed.{length-bitsFrom, bitsFrom-join, bitsFrom-same, number-bitsFrom, length-putAll, putAll-bytes, putAll-append, bitsFrom-putAll, bitsFrom-putAll-other, told-by-bits}
 
 -- zeros are bytes, and so is what a slice or an array of bytes holds
 pub zero-bytes : (n : ℕ) → Bytes (replicate n 0)
@@ -61,3 +61,24 @@ put-read s t p q n r b h l e =
     ap (λ (k : ℕ). digits k (bitsOf t q n)) (sym (length-bitsFrom t q n)) ∙ ap (digits (length (bitsFrom t q n))) (sym (number-bitsFrom t q n))
     ∙ digits-number (bitsFrom t q n) in
     rw f (put-number s p n (bitsOf t q n) b h (bitsOf-lt t q n) ∙ ap (putAll s p) d)
+
+-- n bits more of a stretch that is copied
+pub put-more : (s t : List ℕ) (at from p n r : ℕ) → Bytes s → at + (p + n) ≤ length s * 8 → n ≤ 64 → r ≡ bitsOf t (from + p) n % 2 ^ 64
+    → putBits (putAll s at (bitsFrom t from p)) (at + p) n r ≡ putAll s at (bitsFrom t from (p + n))
+put-more s t at from p n r b h l e =
+    let k = length-bitsFrom t from p in
+    put-read (putAll s at (bitsFrom t from p)) t (at + p) (from + p) n r (putAll-bytes s at (bitsFrom t from p) b)
+    (rw (length-putAll s at (bitsFrom t from p)) (omega arith)) l e
+    ∙ sym
+    (ap (putAll s at) (bitsFrom-join t from p n) ∙ putAll-append s at (bitsFrom t from p) (bitsFrom t (from + p) n)
+    ∙ ap (λ (j : ℕ). putAll (putAll s at (bitsFrom t from p)) (at + j) (bitsFrom t (from + p) n)) k)
+
+-- bits that are put as the number that they make, behind those that were put into zeros
+pub put-bits : (s : List ℕ) (p n v : ℕ) (bs : List Bool) → Bytes s → length bs ≡ n → p + n ≤ length s * 8 → v ≡ number bs
+    → putBits s p n v ≡ putAll s p bs
+put-bits s p n v bs b k h e =
+    let l : v < 2 ^ n = rw (e, sym k) (number-lt bs) in
+    put-number s p n v b h l ∙ ap (putAll s p) (rw (e, sym k) (digits-number bs))
+
+pub fill-more : (s : List ℕ) (xs ys : List Bool) (p : ℕ) → length xs ≡ p → putAll (putAll s 0 xs) p ys ≡ putAll s 0 (xs ++ ys)
+fill-more s xs ys p e = sym (putAll-append s 0 xs ys ∙ ap (λ (k : ℕ). putAll (putAll s 0 xs) k ys) (zero-add (length xs) ∙ e))

@@ -8,7 +8,7 @@ use mathlib.Core.List.{List, [], _∷_, _++_, append-assoc, append-nil, nil≢co
 use native.Mathlib.Omega.{arith}
 use lib.ListN.{length, drop, length-append}
 use borrow.Author.Tests.{eqb-false, ne-eqb, not-false}
-use Rattle.rows.specs.Rows.{Row, row, firstOf}
+use Rattle.rows.specs.Rows.{Row, row, firstOf, each}
 use Rattle.rows.proofs.Claims as law
 use Rattle.fields.proofs.Puts.{both-false}
 use Rattle.frames.specs.declared.FrameRefusal.{FrameRefusal}
@@ -16,7 +16,7 @@ use Rattle.frames.specs.declared.FrameRefusal.the-variants as R
 use Rattle.frames.specs.Stream.{digits}
 use Rattle.frames.specs.Zeros.{zerosOut, zeroMissing}
 use Rattle.frames.specs.Frame.{flag}
-use Rattle.frames.specs.Reading.{accepted, refused, end, Outcome, outcome, begins, pastFlags, upToFlag, behindOpening, stretch, closing, onlyFlags, noClosingFlag, wrongLength, wrongCheck, unknownAddress, frameIn, readBits}
+use Rattle.frames.specs.Reading.{accepted, refused, end, Outcome, outcome, begins, pastFlags, upToFlag, behindOpening, stretch, closing, onlyFlags, noClosingFlag, bodyRows, frameIn, readBits}
 use Rattle.frames.specs.Lists.{flags}
 use Rattle.frames.specs.Claims.{Stretch}
 use Rattle.frames.proofs.Tests.{by-test}
@@ -117,10 +117,7 @@ ahead k t = length (flags k) + 8 + length t
 abbrev pub judges : List Bool → ℕ → List (Row Outcome)
 judges t n =
     row (zeroMissing 0 t) (outcome (refused R.ZeroMissing) 0)
-    ∷ row (wrongLength (zerosOut 0 t)) (outcome (refused R.WrongLength) n)
-    ∷ row (wrongCheck (zerosOut 0 t)) (outcome (refused R.WrongCheck) n)
-    ∷ row (unknownAddress (zerosOut 0 t)) (outcome (refused R.UnknownAddress) n)
-    ∷ []
+    ∷ each (λ a. outcome a n) (bodyRows (zerosOut 0 t))
 
 unfoldable pub judged : List Bool → ℕ → Outcome
 judged t n = firstOf (judges t n) (outcome (accepted (frameIn (zerosOut 0 t))) n)

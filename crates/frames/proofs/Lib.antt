@@ -2,6 +2,8 @@ pub mod Tests
 pub mod Numbered
 pub mod Streamed
 pub mod Chunks
+pub mod Stuffing
+pub mod Filled
 pub mod Checked
 pub mod Zeros
 pub mod Refused
@@ -11,3 +13,5 @@ pub mod Judging
 pub mod Behind
 pub mod Back
 pub mod Lists
+pub mod Decided
+pub mod Lent

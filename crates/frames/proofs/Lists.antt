@@ -2,19 +2,18 @@
 -- Assumes nothing.
 use Prim.Native.Nat.{ℕ, zero, suc, _+_, _≤_, _<_}
 use mathlib.Core.Path.{_≡_, refl, sym, ap, _∙_}
-use mathlib.Core.Bool.{Bool, true, false, not, cond, true≢false}
+use mathlib.Core.Bool.{Bool, true, false, cond, true≢false}
 use mathlib.Core.List.{List, [], _∷_, _++_, map, append-assoc, append-nil, append-cancel-right, nil≢cons}
 use native.Mathlib.Omega.{arith}
-use lib.Dec.{ltb}
 use lib.ListN.{length, take, drop, length-append}
 use lib.Seq.{take-at, drop-at}
-use borrow.Author.Tests.{ltb-true, lt-ltb}
-use Rattle.fields.proofs.Puts.{both-true}
+use borrow.Author.Tests.{lt-ltb}
+use Rattle.rows.proofs.Claims as law
 use Rattle.frames.specs.Stream.{digits}
 use Rattle.frames.specs.Frame.{Frame, flag, between}
 use Rattle.frames.specs.Zeros.{zerosOut, zeroMissing}
-use Rattle.frames.specs.Reading.{Answer, accepted, end, Outcome, outcome, begins, pastFlags, onlyFlags, wrongLength, wrongCheck, unknownAddress, readBits}
-use Rattle.frames.specs.Lists.{Spaced, flags, streamOf, framesOf, AllFit, isEnd, goesOn, calls, flagsIn}
+use Rattle.frames.specs.Reading.{Answer, accepted, end, Outcome, outcome, begins, pastFlags, onlyFlags, bodyRows, frameIn, readBits}
+use Rattle.frames.specs.Lists.{Spaced, flags, streamOf, framesOf, AllFit, goesOn, calls, flagsIn}
 use Rattle.frames.specs.Claims.{ListReadsBack, EqualLists, CallsEnough, NotBehind}
 use Rattle.frames.proofs.Tests.{by-test}
 use Rattle.frames.proofs.Numbered.{length-digits, begins-append}
@@ -32,6 +31,24 @@ call k s a n e = ap (λ (o : Outcome). o .answer ∷ cond (goesOn o) (calls k (d
 goes-laid : (s : List Bool) → goesOn (readBits false s) ≡ true → Laid s
 unfolding goesOn
 goes-laid s h = laid-by goesOn (λ q. refl) (λ n. refl) false s h .1
+
+read-laid-out : (s : List Bool) (l : Laid s) → readBits false s ≡ judged (l .bits) (ahead (l .more) (l .bits))
+read-laid-out s l = ap (readBits false) (l .whole) ∙ read-laid (l .more) (l .bits) (l .rest) (l .between)
+
+-- a call that goes on answers the place of the closing flag
+judged-on : (t : List Bool) (n : ℕ) → goesOn (judged t n) ≡ true → judged t n .on ≡ n
+unfolding judged goesOn
+judged-on t n h =
+    let b = zerosOut 0 t in
+    by-test (zeroMissing 0 t)
+    (λ e. absurd (true≢false (sym (rw e at h))))
+    (λ e. rw e (ap (λ (o : Outcome). o .on) (law.each-of Answer Outcome (λ a. outcome a n) (bodyRows b) (accepted (frameIn b)))))
+
+goes-closing : (s : List Bool) (h : goesOn (readBits false s) ≡ true) → let l = goes-laid s h in readBits false s .on ≡ ahead (l .more) (l .bits)
+goes-closing s h =
+    let l = goes-laid s h in
+    let e : readBits false s ≡ judged (l .bits) (ahead (l .more) (l .bits)) = read-laid-out s l in
+    ap (λ (o : Outcome). o .on) e ∙ judged-on (l .bits) _ (sym (ap goesOn e) ∙ h)
 
 -- ---- calls one after the other
 
@@ -116,43 +133,36 @@ flags-fewer zero s h e = absurd (omega arith)
 flags-fewer (suc n) [] h e = absurd (true≢false (sym e))
 flags-fewer (suc n) (b ∷ s) h e = rw e (omega (arith, flags-drop n s))
 
--- so a call that goes on leaves fewer flags
-goes-fewer : (s : List Bool) → goesOn (readBits false s) ≡ true → flagsIn (drop (readBits false s .on) s) < flagsIn s
-unfolding goesOn
+-- so a call that goes on leaves fewer flags, and the closing one
+goes-fewer : (s : List Bool) → goesOn (readBits false s) ≡ true
+    → let left = flagsIn (drop (readBits false s .on) s) in (0 < left) × (left < flagsIn s)
 goes-fewer s h =
     let l = goes-laid s h in
-    let o = readBits false s in
-    flags-fewer (o .on) s (ltb-true _ _ (both-true (not (isEnd (o .answer))) (ltb 0 (o .on)) h .1))
-    (ap (begins flag) (l .whole) ∙ laid-begins (l .more) (l .bits) (l .rest) (l .between))
+    let k = l .more in
+    let t = l .bits in
+    let n : readBits false s .on ≡ ahead k t = goes-closing s h in
+    let left : drop (readBits false s .on) s ≡ flag ++ l .rest =
+    ap (drop (readBits false s .on)) (l .whole) ∙ rw n (drop-ahead k t (flag ++ l .rest)) in (
+      rw left (omega (arith, flags-fewer 1 (flag ++ l .rest) (omega arith) (begins-append flag (l .rest)))),
+      flags-fewer (readBits false s .on) s (rw n (omega arith)) (ap (begins flag) (l .whole) ∙ laid-begins k t (l .rest) (l .between)),
+    )
 
 -- and any calls that are enough answer alike
-enough : (j k : ℕ) (s : List Bool) → flagsIn s < j → flagsIn s < k → calls j s ≡ calls k s
+enough : (j k : ℕ) (s : List Bool) → flagsIn s ≤ j → 0 < j → flagsIn s ≤ k → 0 < k → calls j s ≡ calls k s
 unfolding calls
-enough zero k s h l = absurd (omega arith)
-enough (suc j) zero s h l = absurd (omega arith)
-enough (suc j) (suc k) s h l =
+enough zero k s h a l b = absurd (omega arith)
+enough (suc j) zero s h a l b = absurd (omega arith)
+enough (suc j) (suc k) s h a l b =
     let o = readBits false s in
     by-test (goesOn o)
-    (λ e. let f = goes-fewer s e in rw e (ap (λ (l : List Answer). o .answer ∷ l) (enough j k (drop (o .on) s) (omega arith) (omega arith))))
+    (λ e. let f = goes-fewer s e in
+    rw e (ap (λ (l : List Answer). o .answer ∷ l) (enough j k (drop (o .on) s) (omega arith) (omega arith) (omega arith) (omega arith))))
     (λ e. rw e)
 
 pub calls-enough : CallsEnough
-calls-enough s k h = enough k (suc (length s)) s (omega arith) (omega (arith, flags-most s))
+calls-enough s k h l = enough k (suc (length s)) s h l (omega (arith, flags-most s)) (omega arith)
 
 -- ---- behind the closing flag
-
--- a call that goes on answers the place of the closing flag
-either : (b : Bool) (x y : Outcome) (n : ℕ) → x .on ≡ n → y .on ≡ n → cond b x y .on ≡ n
-either true x y n p q = p
-either false x y n p q = q
-
-judged-on : (t : List Bool) (n : ℕ) → goesOn (judged t n) ≡ true → judged t n .on ≡ n
-unfolding judged goesOn
-judged-on t n h =
-    let b = zerosOut 0 t in
-    by-test (zeroMissing 0 t)
-    (λ e. absurd (true≢false (sym (rw e at h))))
-    (λ e. rw e (either (wrongLength b) _ _ n refl (either (wrongCheck b) _ _ n refl (either (unknownAddress b) _ _ n refl refl))))
 
 -- a stream up to its closing flag
 laid-ends : (k : ℕ) (t rest : List Bool) → laid k t rest ≡ laid k t [] ++ rest
@@ -163,9 +173,9 @@ not-behind s rest h =
     let l = goes-laid s h in
     let k = l .more in
     let t = l .bits in
-    let e : readBits false s ≡ judged t (ahead k t) = ap (readBits false) (l .whole) ∙ read-laid k t (l .rest) (l .between) in
-    let n : readBits false s .on ≡ ahead k t = ap (λ (o : Outcome). o .on) e ∙ judged-on t (ahead k t) (sym (ap goesOn e) ∙ h) in
+    let n : readBits false s .on ≡ ahead k t = goes-closing s h in
     let m = readBits false s .on + 8 in
     let front : take m s ≡ laid k t [] =
     ap (take m) (l .whole ∙ laid-ends k t (l .rest)) ∙ take-at (laid k t []) (l .rest) m (rw n (simp (length-append, length-digits) (omega arith))) in
-    ap (readBits false) (ap (λ (u : List Bool). u ++ rest) front ∙ sym (laid-ends k t rest)) ∙ read-laid k t rest (l .between) ∙ sym e
+    ap (readBits false) (ap (λ (u : List Bool). u ++ rest) front ∙ sym (laid-ends k t rest))
+    ∙ read-laid k t rest (l .between) ∙ sym (read-laid-out s l)

@@ -31,7 +31,7 @@ reader-ends over s n =
 
 -- ---- the writer
 
-abbrev wrote : Wrote → Bool
+abbrev pub wrote : Wrote → Bool
 wrote (P.Closing p) = true
 wrote (P.Refused q p) = false
 

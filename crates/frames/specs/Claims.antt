@@ -1,24 +1,21 @@
 -- What is claimed of frames. Statements only, with what they need to be said; the file that proves each is named.
-use Prim.Native.Nat.{ℕ, suc, _+_, _-_, _*_, _^_, _≤_, _<_}
+use Prim.Native.Nat.{ℕ, _+_, _-_, _≤_, _<_}
 use mathlib.Core.Path.{_≡_}
 use mathlib.Core.Bool.{Bool, true, false, not}
 use mathlib.Core.List.{List, [], _∷_, _++_, map}
-use mathlib.Core.Logic.{_↔_}
+use mathlib.Core.Logic.{_↔_, _⊎_}
 use lib.ListN.{length, take, drop}
-use Rattle.bits.specs.Bits.{Bytes}
 use Rattle.rows.specs.Claims.{FirstIs}
 use Rattle.fields.specs.declared.Direction.{Direction}
-use Rattle.fields.specs.declared.Direction.the-variants.{ToSensor, FromSensor}
 use Rattle.frames.specs.declared.FrameRefusal.{FrameRefusal}
 use Rattle.frames.specs.declared.What.the-variants as W
-use Rattle.frames.specs.declared.Found.{Found}
 use Rattle.frames.specs.declared.Wrote.the-variants as P
-use Rattle.frames.specs.Stream.{bitsFrom, putAll, number, digits}
+use Rattle.frames.specs.Stream.{bitsFrom, digits}
 use Rattle.frames.specs.Check.{preset, feed, checkOf}
 use Rattle.frames.specs.Zeros.{withZeros, zerosOut, zeroMissing}
-use Rattle.frames.specs.Frame.{Frame, frameOf, Fits, flag, body, between, frameBits}
-use Rattle.frames.specs.Reading.{accepted, refused, end, Outcome, outcome, upToFlag, behindOpening, bodyIn, wrongCheck, countOver, readRows, readBits, streamAt, fieldBytes, readFrame}
-use Rattle.frames.specs.Writing.{given, writeRows, writeFrame, Writes}
+use Rattle.frames.specs.Frame.{Frame, Fits, flag, between, frameBits}
+use Rattle.frames.specs.Reading.{accepted, refused, end, outcome, upToFlag, behindOpening, wrongCheck, readRows, readBits, streamAt, fieldBytes, readFrame}
+use Rattle.frames.specs.Writing.{given, writeRows, closingAt, writeFrame, Writes}
 use Rattle.frames.specs.Lists.{Spaced, flags, streamOf, framesOf, AllFit, goesOn, calls, answers, flagsIn}
 
 -- ---- each refusal exactly under its condition (proofs/Refused.antt)
@@ -58,9 +55,18 @@ NoFlagInside = (s rest : List Bool) → upToFlag (withZeros 0 s ++ (flag ++ rest
 abbrev pub Remainder : Type 0
 Remainder = (b : List Bool) → 16 ≤ length b → (wrongCheck b ≡ false) ↔ (feed preset b ≡ digits 16 0x1D0F)
 
--- one bit flipped, or two neighbouring ones, is found: wherever they stand, in the check sequence too
+-- up to sixteen neighbouring bits of a body replaced by as many others are found, wherever they stand, in the check sequence too. On the line an
+-- error can also make or break a flag or an inserted zero, and of that nothing is said
+abbrev pub BurstFound : Type 0
+BurstFound =
+    (xs ds es ys : List Bool) → length ds ≤ 16 → length ds ≡ length es → (ds ≡ es → ⊥) → 16 ≤ length (xs ++ (ds ++ ys))
+    → wrongCheck (xs ++ (ds ++ ys)) ≡ false → wrongCheck (xs ++ (es ++ ys)) ≡ true
+
+-- so one bit of it flipped, or two neighbouring ones, is found
 abbrev pub OneFlipFound : Type 0
-OneFlipFound = (xs ys : List Bool) (x : Bool) → 16 ≤ length (xs ++ (x ∷ ys)) → wrongCheck (xs ++ (x ∷ ys)) ≡ false → wrongCheck (xs ++ (not x ∷ ys)) ≡ true
+OneFlipFound =
+    (xs ys : List Bool) (x : Bool) → 16 ≤ length (xs ++ (x ∷ ys)) → wrongCheck (xs ++ (x ∷ ys)) ≡ false
+    → wrongCheck (xs ++ (not x ∷ ys)) ≡ true
 
 abbrev pub TwoFlipsFound : Type 0
 TwoFlipsFound =
@@ -71,16 +77,18 @@ TwoFlipsFound =
 pub record KnownChecks : Type 0 where
   pub to-sensor : checkOf (digits 8 0b11000000 ++ digits 8 0b11111100) ≡ digits 8 0b11011010 ++ digits 8 0b00110111
   pub from-sensor : checkOf (digits 8 0b10000000 ++ digits 8 0b11001110) ≡ digits 8 0b11000001 ++ digits 8 0b11101010
-  pub nine-digits : checkOf (digits 8 0b10001100 ++ digits 8 0b01001100 ++ digits 8 0b11001100 ++ digits 8 0b00101100 ++ digits 8 0b10101100 ++ digits 8 0b01101100 ++ digits 8 0b11101100 ++ digits 8 0b00011100 ++ digits 8 0b10011100)
+  pub nine-digits : checkOf
+      (digits 8 0b10001100 ++ digits 8 0b01001100 ++ digits 8 0b11001100 ++ digits 8 0b00101100 ++ digits 8 0b10101100
+      ++ digits 8 0b01101100 ++ digits 8 0b11101100 ++ digits 8 0b00011100 ++ digits 8 0b10011100)
       ≡ digits 8 0b01110110 ++ digits 8 0b00001001
 
 -- ---- one frame (proofs/Back.antt)
 
--- a frame that was written is read, behind any number of flags, wherever it stands and whatever follows it; and the place of its closing flag is answered
+-- a frame that was written is read, behind any number of flags and whatever follows it, and the place of its closing flag is answered
 abbrev pub ReadsBack : Type 0
 ReadsBack =
     (f : Frame) (k : ℕ) (rest : List Bool) → Fits f
-    → readBits false (flags k ++ (frameBits f ++ rest)) ≡ outcome (accepted f) (length (flags k) + length (frameBits f) - 8)
+    → readBits false (flags k ++ (frameBits f ++ rest)) ≡ outcome (accepted f) (closingAt (length (flags k)) f)
 
 -- bits between two flags: there are some, and no flag begins among them
 abbrev pub Stretch : List Bool → Type 0
@@ -92,11 +100,16 @@ AcceptedExactly =
     (s rest : List Bool) (f : Frame) (n : ℕ) → Stretch s
     → (readBits false (flag ++ (s ++ (flag ++ rest))) ≡ outcome (accepted f) n) ↔ ((s ≡ between f) × Fits f × (n ≡ 8 + length s))
 
--- a frame that was read stands there, from its opening flag to its closing flag, as the writer writes it; and the writer takes it
+-- how many bits stand in front of the opening flag
+abbrev pub opening : List Bool → ℕ
+opening s = length s - length (behindOpening s) - 8
+
+-- a frame that was read stands there as the writer writes it, from its opening flag to its closing flag, whose place was answered; and the writer
+-- takes it
 abbrev pub WrittenAgain : Type 0
 WrittenAgain =
     (over : Bool) (s : List Bool) (f : Frame) (n : ℕ) → readBits over s ≡ outcome (accepted f) n
-    → Fits f × (take (length (frameBits f)) (drop (length s - length (behindOpening s) - 8) s) ≡ frameBits f)
+    → Fits f × (take (length (frameBits f)) (drop (opening s) s) ≡ frameBits f) × (n ≡ closingAt (opening s) f)
 
 -- ---- lists of frames, and the calls (proofs/Lists.antt)
 
@@ -108,9 +121,9 @@ ListReadsBack = (xs : List Spaced) (tail : ℕ) → AllFit xs → answers (strea
 abbrev pub EqualLists : Type 0
 EqualLists = (xs ys : List Spaced) (m n : ℕ) → AllFit xs → AllFit ys → streamOf xs m ≡ streamOf ys n → framesOf xs ≡ framesOf ys
 
--- a stream is finished in at most as many calls as it has flags, and one
+-- a stream is finished in as many calls as it has flags; one that has none, in one call
 abbrev pub CallsEnough : Type 0
-CallsEnough = (s : List Bool) (k : ℕ) → flagsIn s + 1 ≤ k → calls k s ≡ answers s
+CallsEnough = (s : List Bool) (k : ℕ) → flagsIn s ≤ k → 0 < k → calls k s ≡ answers s
 
 -- bits behind the closing flag make no difference
 abbrev pub NotBehind : Type 0
@@ -130,18 +143,24 @@ WrittenReads =
     → Writes bytes count place way control field n (P.Closing p) exit
     → readFrame exit count place ≡ record { what = W.Frame way control n; place = p; field = fieldBytes (bitsFrom field 0 n) }
 
+-- a frame written on from the closing flag of another shares it: that one still reads as it did
+abbrev pub WrittenOn : Type 0
+WrittenOn =
+    (bytes : List ℕ) (count place : ℕ) (way : Direction) (control : ℕ) (field : List ℕ) (n p : ℕ) (exit : List ℕ) → control < 256
+    → Writes bytes count place way control field n (P.Closing p) exit
+    → (way′ : Direction) (control′ : ℕ) (field′ : List ℕ) (n′ p′ : ℕ) (exit′ : List ℕ)
+    → Writes exit count p way′ control′ field′ n′ (P.Closing p′) exit′ → readFrame exit′ count place ≡ readFrame exit count place
+
 -- a frame that was read, written again at its opening flag, leaves the bytes as they are
 abbrev pub ReadWrites : Type 0
 ReadWrites =
-    (bytes : List ℕ) (count place : ℕ) (way : Direction) (control n p : ℕ) (field : List ℕ) → Bytes bytes
+    (bytes : List ℕ) (count place : ℕ) (way : Direction) (control n p : ℕ) (field : List ℕ)
     → readFrame bytes count place ≡ record { what = W.Frame way control n; place = p; field = field }
-    → Writes bytes count (count - length (behindOpening (streamAt bytes count place)) - 8) way control field n (P.Closing p) bytes
+    → Writes bytes count (place + opening (streamAt bytes count place)) way control field n (P.Closing p) bytes
 
--- a call leaves all bits in front of its place and behind the closing flag as they were
+-- a frame that is written leaves all bits in front of its place and behind its closing flag as they were
 abbrev pub OthersStay : Type 0
 OthersStay =
-    (bytes : List ℕ) (p : ℕ) (bs : List Bool) (g m : ℕ) → (g + m ≤ p) → bitsFrom (putAll bytes p bs) g m ≡ bitsFrom bytes g m
-
-abbrev pub BehindStay : Type 0
-BehindStay =
-    (bytes : List ℕ) (p : ℕ) (bs : List Bool) (g m : ℕ) → (p + length bs ≤ g) → bitsFrom (putAll bytes p bs) g m ≡ bitsFrom bytes g m
+    (bytes : List ℕ) (count place : ℕ) (way : Direction) (control : ℕ) (field : List ℕ) (n p : ℕ) (exit : List ℕ)
+    → Writes bytes count place way control field n (P.Closing p) exit
+    → (g m : ℕ) → (g + m ≤ place) ⊎ (p + 8 ≤ g) → bitsFrom exit g m ≡ bitsFrom bytes g m

@@ -37,9 +37,12 @@ abbrev pub flag : List Bool
 flag = digits 8 0b01111110
 
 -- "Address is 11000000 to the sensor, 10000000 from it"
+abbrev pub addressNumber : Direction → ℕ
+addressNumber ToSensor = 0b11000000
+addressNumber FromSensor = 0b10000000
+
 abbrev pub address : Direction → List Bool
-address ToSensor = digits 8 0b11000000
-address FromSensor = digits 8 0b10000000
+address w = digits 8 (addressNumber w)
 
 -- "address, control, field"
 abbrev pub message : Frame → List Bool

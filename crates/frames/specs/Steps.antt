@@ -4,11 +4,16 @@ use mathlib.Core.Path.{_≡_}
 use mathlib.Core.Bool.{Bool, true, false, cond}
 use mathlib.Core.List.{List}
 use lib.ListN.{length, replicate}
-use Rattle.frames.specs.Stream.{putAll}
+use Rattle.fields.specs.declared.Direction.{Direction}
+use Rattle.frames.specs.declared.Wrote.{Wrote}
+use Rattle.frames.specs.declared.Wrote.the-variants as P
+use Rattle.frames.specs.Stream.{bitsFrom, putAll}
 use Rattle.frames.specs.declared.FrameRefusal.the-variants as R
 use Rattle.frames.specs.declared.Found.{Found}
 use Rattle.frames.specs.Zeros.{zerosOut, zeroMissing}
 use Rattle.frames.specs.Reading.{Answer, accepted, refused, Outcome, unknownAddress, frameIn, readBits, foundAt}
+use Rattle.frames.specs.Frame.{body}
+use Rattle.frames.specs.Writing.{given, writeFrame}
 
 -- a stretch without its inserted zeros: how many bits, and the bits in 255 bytes, as many as there is room for; or a zero is missing
 pub record BodyIs (stretch : List Bool) (bytes : List ℕ) (count : ℕ) (missing : Bool) : Type 0 where
@@ -23,3 +28,8 @@ addressedBody b = cond (unknownAddress b) (refused R.UnknownAddress) (accepted (
 -- what is found at a place in bits that begin with a flag, if the count is not over the lent bits
 abbrev pub behindFlag : ℕ → List Bool → Found
 behindFlag place s = let o = readBits false s in foundAt (place + o .on) (o .answer)
+
+-- what the writer decides: its answer, and, if it writes, the bytes that begin with the body
+pub record DecidedIs (len count place : ℕ) (way : Direction) (control : ℕ) (field : List ℕ) (n : ℕ) (wrote : Wrote) (bytes : List ℕ) : Type 0 where
+  pub wrote-is : wrote ≡ writeFrame len count place way control field n
+  pub body-is : (p : ℕ) → wrote ≡ P.Closing p → bitsFrom bytes 0 (n + 32) ≡ body (given way control field n)

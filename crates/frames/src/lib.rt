@@ -8,6 +8,7 @@ use fields::Direction;
 mod stream; // stream.rt: one bit
 mod check; // check.rt: the frame check sequence
 pub mod reading; // reading.rt: the reader
+pub mod writing; // writing.rt: the writer
 
 // Why a place gives no frame, or a frame was not written, in the order of document 02.
 pub enum FrameRefusal {

@@ -5,15 +5,13 @@ ghost use mathlib.Core.Path.{_≡_};
 ghost use mathlib.Core.Bool.{true};
 ghost use mathlib.Core.List.{[]};
 ghost use Prim.Native.Nat.{_+_, _-_, _≤_};
-ghost use lib.Dec.{eqb};
 ghost use lib.ListN.{length};
 ghost use Rattle.frames.specs.Stream.{bitsFrom};
-ghost use Rattle.frames.specs.Zeros.{ones};
 ghost use Rattle.frames.specs.Frame.{frameOf, flag};
 ghost use Rattle.frames.specs.Reading.{accepted, begins, pastFlags, upToFlag, countOver, controlIn, fieldIn, judgedBody, streamAt, fieldBytes, foundAt, readFrame};
 ghost use Rattle.frames.specs.Steps.{BodyIs, addressedBody, behindFlag};
 use crate::check::check;
-use crate::stream::{bit, put_bit};
+use crate::stream::{bit, copy_bits, ones_with, put_bit};
 use crate::Found;
 use crate::FrameRefusal;
 use crate::What;
@@ -103,17 +101,6 @@ struct Body {
     missing: bool,
 }
 
-// How many ones stand in front, with one bit more.
-fn ones_with(n: u64, b: u64) -> u64
-    requires { ⌜ (n ≤ 4) × (b ≤ 1) ⌝ }
-    ensures { λ r. ⌜ (r ≡ ones n (eqb b 1)) × (r ≤ 5) ⌝ }
-{
-    if b == 1 {
-        return n + 1;
-    }
-    0
-}
-
 // Goes through the bits from a place up to another.
 fn body_of(b: &[u8], from: usize, to: usize) -> Body
     requires { ⌜ from ≤ to ⌝ }
@@ -162,12 +149,7 @@ fn field_of(body: [u8; 255], count: usize) -> [u8; 251]
     ensures { λ r. ⌜ r ≡ fieldBytes (bitsFrom body 16 count) ⌝ }
 {
     let mut field = [0u8; 251];
-    let mut p = 0;
-    while p + 8 <= count {
-        bits::write(&mut field, p, 8, bits::read(&body, 16 + p, 8));
-        p += 8;
-    }
-    bits::write(&mut field, p, count - p, bits::read(&body, 16 + p, count - p));
+    copy_bits(&mut field, 0, &body, 16, count);
     field
 }
 

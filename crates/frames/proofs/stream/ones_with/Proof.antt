@@ -1,9 +1,9 @@
--- `frames::reading::ones_with` meets its contract. Assumes nothing.
+-- `frames::stream::ones_with` meets its contract. Assumes nothing.
 use native.Mathlib.Omega.{arith}
 use borrow.Author.Needs.{needs}
 use borrow.Author.Tests.{eq-eqb, ne-eqb}
-use Rattle.frames.proofs.reading.ones_with.Statement.{statement}
-use Rattle.frames.proofs.reading.ones_with.Tie as tie
+use Rattle.frames.proofs.stream.ones_with.Statement.{statement}
+use Rattle.frames.proofs.stream.ones_with.Tie as tie
 
 returns : tie.Need-returns
 returns c = (simp (eq-eqb _ _ (c .if1 .taken)), omega arith)
