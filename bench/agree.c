@@ -1,6 +1,6 @@
 /*
  * agree.c: both libraries answer the same, on every input that is measured and on many more: broken lines, every place, cut and turned
- * fields. A difference is printed and ends the program.
+ * fields, damaged frames. A difference is printed and ends the program.
  */
 #include <stdio.h>
 #include <stdlib.h>
@@ -222,5 +222,142 @@ unsigned long agree_fields(unsigned rounds)
             b[relayed ? 2 : 0] = (uint8_t)rnd();
             same_field(b, length, bits, way);
         }
+    return compared - before;
+}
+
+/* ---- frames: plain C bit by bit, and by bytes */
+
+#define SAME_TWICE(call, ...)                                                                                                               \
+    do {                                                                                                                                    \
+        long long answer = (long long)ours.call(__VA_ARGS__);                                                                               \
+        same(#call, answer, (long long)plain.call(__VA_ARGS__), b, length, at);                                                             \
+        same(#call " by bytes", answer, (long long)plain_bytes.call(__VA_ARGS__), b, length, at);                                           \
+    } while (0)
+
+/* The field copied into that much room, by all three. */
+static void same_copied(const uint8_t *b, size_t length, size_t count, size_t at, size_t room)
+{
+    static uint8_t x[256], y[256], z[256];
+    int before = (int)(rnd() & 255);
+    long long n;
+
+    memset(x, before, 256);
+    memset(y, before, 256);
+    memset(z, before, 256);
+    n = (long long)ours.frame_field(b, length, count, at, x, room);
+    same("frame_field", n, (long long)plain.frame_field(b, length, count, at, y, room), b, length, at);
+    same("frame_field by bytes", n, (long long)plain_bytes.frame_field(b, length, count, at, z, room), b, length, at);
+    same("bytes copied", memcmp(x, y, 256) | memcmp(x, z, 256), 0, b, length, at);
+}
+
+static void same_frame(const uint8_t *b, size_t length, size_t count, size_t at)
+{
+    SAME_TWICE(frame_kind, b, length, count, at);
+    SAME_TWICE(frame_refusal, b, length, count, at);
+    SAME_TWICE(frame_place, b, length, count, at);
+    SAME_TWICE(frame_from_sensor, b, length, count, at);
+    SAME_TWICE(frame_control, b, length, count, at);
+    SAME_TWICE(frame_field_count, b, length, count, at);
+    same_copied(b, length, count, at, 251);
+    same_copied(b, length, count, at, rnd() % 32);
+}
+
+/* Every frame of a stream, and the places around each. Where the place is given back, the next flag is looked for. */
+static void whole_stream(const uint8_t *b, size_t length, size_t count)
+{
+    size_t at = 0, next;
+
+    while (at < count) {
+        same_frame(b, length, count, at);
+        same_frame(b, length, count, at + rnd() % 16);
+        next = plain.frame_place(b, length, count, at);
+        if (next == at)
+            for (next++; next < count && plain.frame_refusal(b, length, count, next) == SIAMRUNG_FRAME_REFUSAL_COUNT_OR_FLAG; next++)
+                ;
+        at = next;
+    }
+    same_frame(b, length, count, count);
+    same_frame(b, length, count, count + 1);
+    same_frame(b, length, count, (size_t)-1);
+    same_frame(b, length, 8 * length + 1, 0);
+    same_frame(b, length, (size_t)-1, 0);
+}
+
+/* A field of that many bits in as many bytes or one fewer or more, written by all three between a place and a count. */
+static void same_frame_written(size_t count, size_t at, size_t bits)
+{
+    static uint8_t field[512], b[512], y[512], z[512];
+    size_t length = (count + 7) / 8, size = (bits + 7) / 8 + rnd() % 16 / 14 - (rnd() % 16 == 0 && bits > 0), i;
+    uint32_t from = (uint32_t)rnd() % 3;
+    uint8_t control = (uint8_t)rnd();
+    long long n;
+
+    for (i = 0; i < 512; i++) {
+        field[i] = rnd() % 8 ? (uint8_t)rnd() : 255;
+        b[i] = y[i] = z[i] = (uint8_t)rnd();
+    }
+    length -= rnd() % 32 == 0 && length > 0;
+    SAME_TWICE(frame_write_refusal, b, length, count, at, from, control, field, size, bits);
+    n = (long long)ours.frame_write(b, length, count, at, from, control, field, size, bits);
+    same("frame_write", n, (long long)plain.frame_write(y, length, count, at, from, control, field, size, bits), b, length, at);
+    same("frame_write by bytes", n, (long long)plain_bytes.frame_write(z, length, count, at, from, control, field, size, bits), b, length, at);
+    same("frame written", memcmp(b, y, 512) | memcmp(b, z, 512), 0, b, length, at);
+    SAME_TWICE(frame_write_refusal, b, length, count, at, from, control, field, size, bits);
+    if (n != (long long)at)
+        same_frame(b, length, count, at);
+}
+
+/* Streams that chance seldom makes, each cut at every bit. Spaces stand between the parts; the known frames have no field. */
+static void chosen_streams(void)
+{
+    static const char *const streams[] = {
+        "01111110 11000000 111110100 11011010 00110111 01111110 10000000 11001110 11000001 11101010 01111110 01111110",
+        "01111110 11000000 111110100 11011010 00110111 0 01111110",
+        "01111110 11000000 11111100 11011010 00110111 01111110",
+        "01111110 01111110 00000000 11111 01111110",
+        "01111110 11111 0 11111 01111110 01111110",
+        "01111110 1111110 10000000 11001110 11000001 11101010 01111110",
+        "01111110 1111110 1111110 1111110 01111110",
+        "01111110 0 1111111 0 01111110",
+        "0 01111110 01111110 01111110 000",
+    };
+    uint8_t b[32];
+    size_t i, count;
+    const char *bit;
+
+    for (i = 0; i < sizeof streams / sizeof streams[0]; i++) {
+        memset(b, 0, sizeof b);
+        count = 0;
+        for (bit = streams[i]; *bit; bit++) {
+            if (*bit == ' ')
+                continue;
+            b[count / 8] |= (uint8_t)((*bit == '1') << (7 - count % 8));
+            count++;
+            whole_stream(b, (count + 7) / 8, count);
+        }
+    }
+}
+
+unsigned long agree_frames(unsigned rounds)
+{
+    static uint8_t b[STREAM_BYTES];
+    unsigned long before = compared;
+    unsigned i, k;
+
+    chosen_streams();
+    same_frame(NULL, 0, 0, 0);
+    for (i = 0; i < 8 * rounds; i++) {
+        size_t count = odd_stream(b), length = (count + 7) / 8, bits = rnd() % 4 ? rnd() % 200 : rnd() % 2100;
+        whole_stream(b, length, count);
+        whole_stream(b, (count / 2 + 7) / 8, count / 2);
+        turn(b, length, 1 + (unsigned)(rnd() % 4));
+        whole_stream(b, length, count);
+        same_frame_written(4096, rnd() % 1024, bits);
+        same_frame_written(4096, rnd() % 8, 2000 + rnd() % 16);
+        for (k = 40; k < 72; k++)
+            same_frame_written(bits + bits / 64 + k, rnd() % 4, bits);
+        same_frame_written(rnd() % 4096, rnd() % 64, bits);
+        same_frame_written(rnd() % 64, rnd() % 2 ? rnd() % 70 : (size_t)-1, bits);
+    }
     return compared - before;
 }

@@ -1,7 +1,7 @@
 /*
  * bench.c: what the proved library costs beside plain C. It first compares the answers of both on all inputs (agree.c), then runs both
- * alternately on the same inputs and prints, of each job, how many words or fields a second each does and the ratio: below 1 the library is
- * the slower one.
+ * alternately on the same inputs and prints, of each job, how many words, fields or frames a second each does and the ratio: below 1 the
+ * library is the slower one. Plain C reads and writes frames in two ways, and each has its rows.
  *
  * bench [--small] [--emulated]   compare and measure; --small: once, on little; --emulated: each ratio is marked so, and decides nothing
  * bench --passes                 each job once by each library, through `pass`, for a tool that counts instructions
@@ -15,13 +15,15 @@
 
 #include "bench.h"
 #include "plain_field.h"
+#include "plain_frame.h"
 
-#define SIDE(p)                                                                                                                             \
+#define SIDE(p, f)                                                                                                                          \
     {p##kind, p##refusal, p##has_values, p##first, p##after, p##named, p##nmi, p##degrees, p##seconds, p##has, p##item, p##write,           \
      p##write_refusal, p##field_refusal, p##field_type, p##field_inner_type, p##field_entries, p##field_text_place, p##field_text_length,   \
-     p##field_has, p##field_item, p##field_entry, p##field_write, p##field_write_refusal}
+     p##field_has, p##field_item, p##field_entry, p##field_write, p##field_write_refusal, f##kind, f##refusal, f##from_sensor, f##control,  \
+     f##place, f##field_count, f##field, f##write, f##write_refusal}
 
-const struct calls ours = SIDE(siamrung_), plain = SIDE(plain_);
+const struct calls ours = SIDE(siamrung_, siamrung_frame_), plain = SIDE(plain_, plain_frame_), plain_bytes = SIDE(plain_, plain_bytes_frame_);
 
 /* ---- jobs: each takes one pass over its input, and answers a number that depends on all answers */
 
@@ -110,14 +112,60 @@ static uint64_t write_field(const struct calls *c, struct input *in)
     return c->field_write(to, 256, in->type, in->items, in->items_length, in->list, 240, in->bytes + text, in->length - text) + to[0] + to[4];
 }
 
+/* What stands at a place of a stream, where to go on, and the field. */
+static uint64_t look_at(const struct calls *c, struct input *in, size_t at, size_t *next, uint32_t *kind)
+{
+    static uint8_t field[251];
+    size_t n;
+
+    *kind = c->frame_kind(in->bytes, in->length, in->bits, at);
+    *next = c->frame_place(in->bytes, in->length, in->bits, at);
+    n = c->frame_field(in->bytes, in->length, in->bits, at, field, sizeof field);
+    return *kind + *next + n + (n ? field[n - 1] : 0);
+}
+
+/* A frame begins inside a byte, as most frames of a stream do. */
+#define FRAME_PLACE 5
+
+static uint64_t read_frame(const struct calls *c, struct input *in)
+{
+    size_t next;
+    uint32_t kind;
+
+    return look_at(c, in, FRAME_PLACE, &next, &kind);
+}
+
+/* From frame to frame. */
+static uint64_t walk_frames(const struct calls *c, struct input *in)
+{
+    size_t at = 0;
+    uint64_t sum = 0;
+    uint32_t kind;
+
+    do
+        sum = sum * 31 + look_at(c, in, at, &at, &kind);
+    while (kind == SIAMRUNG_KIND_FRAME);
+    return sum + kind;
+}
+
+/* A frame with the input as its field. */
+static uint64_t write_frame(const struct calls *c, struct input *in)
+{
+    static uint8_t to[320];
+    size_t end = c->frame_write(to, sizeof to, 8 * sizeof to, FRAME_PLACE, in->way, 0x13, in->bytes, in->length, in->bits);
+
+    return end + to[end / 8 - 1] + to[2];
+}
+
 /* ---- the table of jobs */
 
 struct row {
     char name[48];
     job *run;
+    const struct calls *beside;
     struct input *small, *large; /* short lines with as many words as the long one, so that no branch is learnt by heart; or one field */
     unsigned pieces;
-    double units;
+    double units, small_units;
 };
 
 static struct row rows[80];
@@ -144,6 +192,7 @@ static void add_line(const char *name, job *run, fill_line *make, size_t small, 
 
     snprintf(r->name, sizeof r->name, "%s", name);
     r->run = run;
+    r->beside = &plain;
     r->pieces = (unsigned)(large / small);
     r->small = calloc(r->pieces, sizeof *r->small);
     for (i = 0; i < r->pieces; i++) {
@@ -152,7 +201,7 @@ static void add_line(const char *name, job *run, fill_line *make, size_t small, 
         free(one);
     }
     r->large = line_of(make, large);
-    r->units = (double)large;
+    r->units = r->small_units = (double)large;
 }
 
 static void add_field(const char *name, unsigned type, int relayed)
@@ -178,9 +227,75 @@ static void add_field(const char *name, unsigned type, int relayed)
     for (k = 0; k < 2; k++) {
         struct row *r = &rows[row_count++];
         snprintf(r->name, sizeof r->name, "%s field %02X%s", k ? "write" : "read", type, name);
-        r->run = runs[k];
+            r->run = runs[k];
+        r->beside = &plain;
         r->large = in;
         r->units = 1;
+    }
+}
+
+/* A row of frames, beside plain C by bits; add_by_bytes adds the other. */
+static struct row *frame_row(const char *what, const char *name, job *run, struct input *large, double units)
+{
+    struct row *r = &rows[row_count++];
+
+    snprintf(r->name, sizeof r->name, "%s%s: by bits", what, name);
+    r->run = run;
+    r->beside = &plain;
+    r->large = large;
+    r->units = units;
+    return r;
+}
+
+/* A random field of that many bits, which is written, and its frame, which is read. */
+static void add_frame(const char *name, size_t bits)
+{
+    struct input *field = calloc(1, sizeof *field), *frame = calloc(1, sizeof *frame);
+    size_t i;
+
+    field->length = bits / 8;
+    field->bits = bits;
+    field->bytes = malloc(field->length + 1);
+    for (i = 0; i < field->length; i++)
+        field->bytes[i] = (uint8_t)rnd();
+    frame->length = 320;
+    frame->bytes = calloc(1, frame->length);
+    frame->bits = 8 + plain.frame_write(frame->bytes, frame->length, 8 * frame->length, FRAME_PLACE, 0, 0x13, field->bytes, field->length, bits);
+    frame_row("frame read, ", name, read_frame, frame, 1);
+    frame_row("frame written, ", name, write_frame, field, 1);
+}
+
+static struct input *stream_of(size_t words, struct input *in)
+{
+    in->bytes = malloc(2 * words);
+    in->length = 2 * words;
+    in->bits = full_stream(in->bytes, in->length);
+    return in;
+}
+
+/* A stream full of frames, and short ones that have about as many bits together. */
+static void add_stream(size_t small, size_t large)
+{
+    struct input *in = stream_of(large, calloc(1, sizeof *in));
+    struct row *r = frame_row("stream of frames", "", walk_frames, in, (double)in->bits);
+    unsigned i;
+
+    r->pieces = (unsigned)(large / small);
+    r->small = calloc(r->pieces, sizeof *r->small);
+    for (i = 0; i < r->pieces; i++)
+        r->small_units += (double)stream_of(small, &r->small[i])->bits;
+}
+
+/* The rows from the first on once more, beside plain C by bytes. */
+static void add_by_bytes(unsigned first)
+{
+    unsigned i, end = row_count;
+
+    for (i = first; i < end; i++) {
+        struct row *r = &rows[row_count++];
+        *r = rows[i];
+        r->beside = &plain_bytes;
+        strcpy(strrchr(r->name, ':'), ": by bytes");
     }
 }
 
@@ -188,7 +303,7 @@ static void add_field(const char *name, unsigned type, int relayed)
 
 static void make_rows(size_t large)
 {
-    unsigned k;
+    unsigned k, frames;
 
     add_line("full of reports: kind, after", walk, full_line, SHORT_LINE, large);
     add_line("full of reports: every item", record_all, full_line, SHORT_LINE, large);
@@ -200,6 +315,12 @@ static void make_rows(size_t large)
     for (k = 0; k < 21; k++)
         add_field(plain_types[types[k]].step == 80 ? ", the largest ELM" : plain_types[types[k]].step ? ", the longest list" : "", types[k], 0);
     add_field(", the largest ELM, relayed", SIAMRUNG_TYPE_ELM_DOWNLINK, 1);
+    frames = row_count;
+    add_frame("empty", 0);
+    add_frame("96 bits", 96);
+    add_frame("2008 bits", 2008);
+    add_stream(SHORT_LINE, large);
+    add_by_bytes(frames);
 }
 
 /* ---- the clock */
@@ -226,15 +347,15 @@ static double timed(const struct calls *c, job *run, struct input *in, unsigned 
 }
 
 /* The least seconds of a pass of each, alternately. */
-static void measure(job *run, struct input *in, unsigned pieces, double *a, double *b)
+static void measure(const struct row *r, struct input *in, unsigned pieces, double *a, double *b)
 {
     unsigned i, times = 1;
 
-    while (rounds > 1 && timed(&plain, run, in, pieces, times) * times < least)
+    while (rounds > 1 && timed(r->beside, r->run, in, pieces, times) * times < least)
         times *= 2;
     *a = *b = 1e9;
     for (i = 0; i < rounds; i++) {
-        double x = timed(&ours, run, in, pieces, times), y = timed(&plain, run, in, pieces, times);
+        double x = timed(&ours, r->run, in, pieces, times), y = timed(r->beside, r->run, in, pieces, times);
         *a = x < *a ? x : *a;
         *b = y < *b ? y : *b;
     }
@@ -244,15 +365,15 @@ static void print_row(const struct row *r)
 {
     double a, b, c, d;
 
-    measure(r->run, r->large, 1, &a, &b);
-    if (r->run(&ours, r->large) != r->run(&plain, r->large)) {
+    measure(r, r->large, 1, &a, &b);
+    if (r->run(&ours, r->large) != r->run(r->beside, r->large)) {
         printf("bench: DIFFERENT: %s\n", r->name);
         exit(1);
     }
     printf("%-40s %10.2f %10.2f %7.2f%s", r->name, 1e-6 * r->units / a, 1e-6 * r->units / b, b / a, mark);
     if (r->small) {
-        measure(r->run, r->small, r->pieces, &c, &d);
-        printf(" %9.2f %9.2f", a / c, b / d);
+        measure(r, r->small, r->pieces, &c, &d);
+        printf(" %9.2f %9.2f", a / c * r->small_units / r->units, b / d * r->small_units / r->units);
     }
     printf("\n");
     fflush(stdout);
@@ -274,7 +395,7 @@ static void passes(void)
 
     for (i = 0; i < row_count; i++) {
         sink += pass(&ours, rows[i].run, rows[i].large);
-        sink += pass(&plain, rows[i].run, rows[i].large);
+        sink += pass(rows[i].beside, rows[i].run, rows[i].large);
         printf("%.0f %s\n", rows[i].units, rows[i].name);
     }
 }
@@ -307,8 +428,10 @@ int main(int n, char **words)
     }
     printf("same answers: %lu about lines, ", agree_lines(times));
     printf("%lu about writing, ", agree_writing(times));
-    printf("%lu about fields\n", agree_fields(times));
-    printf("millions of words (or fields) a second, their ratio, and the cost of a word on a line of %.0f words to that on lines of %d\n%-40s %10s %10s %7s %9s %9s\n",
+    printf("%lu about fields, ", agree_fields(times));
+    printf("%lu about frames\n", agree_frames(times));
+    printf("millions of words (or fields, frames, bits of a stream) a second, their ratio, and the cost of a word on a line of %.0f words to that\n"
+           "on lines of %d (or of a bit on streams as long)\n%-40s %10s %10s %7s %9s %9s\n",
            rows[0].units, SHORT_LINE, "", "siamrung", "plain C", "ratio", "siamrung", "plain C");
     for (i = 0; i < row_count; i++)
         print_row(&rows[i]);

@@ -1,5 +1,5 @@
 /*
- * bench.h: the two libraries as two tables of calls, the inputs, and the jobs that are measured on them.
+ * bench.h: the libraries as tables of calls, the inputs, and the jobs that are measured on them.
  */
 #ifndef BENCH_H
 #define BENCH_H
@@ -11,6 +11,8 @@ typedef size_t run_place(const uint8_t *, size_t, size_t);
 typedef double run_value(const uint8_t *, size_t, size_t);
 typedef uint32_t field_number(const uint8_t *, size_t, size_t, uint32_t);
 typedef size_t field_size(const uint8_t *, size_t, size_t, uint32_t);
+typedef uint32_t frame_number(const uint8_t *, size_t, size_t, size_t);
+typedef size_t frame_size(const uint8_t *, size_t, size_t, size_t);
 
 struct calls {
     run_number *kind, *refusal, *has_values;
@@ -28,9 +30,15 @@ struct calls {
     size_t (*field_write)(uint8_t *, size_t, uint32_t, const uint8_t *, size_t, const uint8_t *, size_t, const uint8_t *, size_t);
     uint32_t (*field_write_refusal)(const uint8_t *, size_t, uint32_t, const uint8_t *, size_t, const uint8_t *, size_t, const uint8_t *,
                                     size_t);
+    frame_number *frame_kind, *frame_refusal, *frame_from_sensor, *frame_control;
+    frame_size *frame_place, *frame_field_count;
+    size_t (*frame_field)(const uint8_t *, size_t, size_t, size_t, uint8_t *, size_t);
+    size_t (*frame_write)(uint8_t *, size_t, size_t, size_t, uint32_t, uint8_t, const uint8_t *, size_t, size_t);
+    uint32_t (*frame_write_refusal)(const uint8_t *, size_t, size_t, size_t, uint32_t, uint8_t, const uint8_t *, size_t, size_t);
 };
 
-extern const struct calls ours, plain;
+/* plain goes through a frame bit by bit; plain_bytes by bytes and words, and is the same elsewhere. */
+extern const struct calls ours, plain, plain_bytes;
 
 /* ---- inputs (inputs.c): the same on every machine */
 
@@ -53,10 +61,18 @@ size_t random_field(unsigned type, int relayed, int largest, uint8_t *bytes);
 
 extern const unsigned types[21];
 
+/* Makes n bytes a stream full of frames, with flags between and at the end; answers its bits. */
+size_t full_stream(uint8_t *b, size_t n);
+
+/* Makes a stream of sound and damaged frames; answers its bits. b has STREAM_BYTES. */
+#define STREAM_BYTES 8192
+size_t odd_stream(uint8_t *b);
+
 /* ---- the comparison of answers (agree.c): answers how many were compared, and stops the program at the first that differ */
 
 unsigned long agree_lines(unsigned rounds);
 unsigned long agree_writing(unsigned rounds);
 unsigned long agree_fields(unsigned rounds);
+unsigned long agree_frames(unsigned rounds);
 
 #endif

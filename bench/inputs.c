@@ -205,3 +205,125 @@ size_t random_field(unsigned type, int relayed, int largest, uint8_t *bytes)
     bits = (relayed ? 16u : 0u) + plain_types[type].base + plain_types[type].step * steps;
     return bits;
 }
+
+/* ---- streams: a bit at a time, from a place on */
+
+struct stream {
+    uint8_t *b;
+    size_t at;
+    unsigned ones, check;
+};
+
+static void put_bits(struct stream *s, unsigned x, unsigned n)
+{
+    while (n--) {
+        uint8_t mask = (uint8_t)(0x80u >> s->at % 8);
+        s->b[s->at / 8] = (uint8_t)(x >> n & 1 ? s->b[s->at / 8] | mask : s->b[s->at / 8] & ~mask);
+        s->at++;
+    }
+}
+
+static void put_flags(struct stream *s, unsigned n)
+{
+    while (n--)
+        put_bits(s, 0x7E, 8);
+}
+
+/* The n low bits of a number, with inserted zeros. */
+static void put_between(struct stream *s, unsigned x, unsigned n)
+{
+    while (n--) {
+        unsigned bit = x >> n & 1;
+        put_bits(s, bit, 1);
+        s->check = (s->check << 1 & 0xFFFF) ^ (s->check >> 15 == bit ? 0 : 0x1021u);
+        s->ones = bit ? s->ones + 1 : 0;
+        if (s->ones == 5) {
+            put_bits(s, 0, 1);
+            s->ones = 0;
+        }
+    }
+}
+
+/* What stands between two flags, with a random field. Some bytes are all ones, so that many zeros are inserted. */
+static void put_frame(struct stream *s, unsigned address, size_t bits)
+{
+    s->ones = 0;
+    s->check = 0xFFFF;
+    put_between(s, address, 8);
+    put_between(s, (unsigned)rnd() & 255, 8);
+    for (; bits >= 8; bits -= 8)
+        put_between(s, rnd() % 16 ? (unsigned)rnd() & 255 : 255, 8);
+    put_between(s, (unsigned)rnd() & 255, (unsigned)bits);
+    put_between(s, ~s->check & 0xFFFF, 16);
+}
+
+static unsigned way(void)
+{
+    return rnd() % 2 ? 0xC0 : 0x80;
+}
+
+/* A frame has at most 2448 bits between its flags. */
+size_t full_stream(uint8_t *b, size_t n)
+{
+    struct stream s = {b, 0, 0, 0};
+
+    while (8 * n - s.at > 2448 + 8 * 4) {
+        unsigned address = way();
+        size_t most = rnd() % 8 ? 256 : 2008;
+        put_flags(&s, 1 + (unsigned)(rnd() % 8 / 6));
+        put_frame(&s, address, rnd() % (most + 1));
+    }
+    put_flags(&s, 2);
+    return s.at;
+}
+
+/* A piece of a stream: mostly a frame, else something that is none. */
+static void put_piece(struct stream *s)
+{
+    unsigned address = way(), any = (unsigned)rnd();
+    size_t n = rnd();
+
+    switch (rnd() % 12) {
+    case 0:
+        put_frame(s, any & 255, n % 64);
+        break;
+    case 1:
+        put_frame(s, address, 2007 + n % 4);
+        break;
+    case 2:
+        put_frame(s, address, 2000 + n % 600);
+        break;
+    case 3:
+        s->ones = 0;
+        put_between(s, any, (unsigned)(n % 33));
+        break;
+    case 4:
+        put_bits(s, 0x1FF, (unsigned)(n % 10));
+        break;
+    case 5:
+        for (n %= 200; n; n--)
+            put_bits(s, rnd() % 4 != 0, 1);
+        break;
+    case 6:
+        /* the next flag begins with the zero of the last one */
+        s->at -= s->at > 0;
+        break;
+    default:
+        put_frame(s, address, any % 4 ? n % 200 : n % 9);
+        break;
+    }
+}
+
+size_t odd_stream(uint8_t *b)
+{
+    struct stream s = {b, 0, 0, 0};
+    unsigned pieces = (unsigned)(rnd() % 8), before = rnd() % 2 ? 0 : (unsigned)(rnd() % 12);
+
+    put_bits(&s, (unsigned)rnd(), before);
+    while (pieces--) {
+        put_flags(&s, 1 + (unsigned)(rnd() % 6 / 4));
+        put_piece(&s);
+    }
+    put_flags(&s, (unsigned)(rnd() % 4));
+    return s.at;
+}

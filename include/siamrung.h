@@ -7,7 +7,7 @@
  * counted from 0. Every slice and every place gets an answer. What cannot be read gets a refusal; it is never passed over.
  *
  * Reading. A call that reads a line answers one number about the run of words at the place. It skips the idle words from the place on. From a
- * place inside a run, the run begins at that place. A call that reads writes nothing. No call keeps anything, so any thread may call at any
+ * place inside a run, the run begins at that place. A call that reads writes nothing (but siamrung_frame_field, which copies). No call keeps anything, so any thread may call at any
  * time. A call reads its own run and no more of the line. So a program that goes from run to run by siamrung_after does work in proportion to
  * the line.
  *
@@ -15,6 +15,8 @@
  * its value, high byte first. A negative value is in two's complement. The items stand in any order. The program passes all items of that
  * kind (or type), each once, and no others: nothing is filled in, and nothing is passed over. The bytes that a call writes must overlap no
  * other slice that is passed to it.
+ *
+ * Frames. A stream of frames is counted in bits: see "calls that read a frame" below.
  *
  * Versions. The numbers below keep their meaning: none is ever used for something else. siamrung_version grows with each change of the calls.
  * A call whose meaning changes under the same arguments gets a new name, so that an old program does not link with it.
@@ -46,9 +48,10 @@ extern "C" {
 #define SIAMRUNG_KIND_ATCRBS_RDAS 113
 #define SIAMRUNG_KIND_MTD 114
 #define SIAMRUNG_KIND_RDAS 115
-/* no report: the run at the place is refused, or the line itself, or the place itself; siamrung_refusal says why */
+/* no report: the run at the place is refused, or the line itself, or the place itself; siamrung_refusal says why. siamrung_frame_kind answers
+ * it too, for no frame */
 #define SIAMRUNG_KIND_REFUSED 120
-/* no report: only idle words are left */
+/* no report: only idle words are left. siamrung_frame_kind answers it too, where only flags are left */
 #define SIAMRUNG_KIND_END 121
 
 /* ---- refusals: what siamrung_refusal answers */
@@ -300,7 +303,7 @@ extern "C" {
 
 /* ---- calls that read a line */
 
-/* Answers the version of these calls: 2. It grows with each change of the calls. */
+/* Answers the version of these calls: 3. It grows with each change of the calls. */
 uint32_t siamrung_version(void);
 
 /* Answers what stands at the place: a kind of report, SIAMRUNG_KIND_REFUSED or SIAMRUNG_KIND_END. */
@@ -422,17 +425,22 @@ uint32_t siamrung_field_write_refusal(const uint8_t *bytes, size_t length, uint3
 /*
  * ---- calls that read a frame of the communications channel
  *
- * A stream is a slice of bytes and a count of its bits, which may be fewer than eight for each byte. The first bit is the top bit of the first
- * byte, and the bits stand in the order in which they are sent. Here a place is a number of bits from the start of the stream, counted from 0.
+ * A stream is a slice of bytes and a count of its bits, which may be fewer than eight for each byte. An empty slice may be NULL with the length
+ * 0. The first bit is the top bit of the first byte, and the bits stand in the order in which they are sent. Here a place is a number of bits
+ * from the start of the stream, counted from 0.
  *
  * A frame is a flag, an address of eight bits, a control of eight bits, a field of 0 to 2008 bits, a frame check sequence of sixteen bits, and
  * a flag. A flag is 01111110. Between the flags a zero is inserted after each five ones. The address is 11000000 to the sensor and 10000000
  * from it. The closing flag of a frame may be the opening flag of the next one. Flags with nothing between them are idle.
  *
- * A call looks at the place, where a flag must begin. It passes the flags that follow directly, and reads the frame behind the last one. To
- * walk a stream, call siamrung_frame_kind, then go on from the place that siamrung_frame_place answers. After a frame and after the refusals
- * 40, 43 and 42 this is the place of the closing flag. After the refusals 44, 41 and 45 it is the place that was passed: the walk ends there, or
- * the program looks for another flag itself.
+ * No octet is turned round: of the control, too, the first bit sent is the heaviest. An octet that a paper on HDLC writes with the first bit
+ * sent as the lightest has its bits here in the other order: 3F there is FC here.
+ *
+ * A call looks at the place, where a flag must begin. It passes the flags that follow directly, and reads the frame behind the last one. It
+ * does not look behind the closing flag. To walk a stream, call siamrung_frame_kind, then go on from the place that siamrung_frame_place
+ * answers. After a frame and after the refusals 40, 43 and 42 this is the place of the closing flag, so that a walk does work in proportion to
+ * the stream. After the refusals 44, 41 and 45 it is the place that was passed, and the walk ends there. A program that wants to go on looks for
+ * a flag itself, behind the flags that follow the place directly: examples/frames.c does so.
  */
 
 /* Answers what stands at the place: SIAMRUNG_KIND_FRAME, SIAMRUNG_KIND_REFUSED, or SIAMRUNG_KIND_END if only flags, one or more, are left. */

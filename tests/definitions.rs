@@ -59,12 +59,16 @@ pub fn numbered<'a>(from: impl Iterator<Item = &'a File>, head: &str) -> Vec<(St
     found
 }
 
-// The numbers of the kinds by the header's names: each report's, and the two that are no report's.
+// The numbers of the kinds by the header's names: each report's, a frame's, and the two that are neither's. These stand in the crate of the
+// lines' calls and in that of the frames', and are the same in both.
 pub fn kinds(specs: &[File]) -> Vec<(String, u32)> {
     let mut found = numbered(specs.iter(), "kindNumber K.");
-    for (name, definition) in [("Refused", "refusedKind = "), ("End", "endKind = ")] {
-        let line = specs.iter().flat_map(|file| file.2.lines()).find_map(|line| line.strip_prefix(definition));
-        found.push((name.into(), number(line.expect(definition)).unwrap()));
+    for (name, definition) in [("Refused", "refusedKind = "), ("End", "endKind = "), ("Frame", "frameKind = ")] {
+        let lines = specs.iter().flat_map(|file| file.2.lines()).filter_map(|line| line.strip_prefix(definition));
+        let mut numbers: Vec<u32> = lines.map(|line| number(line).unwrap()).collect();
+        numbers.dedup();
+        assert_eq!(numbers.len(), 1, "the numbers of '{definition}' are {numbers:?}");
+        found.push((name.into(), numbers[0]));
     }
     found
 }

@@ -1,6 +1,6 @@
 /*
  * driver.c: answers cases with the Siamrung library, so that a program in another language can compare every answer with its own
- * (tests/independent). It relies on siamrung.h alone and knows nothing of reports or fields: it asks and passes on.
+ * (tests/independent). It relies on siamrung.h alone and knows nothing of reports, fields or frames: it asks and passes on.
  *
  * Input: cases, one behind the other, until the end. Every number has its high byte first. "bytes" is a length of four bytes and as many
  * bytes; "numbers" is a count of four bytes and as many numbers of eight.
@@ -8,10 +8,17 @@
  *   'W' bytes, count (4), count times: place (8), kind (4), items (bytes): a line, and the reports to write into it
  *   'F' bytes, count (8), from_sensor (4), ask (1), numbers: a field; the indices to ask beside 0 to 31
  *   'G' bytes, type (4), items (bytes), list (bytes), text (bytes): a field to write
+ *   'S' stream, numbers: a stream to walk; the counts and places, in turn, to look at beside the walk
+ *   'T' stream, count (4), count times: count (8), place (8), from_sensor (4), control (1), field (bytes), length (8), count (8): a stream,
+ *       the frames to write into it with the length and the count to pass with each field; then the walk
+ * "stream" is bytes, length (8), count (8), place (8), numbers: a stream of frames, the length and the count to pass with it, the place
+ * from which to walk it, and the sizes of the buffers that each field is asked with. A length is that of the bytes, or is only said to be
+ * greater; no bit is counted that is not there. A size above 256 is only said too: 256 bytes are there, and no field needs more. A buffer
+ * holds 165, 172, 179 .. (modulo 256) before the call.
  * Output: answers, each with its length (4) before it. The first is a head: the version (4) and the size of a size_t (4). Then follows one
  * for each case: the numbers that the calls gave, four bytes for a uint32_t, eight for the others, one for siamrung_has and
- * siamrung_field_has (255 for any number but 0 and 1), and the bytes after each writing. It ends with one byte: 1 if nothing that is only
- * read was changed.
+ * siamrung_field_has (255 for any number but 0 and 1), and the bytes after each writing, a field buffer's too. It ends with one byte: 1 if
+ * nothing that is only read was changed.
  *
  * Every slice is malloc'ed to its exact length, so that valgrind sees an access outside; an empty slice is passed as NULL.
  */
@@ -30,6 +37,8 @@ static const uint32_t no_items[NO_ITEMS] = {68, 265, 457, 0x80000004};
 #define LAST_INDEX 31
 /* where there is no report, items are asked this many times more seldom */
 #define SELDOM 8
+/* no field of a frame needs more bytes */
+#define MOST_ROOM 256
 
 /* ---- the slices of a case, each with a copy */
 
@@ -311,6 +320,141 @@ static void answer_field_write(void)
     drop(&text);
 }
 
+/* ---- a frame */
+
+struct stream {
+    struct slice slice;
+    size_t length;
+    size_t count;
+    size_t place;
+    size_t *rooms;
+    uint64_t rooms_count;
+};
+
+static struct stream get_stream(void)
+{
+    struct stream stream;
+    uint64_t i;
+    stream.slice = get_slice();
+    stream.length = (size_t)get_number(8);
+    stream.count = (size_t)get_number(8);
+    stream.place = (size_t)get_number(8);
+    stream.rooms_count = get_number(4);
+    stream.rooms = stream.rooms_count > 0 ? take(stream.rooms_count * sizeof(size_t)) : NULL;
+    for (i = 0; i < stream.rooms_count; i++) {
+        stream.rooms[i] = (size_t)get_number(8);
+    }
+    return stream;
+}
+
+static void drop_stream(struct stream *stream)
+{
+    drop(&stream->slice);
+    free(stream->rooms);
+}
+
+/* The field copied to a buffer of that size, which holds a pattern before. */
+static void put_frame_field(const struct stream *stream, size_t count, size_t place, size_t room)
+{
+    size_t there = room < MOST_ROOM ? room : MOST_ROOM;
+    uint8_t *field = there > 0 ? take(there) : NULL;
+    size_t i;
+    for (i = 0; i < there; i++) {
+        field[i] = (uint8_t)(165 + 7 * i);
+    }
+    put_number(siamrung_frame_field(stream->slice.bytes, stream->length, count, place, field, room), 8);
+    put(field, there);
+    free(field);
+}
+
+/* All answers about one place; gives siamrung_frame_place, and sets end where the walk is finished. */
+static size_t look_at_frame(const struct stream *stream, size_t count, size_t place, int *end)
+{
+    const uint8_t *bytes = stream->slice.bytes;
+    size_t length = stream->length;
+    uint32_t kind = siamrung_frame_kind(bytes, length, count, place);
+    size_t next = siamrung_frame_place(bytes, length, count, place);
+    uint64_t i;
+    put_number(kind, 4);
+    put_number(siamrung_frame_refusal(bytes, length, count, place), 4);
+    put_number(next, 8);
+    put_number(siamrung_frame_from_sensor(bytes, length, count, place), 4);
+    put_number(siamrung_frame_control(bytes, length, count, place), 4);
+    put_number(siamrung_frame_field_count(bytes, length, count, place), 8);
+    for (i = 0; i < stream->rooms_count; i++) {
+        put_frame_field(stream, count, place, stream->rooms[i]);
+    }
+    *end = kind == SIAMRUNG_KIND_END || next == place;
+    return next;
+}
+
+static void walk_frames(const struct stream *stream)
+{
+    size_t place = stream->place;
+    size_t turn = 0;
+    int end = 0;
+    /* a library that never ends is stopped here: no stream has more places to look at */
+    while (!end && turn <= stream->slice.length + 1) {
+        place = look_at_frame(stream, stream->count, place, &end);
+        turn++;
+    }
+}
+
+static void answer_frames(void)
+{
+    struct stream stream = get_stream();
+    uint64_t numbers = get_number(4);
+    int end;
+    walk_frames(&stream);
+    for (; numbers > 1; numbers -= 2) {
+        size_t count = (size_t)get_number(8);
+        size_t place = (size_t)get_number(8);
+        look_at_frame(&stream, count, place, &end);
+    }
+    put_number(same(&stream.slice) ? 1 : 0, 1);
+    drop_stream(&stream);
+}
+
+static int write_frame(struct stream *stream)
+{
+    struct slice *slice = &stream->slice;
+    size_t count = (size_t)get_number(8);
+    size_t place = (size_t)get_number(8);
+    uint32_t from_sensor = (uint32_t)get_number(4);
+    uint8_t control = (uint8_t)get_number(1);
+    struct slice field = get_slice();
+    size_t field_length = (size_t)get_number(8);
+    size_t field_count = (size_t)get_number(8);
+    int unchanged;
+    put_number(siamrung_frame_write_refusal(slice->bytes, stream->length, count, place, from_sensor, control, field.bytes, field_length,
+                                            field_count), 4);
+    unchanged = same(slice);
+    put_number(siamrung_frame_write(slice->bytes, stream->length, count, place, from_sensor, control, field.bytes, field_length,
+                                    field_count), 8);
+    put_number(siamrung_frame_write_refusal(slice->bytes, stream->length, count, place, from_sensor, control, field.bytes, field_length,
+                                            field_count), 4);
+    put(slice->bytes, slice->length);
+    unchanged = unchanged && same(&field);
+    drop(&field);
+    if (slice->length > 0) {
+        memcpy(slice->copy, slice->bytes, slice->length);
+    }
+    return unchanged;
+}
+
+static void answer_frame_writes(void)
+{
+    struct stream stream = get_stream();
+    uint64_t writes = get_number(4);
+    int unchanged = 1;
+    for (; writes > 0; writes--) {
+        unchanged = write_frame(&stream) && unchanged;
+    }
+    walk_frames(&stream);
+    put_number(unchanged && same(&stream.slice) ? 1 : 0, 1);
+    drop_stream(&stream);
+}
+
 /* ---- the whole */
 
 static void answer_case(int tag)
@@ -327,6 +471,12 @@ static void answer_case(int tag)
         break;
     case 'G':
         answer_field_write();
+        break;
+    case 'S':
+        answer_frames();
+        break;
+    case 'T':
+        answer_frame_writes();
         break;
     default:
         fail("no such case");

@@ -39,6 +39,7 @@ fn numbers(header: &str) {
     add(&mut expected, kinds(&specs), "KIND");
     add(&mut expected, numbered(specs.iter(), "lineNumber L."), "REFUSAL");
     add(&mut expected, numbered(specs.iter(), "fieldNumber F."), "FIELD_REFUSAL");
+    add(&mut expected, numbered(specs.iter(), "frameNumber R."), "FRAME_REFUSAL");
     add(&mut expected, numbered(items(false), ""), "ITEM");
     add(&mut expected, numbered(items(true), ""), "FIELD_ITEM");
     add_types(&mut expected, &specs);

@@ -19,6 +19,12 @@ pub fn of_bytes(bytes: &[u8]) -> String {
     text
 }
 
+/// The bits of octets that are sent low bit first.
+pub fn of_low_first(octets: &[u8]) -> String {
+    let turned: Vec<u8> = octets.iter().map(|octet| octet.reverse_bits()).collect();
+    of_bytes(&turned)
+}
+
 /// The bytes of bits; the started byte is filled with zeros.
 pub fn to_bytes(text: &str) -> Vec<u8> {
     let mut full = text.to_string();

@@ -4,6 +4,7 @@
 
 use crate::answer::{hex, Answer};
 use crate::field::{self, Field, Given};
+use crate::frame_case::{Reading, Writing};
 use crate::layout::Layout;
 use crate::line::{self, Look};
 use crate::report;
@@ -36,6 +37,10 @@ pub enum Case {
     Field { bytes: Vec<u8>, count: u64, from_sensor: u32, ask: bool, indices: Vec<u64> },
     /// A field is written.
     FieldWrite { bytes: Vec<u8>, kind: u32, items: Vec<u8>, list: Vec<u8>, text: Vec<u8> },
+    /// A stream of frames is read.
+    Frames(Reading),
+    /// Frames are written.
+    FrameWrites(Writing),
 }
 
 const ITEMS: std::ops::RangeInclusive<u32> = 0..=40;
@@ -46,12 +51,12 @@ const LAST_INDEX: u64 = 31;
 /// Where there is no report, items are asked this many times more seldom.
 const SELDOM: u64 = 8;
 
-fn put_bytes(message: &mut Vec<u8>, bytes: &[u8]) {
+pub fn put_bytes(message: &mut Vec<u8>, bytes: &[u8]) {
     message.extend_from_slice(&(bytes.len() as u32).to_be_bytes());
     message.extend_from_slice(bytes);
 }
 
-fn put_numbers(message: &mut Vec<u8>, numbers: &[u64]) {
+pub fn put_numbers(message: &mut Vec<u8>, numbers: &[u64]) {
     message.extend_from_slice(&(numbers.len() as u32).to_be_bytes());
     for number in numbers {
         message.extend_from_slice(&number.to_be_bytes());
@@ -91,6 +96,8 @@ impl Case {
                 put_bytes(&mut message, list);
                 put_bytes(&mut message, text);
             }
+            Case::Frames(reading) => reading.put(&mut message),
+            Case::FrameWrites(writing) => writing.put(&mut message),
         }
         message
     }
@@ -101,6 +108,8 @@ impl Case {
             Case::Write { .. } => b'W',
             Case::Field { .. } => b'F',
             Case::FieldWrite { .. } => b'G',
+            Case::Frames(_) => b'S',
+            Case::FrameWrites(_) => b'T',
         }
     }
 
@@ -119,12 +128,14 @@ impl Case {
                 let given = Given { kind: *kind, items, list, text };
                 expect_field_write(tables, &mut answer, totals, bytes, &given);
             }
+            Case::Frames(reading) => reading.expect(&mut answer, &mut totals.frames),
+            Case::FrameWrites(writing) => writing.expect(&mut answer, &mut totals.frames),
         }
         answer.u8("bytes that are only read stay (1)", 0, 0, 1);
         answer
     }
 
-    /// The words of a line from a place on, as numbers, since a long line in hexadecimal is hard to count through.
+    /// The words of a line from a place on, as numbers, or the bits of a stream, since long ones in hexadecimal are hard to count through.
     pub fn near(&self, place: u64) -> String {
         match self {
             Case::Line { bytes, .. } => {
@@ -133,6 +144,7 @@ impl Case {
                 let to = words.len().min(from + 24);
                 format!("\nwords from place {}: {:?}", from, &words[from..to])
             }
+            Case::Frames(reading) => reading.near(place),
             _ => String::new(),
         }
     }
@@ -153,6 +165,8 @@ impl Case {
                 let slices = format!("items {} list {} text {}", hex(items), hex(list), hex(text));
                 format!("writing a field of type {:02X} into {} bytes {}: {}", kind, bytes.len(), hex(bytes), slices)
             }
+            Case::Frames(reading) => reading.shown(),
+            Case::FrameWrites(writing) => writing.shown(),
         }
     }
 }

@@ -104,7 +104,7 @@ fn damage_data(rng: &mut Rng, tables: &Tables, layout: &Layout, text: &str) -> S
     report::with_parity(&changed)
 }
 
-fn random_bits(rng: &mut Rng, width: usize) -> String {
+pub fn random_bits(rng: &mut Rng, width: usize) -> String {
     (0..width).map(|_| if rng.once_in(2) { '1' } else { '0' }).collect()
 }
 

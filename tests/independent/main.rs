@@ -1,11 +1,14 @@
 //! An independent second implementation of the converter, compared with the library through its C calls.
 //!
-//! It was written from document 01, document 004 (FAA-RD-80-14) and siamrung.h alone, and reads bits as text from tables in the document's
-//! own bit numbers. It needs the driver (driver.c linked with the library), which it starts as a child process.
+//! It was written from documents 01 and 02, document 004 (FAA-RD-80-14) and siamrung.h alone, and reads bits as text from tables in the
+//! document's own bit numbers. It needs the driver (driver.c linked with the library), which it starts as a child process.
 //!
-//!   independent SEED LINES FIELDS COMMAND..   compares LINES lines and half as many writings, FIELDS fields and half as many writings;
-//!                                             from 20,000 lines and 50,000 fields on, the quotas have to be met
-//!   independent chosen COMMAND..              compares nmi, degrees and seconds for every count of every field, and the cases of chosen.rs
+//!   independent SEED LINES FIELDS FRAMES COMMAND..   compares LINES lines, FIELDS fields and FRAMES streams of frames, and half as many
+//!                                                    writings of each; from 20,000 lines and 50,000 fields on, and from 20,000 streams
+//!                                                    on, the quotas have to be met; 0 leaves a part out
+//!   independent chosen COMMAND..                     compares nmi, degrees and seconds for every count of every field, and the cases of
+//!                                                    chosen.rs and frame_chosen.rs
+//!   independent chosen-frames COMMAND..              compares the cases of frame_chosen.rs alone
 //!
 //! A difference is printed with its case, and the program then ends with 1.
 
@@ -17,6 +20,11 @@ mod every_count;
 mod exact;
 mod field;
 mod field_cases;
+mod frame;
+mod frame_case;
+mod frame_cases;
+mod frame_chosen;
+mod frame_totals;
 mod layout;
 mod line;
 mod line_cases;
@@ -51,11 +59,26 @@ fn cases(seed: u64, lines: u64, fields: u64) -> impl Iterator<Item = Named> {
     })
 }
 
-fn compare(seed: u64, lines: u64, fields: u64, command: &[String]) -> Result<(), String> {
+/// The cases of frames, in order, behind the others.
+fn cases_of_frames(seed: u64, frames: u64) -> impl Iterator<Item = Named> {
+    let stream = move |number| (format!("seed {}, stream {}", seed, number), frame_cases::stream(seed, number));
+    let write = move |number| (format!("seed {}, frame writing {}", seed, number), frame_cases::write(seed, number));
+    (0..frames).map(stream).chain((0..frames / 2).map(write))
+}
+
+fn compare(seed: u64, [lines, fields, frames]: [u64; 3], command: &[String]) -> Result<(), String> {
     println!("seed {}", seed);
-    let totals = run::run(command, move || cases(seed, lines, fields))?;
-    let short = totals.report(&Tables::new());
-    if lines >= 20_000 && fields >= 50_000 && !short.is_empty() {
+    let totals = run::run(command, move || cases(seed, lines, fields).chain(cases_of_frames(seed, frames)))?;
+    let mut short = Vec::new();
+    if lines + fields > 0 {
+        let below = totals.report(&Tables::new());
+        short.extend(below.into_iter().filter(|_| lines >= 20_000 && fields >= 50_000));
+    }
+    if frames > 0 {
+        let below = totals.frames.report();
+        short.extend(below.into_iter().filter(|_| frames >= 20_000));
+    }
+    if !short.is_empty() {
         return Err(format!("below the quota: {}", short.join("; ")));
     }
     println!("no difference");
@@ -69,20 +92,27 @@ fn chosen(command: &[String]) -> Result<(), String> {
     let totals = run::run(command, chosen::cases)?;
     let (reads, writes) = (totals.runs + totals.fields, totals.writes + totals.field_writes);
     println!("chosen cases: {} runs and fields read, {} written, no difference", reads, writes);
+    chosen_frames(command)
+}
+
+fn chosen_frames(command: &[String]) -> Result<(), String> {
+    let totals = run::run(command, frame_chosen::cases)?;
+    let (reads, writes) = totals.frames.both();
+    println!("chosen cases of frames: {} places looked at, {} writings, no difference", reads, writes);
     Ok(())
 }
 
 fn start(arguments: &[String]) -> Result<(), String> {
     worked::check(&Tables::new());
-    let usage = "usage: independent SEED LINES FIELDS COMMAND.. | independent chosen COMMAND..";
-    if arguments.len() >= 2 && arguments[0] == "chosen" {
-        return chosen(&arguments[1..]);
+    let usage = "usage: independent SEED LINES FIELDS FRAMES COMMAND.. | chosen COMMAND.. | chosen-frames COMMAND..";
+    match arguments.first().map(|first| first.as_str()) {
+        Some("chosen") if arguments.len() >= 2 => return chosen(&arguments[1..]),
+        Some("chosen-frames") if arguments.len() >= 2 => return chosen_frames(&arguments[1..]),
+        _ if arguments.len() < 5 => return Err(usage.to_string()),
+        _ => (),
     }
-    if arguments.len() < 4 {
-        return Err(usage.to_string());
-    }
-    let number = |text: &String| text.parse::<u64>().map_err(|_| usage.to_string());
-    compare(number(&arguments[0])?, number(&arguments[1])?, number(&arguments[2])?, &arguments[3..])
+    let number = |index: usize| arguments[index].parse::<u64>().map_err(|_| usage.to_string());
+    compare(number(0)?, [number(1)?, number(2)?, number(3)?], &arguments[4..])
 }
 
 fn main() {

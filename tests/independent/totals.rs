@@ -1,6 +1,7 @@
 //! What a run of the program met: counts, and the quotas that a full run has to reach.
 
 use crate::field::{Record, RELAY};
+use crate::frame_totals::FrameTotals;
 use crate::line::{self, Look, MOST_BYTES};
 use std::collections::BTreeMap;
 
@@ -22,6 +23,7 @@ pub struct Totals {
     pub fields: u64,
     pub writes: u64,
     pub field_writes: u64,
+    pub frames: FrameTotals,
     /// reports by place in the list of layouts
     layouts: Tally,
     types: Tally,
@@ -38,6 +40,14 @@ fn add(tally: &mut Tally, key: u32) {
 
 fn counted(tally: &Tally, key: u32) -> u64 {
     tally.get(&key).copied().unwrap_or(0)
+}
+
+/// Prints a count, and notes it where it is below its quota.
+pub fn say(short: &mut Vec<String>, name: String, count: u64, quota: u64) {
+    println!("{}: {}", name, count);
+    if count < quota {
+        short.push(format!("{}: {} of {}", name, count, quota));
+    }
 }
 
 impl Totals {
@@ -85,15 +95,10 @@ impl Totals {
         add(&mut self.field_write_refused, refusal);
     }
 
-    /// Prints the counts, and answers what is below its quota.
+    /// Prints the counts of lines and fields, and answers what is below its quota.
     pub fn report(&self, tables: &crate::case::Tables) -> Vec<String> {
         let mut short = Vec::new();
-        let mut say = |name: String, count: u64, quota: u64| {
-            println!("{}: {}", name, count);
-            if count < quota {
-                short.push(format!("{}: {} of {}", name, count, quota));
-            }
-        };
+        let mut say = |name: String, count: u64, quota: u64| say(&mut short, name, count, quota);
         say("lines".to_string(), self.lines, 20_000);
         say("lines over 1,000 words".to_string(), self.over_thousand, 1_000);
         say("lines of 32,768 words".to_string(), self.full, 20);

@@ -1,8 +1,11 @@
-//! The worked cases of document 01 (C1 to C12, the lister's example, the flipped bit of "Three easy errors"), run on this program itself:
-//! before it judges the library it has to agree with the paper.
+//! The worked cases of document 01 (C1 to C12, the lister's example, the flipped bit of "Three easy errors") and known frames, run on this
+//! program itself: before it judges the library it has to agree with the paper.
 
+use crate::bits;
 use crate::case::Tables;
 use crate::field;
+use crate::frame::{self, Frame, Stream};
+use crate::frame_chosen::KNOWN;
 use crate::line;
 use crate::line_cases::valid_items;
 use crate::report;
@@ -77,11 +80,28 @@ fn both_ways(tables: &Tables) {
     }
 }
 
+/// The known frames are read and written; a check sequence over nine octets; no one or two neighbouring bits may be turned over.
+fn frames() {
+    assert_eq!(frame::check_sequence(&bits::of_low_first(b"123456789")), bits::of_low_first(&[0x6E, 0x90]));
+    for (octets, from_sensor) in KNOWN.iter().zip([false, true]) {
+        let text = bits::of_low_first(octets);
+        let known = Frame { from_sensor, control: octets[1].reverse_bits(), field: String::new() };
+        let sent = known.text();
+        assert_eq!(sent, format!("{}{}{}", frame::FLAG, frame::with_zeros(&text), frame::FLAG));
+        assert_eq!(frame::look(&Stream::whole(&sent), 0).frame, Some(known));
+        for bit in 1..text.len() {
+            let one = bits::flipped(&text, bit);
+            assert!(!frame::is_right(&one) && !frame::is_right(&bits::flipped(&one, bit + 1)));
+        }
+    }
+}
+
 /// Stops the program where it disagrees with document 01.
 pub fn check(tables: &Tables) {
     assert_eq!((tables.reports.len(), tables.fields.len()), (17, 21));
     reports(tables);
     runs(tables);
     fields(tables);
+    frames();
     both_ways(tables);
 }
