@@ -325,9 +325,13 @@ pub fn reports(page: &[Table], specs: &[File], header: &Numbers, found: &mut Fin
     altitude(&layouts, page, found);
     report_examples(&layouts, page, found);
 
-    // kinds: those of the layouts, of which two may have the same, and those of no report
+    // kinds: those of the layouts, of which two may have the same, and those of no report, which a frame's table has too
     let table = table(page, "The seventeen layouts", "its rows");
-    let mut here = self::table(page, "The seventeen layouts", "answer").numbers("answer", "number");
+    let mut here = self::table(page, "Frames", "answer").numbers("answer", "number");
+    for (answer, number) in self::table(page, "The seventeen layouts", "answer").numbers("answer", "number") {
+        found.same(&format!("the number of {answer}"), here.get(&answer).copied().unwrap_or(0), "the page's table of frames", number);
+        here.insert(answer, number);
+    }
     for row in &table.rows {
         let (kind, number) = (table.cell(row, "kind").replace('-', "_"), table.cell(row, "number").parse().expect("a kind's number"));
         let before = here.insert(kind.clone(), number);

@@ -15,6 +15,8 @@ pub const REFUSALS: &str = "crates/refusals/src/lib.rt";
 pub const TYPES: &str = "crates/fields/specs/Table.antt";
 pub const PRINTED: &str = "crates/claims/specs/Printed.antt";
 pub const FIELDS: &str = "crates/fields/src/lib.rt";
+pub const FRAMES: &str = "crates/frames/src/lib.rt";
+pub const FRAME: &str = "crates/frames/specs/Frame.antt";
 
 // A file without the lines that are comments.
 pub fn code(path: &str) -> String {

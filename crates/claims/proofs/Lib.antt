@@ -5,3 +5,4 @@ pub mod Places
 pub mod Anywhere
 pub mod Fields
 pub mod Demands
+pub mod Requests

@@ -7,10 +7,11 @@ use lib.Dec.{T, ltb, ltb→lt}
 use lib.ListN.{getD}
 use Rattle.refusals.specs.declared.LineRefusal.the-variants as L
 use Rattle.refusals.specs.declared.FieldRefusal.the-variants as F
+use Rattle.frames.specs.declared.FrameRefusal.the-variants as R
 use Rattle.reports.specs.declared.kinds.Kind.the-variants as K
-use Rattle.claims.specs.Numbers.{Named, line, field, kind, numberOf, NumbersDiffer, NoNumberIsZero}
+use Rattle.claims.specs.Numbers.{Named, line, field, frame, kind, numberOf, NumbersDiffer, NoNumberIsZero}
 
--- 1 to 11 and 14; 20 to 31; 101 to 115
+-- 1 to 11 and 14; 20 to 31; 40 to 46; 101 to 115
 abbrev named : ℕ → Named
 named n =
     cond (ltb n 20)
@@ -30,7 +31,7 @@ named n =
     ∷ [])
     (n - 1)
     L.OddByteCount))
-    (cond (ltb n 100)
+    (cond (ltb n 40)
     (field
     (getD
     (F.CountOutOfRange
@@ -47,6 +48,12 @@ named n =
     ∷ [])
     (n - 20)
     F.NoRoom))
+    (cond (ltb n 100)
+    (frame
+    (getD
+    (R.WrongLength ∷ R.ZeroMissing ∷ R.UnknownAddress ∷ R.WrongCheck ∷ R.CountOrFlag ∷ R.NoClosingFlag ∷ [])
+    (n - 40)
+    R.NoRoom))
     (kind
     (getD
     (K.Search
@@ -65,7 +72,7 @@ named n =
     ∷ K.Mtd
     ∷ [])
     (n - 101)
-    K.Rdas)))
+    K.Rdas))))
 
 back : (a : Named) → (named (numberOf a) ≡ a) × T (ltb 0 (numberOf a))
 back (line L.LineTooLong) = (refl, tt)
@@ -92,6 +99,13 @@ back (field F.SpareBitSet) = (refl, tt)
 back (field F.ValueNotInUse) = (refl, tt)
 back (field F.NotWritable) = (refl, tt)
 back (field F.NoRoom) = (refl, tt)
+back (frame R.CountOrFlag) = (refl, tt)
+back (frame R.ZeroMissing) = (refl, tt)
+back (frame R.NoClosingFlag) = (refl, tt)
+back (frame R.WrongLength) = (refl, tt)
+back (frame R.WrongCheck) = (refl, tt)
+back (frame R.UnknownAddress) = (refl, tt)
+back (frame R.NoRoom) = (refl, tt)
 back (kind K.Search) = (refl, tt)
 back (kind K.Strobe) = (refl, tt)
 back (kind K.Map) = (refl, tt)

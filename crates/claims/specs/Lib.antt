@@ -2,3 +2,4 @@ pub mod Numbers
 pub mod Twelve
 pub mod Printed
 pub mod Demands
+pub mod Requests

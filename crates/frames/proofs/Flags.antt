@@ -90,7 +90,7 @@ unfolding digits
 flag-taken b s e = begins-eq flag (b ∷ s) e
 
 -- and in front of it stand just flags
-past-split : (k : ℕ) (s : List Bool) → (m : ℕ) × (drop k s ≡ flags m ++ pastFlags k s)
+pub past-split : (k : ℕ) (s : List Bool) → (m : ℕ) × (drop k s ≡ flags m ++ pastFlags k s)
 unfolding pastFlags flags
 past-split zero [] = (0, refl)
 past-split (suc k) [] = (0, refl)

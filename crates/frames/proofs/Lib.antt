@@ -13,5 +13,6 @@ pub mod Judging
 pub mod Behind
 pub mod Back
 pub mod Lists
+pub mod Ends
 pub mod Decided
 pub mod Lent

@@ -1,4 +1,4 @@
--- Each refusal exactly under its condition, with the place that it gives: the claims ReaderRefuses, ReaderEnds and WriterRefuses, by the law of
+-- Each refusal exactly under its condition, with the place that it gives: the claims ReaderRefuses and WriterRefuses, by the law of
 -- rows. Assumes nothing.
 use mathlib.Core.Path.{refl}
 use mathlib.Core.Bool.{Bool, true, false}
@@ -7,7 +7,7 @@ use Rattle.frames.specs.declared.Wrote.{Wrote}
 use Rattle.frames.specs.declared.Wrote.the-variants as P
 use Rattle.frames.specs.Reading.{Answer, accepted, refused, end, Outcome, outcome, closing, bodyIn, frameIn, readRows, readBits}
 use Rattle.frames.specs.Writing.{given, closingAt, writeRows, writeFrame}
-use Rattle.frames.specs.Claims.{ReaderRefuses, ReaderEnds, WriterRefuses}
+use Rattle.frames.specs.Claims.{ReaderRefuses, WriterRefuses}
 
 -- ---- the reader
 
@@ -23,11 +23,6 @@ pub reader-refuses : ReaderRefuses
 unfolding readBits
 reader-refuses over s q n =
     law.refused-exactly Outcome reads (readRows over s) (outcome (accepted (frameIn (bodyIn s))) (closing s)) (outcome (refused q) n) refl refl
-
-pub reader-ends : ReaderEnds
-unfolding readBits
-reader-ends over s n =
-    law.refused-exactly Outcome reads (readRows over s) (outcome (accepted (frameIn (bodyIn s))) (closing s)) (outcome end n) refl refl
 
 -- ---- the writer
 

@@ -1,5 +1,5 @@
 -- What is claimed of frames. Statements only, with what they need to be said; the file that proves each is named.
-use Prim.Native.Nat.{ℕ, _+_, _-_, _≤_, _<_}
+use Prim.Native.Nat.{ℕ, suc, _+_, _-_, _≤_, _<_}
 use mathlib.Core.Path.{_≡_}
 use mathlib.Core.Bool.{Bool, true, false, not}
 use mathlib.Core.List.{List, [], _∷_, _++_, map}
@@ -18,22 +18,31 @@ use Rattle.frames.specs.Reading.{accepted, refused, end, outcome, upToFl
 use Rattle.frames.specs.Writing.{given, writeRows, closingAt, writeFrame, Writes}
 use Rattle.frames.specs.Lists.{Spaced, flags, streamOf, framesOf, AllFit, goesOn, calls, answers, flagsIn}
 
--- ---- each refusal exactly under its condition (proofs/Refused.antt)
+-- ---- each refusal exactly under its condition (proofs/Refused.antt, proofs/Ends.antt)
 
--- an outcome that is no frame is given, with its place, exactly where its row is the first that holds
+-- a refusal is given, with its place, exactly where its row is the first that holds
 abbrev pub ReaderRefuses : Type 0
 ReaderRefuses =
     (over : Bool) (s : List Bool) (q : FrameRefusal) (n : ℕ)
     → (readBits over s ≡ outcome (refused q) n) ↔ FirstIs (readRows over s) (outcome (refused q) n)
 
-abbrev pub ReaderEnds : Type 0
-ReaderEnds = (over : Bool) (s : List Bool) (n : ℕ) → (readBits over s ≡ outcome end n) ↔ FirstIs (readRows over s) (outcome end n)
+-- the end is told exactly where there are flags, one or more, and nothing else up to the count; its place is the count
+abbrev pub EndExactly : Type 0
+EndExactly =
+    (over : Bool) (s : List Bool) (n : ℕ)
+    → (readBits over s ≡ outcome end n) ↔ ((over ≡ false) × ((k : ℕ) × (s ≡ flags (suc k))) × (n ≡ length s))
 
 abbrev pub WriterRefuses : Type 0
 WriterRefuses =
     (len count place : ℕ) (way : Direction) (control : ℕ) (field : List ℕ) (n : ℕ) (q : FrameRefusal) (p : ℕ)
     → (writeFrame len count place way control field n ≡ P.Refused q p)
     ↔ FirstIs (writeRows len count place field n (given way control field n)) (P.Refused q p)
+
+-- a refused call gives the place back, and has written nothing
+abbrev pub RefusedStays : Type 0
+RefusedStays =
+    (bytes : List ℕ) (count place : ℕ) (way : Direction) (control : ℕ) (field : List ℕ) (n : ℕ) (q : FrameRefusal) (p : ℕ) (exit : List ℕ)
+    → Writes bytes count place way control field n (P.Refused q p) exit → (p ≡ place) × (exit ≡ bytes)
 
 -- ---- inserted zeros (proofs/Zeros.antt)
 
@@ -73,7 +82,8 @@ TwoFlipsFound =
     (xs ys : List Bool) (x y : Bool) → 16 ≤ length (xs ++ (x ∷ y ∷ ys)) → wrongCheck (xs ++ (x ∷ y ∷ ys)) ≡ false
     → wrongCheck (xs ++ (not x ∷ not y ∷ ys)) ≡ true
 
--- known check sequences, octets low bit first: of 03 3F and of 01 73, frames without a field to the sensor and from it; and of "123456789"
+-- known check sequences, octets low bit first: 5B EC of 03 3F and 83 57 of 01 73, frames without a field to the sensor and from it; and 6E 90 of
+-- "123456789"
 pub record KnownChecks : Type 0 where
   pub to-sensor : checkOf (digits 8 0b11000000 ++ digits 8 0b11111100) ≡ digits 8 0b11011010 ++ digits 8 0b00110111
   pub from-sensor : checkOf (digits 8 0b10000000 ++ digits 8 0b11001110) ≡ digits 8 0b11000001 ++ digits 8 0b11101010

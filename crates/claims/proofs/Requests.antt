@@ -1,0 +1,76 @@
+-- The requests, each sentence from the law below it. Assumes nothing.
+use mathlib.Core.Path.{refl}
+use native.Mathlib.Omega.{arith}
+use Rattle.frames.proofs.Back as back
+use Rattle.frames.proofs.Checked as checked
+use Rattle.frames.proofs.Ends as ends
+use Rattle.frames.proofs.Lent as lent
+use Rattle.frames.proofs.Lists as lists
+use Rattle.frames.proofs.Refused as refused
+use Rattle.frames.proofs.Zeros as zeros
+use Rattle.claims.specs.Requests.{ReadAndWriteThem, FlagsAndIdle, PlacesAnswered, TheWriter, TheirOwnRoundTrip, FrameRefusals, Ticket1, Requests}
+use Rattle.claims.proofs.Numbers.{numbers-differ, no-number-is-zero}
+
+-- ---- Ticket 1
+
+read-and-write : ReadAndWriteThem
+read-and-write = record {
+  accepted = back.accepted-exactly;
+  zeros-taken-out = zeros.taken-out;
+  zeros-put-in = zeros.put-in;
+  no-flag-inside = zeros.no-flag-inside;
+  known-checks = checked.known-checks;
+  remainder = checked.remainder;
+  burst-found = checked.burst-found;
+  one-flip-found = checked.one-flip-found;
+  two-flips-found = checked.two-flips-found;
+}
+
+flags-and-idle : FlagsAndIdle
+flags-and-idle = record {
+  shared-flags-and-idle = lists.list-reads-back;
+  written-on-a-shared-flag = lent.written-on;
+  end = ends.end-exactly;
+  no-field = λ way control h. record { control = h; field = omega arith };
+}
+
+places : PlacesAnswered
+places = record { refusals = refused.reader-refuses; frame = back.written-again; writing = ends.refused-stays }
+
+writer : TheWriter
+writer = record {
+  allows-one = λ bytes count place way control field n. (_, _, record { answers = refl; leaves = refl }, λ b left w. (w .answers, w .leaves));
+  others-stay = lent.others-stay;
+}
+
+round-trip : TheirOwnRoundTrip
+round-trip = record {
+  written-and-read = lent.written-reads;
+  wherever-it-stands = back.reads-back;
+  read-and-written = lent.read-writes;
+  field-handed-out = lent.handed-out;
+  equal-lists = lists.equal-lists;
+  calls-enough = lists.calls-enough;
+  not-behind = lists.not-behind;
+}
+
+refusals : FrameRefusals
+refusals = record {
+  reading = refused.reader-refuses;
+  writing = refused.writer-refuses;
+  nothing-written = ends.refused-stays;
+  numbers = numbers-differ;
+  none-is-0 = no-number-is-zero;
+}
+
+pub requests : Requests
+requests = record {
+  ticket-1 = record {
+    read-and-write = read-and-write;
+    flags-and-idle = flags-and-idle;
+    places = places;
+    writer = writer;
+    round-trip = round-trip;
+    refusals = refusals;
+  };
+}

@@ -1,0 +1,86 @@
+-- The change requests of document 02 that have landed, sentence by sentence. Each sentence stands in document 02's words; the definition under it says
+-- it, by the definitions and claims of the crates below. Requests, at the end, gathers all, and proofs/Requests.antt proves it as one value.
+-- Statements only.
+use Prim.Native.Nat.{ℕ, _<_}
+use mathlib.Core.Path.{_≡_}
+use mathlib.Core.List.{List, []}
+use Rattle.fields.specs.declared.Direction.{Direction}
+use Rattle.frames.specs.Frame.{frameOf, Fits}
+use Rattle.frames.specs.Writing.{Writes}
+use Rattle.frames.specs.Claims as frames
+use Rattle.claims.specs.Demands.{AllowsOne}
+use Rattle.claims.specs.Numbers.{NumbersDiffer, NoNumberIsZero}
+
+-- ---- Ticket 1: frame the communications channel
+
+-- "Read and write them: flag 01111110, address, control, field, frame check sequence, flag, with a zero inserted after five ones (document 004,
+-- 5.1 and 5.2; check sequence as in ISO/IEC 13239). Between flags, after removing inserted zeros, 32 to 2040 bits. Address is 11000000 to the
+-- sensor, 10000000 from it; control is carried." frames/specs/Frame.antt says what these bits are. A stretch between two flags is accepted exactly
+-- when they stand there (accepted). Inserting zeros and taking them out undo each other, and no flag stands in what was written. The check
+-- sequence is that of the standard's known frames, and it finds what it must
+pub record ReadAndWriteThem : Type 0 where
+  pub accepted : frames.AcceptedExactly
+  pub zeros-taken-out : frames.TakenOut
+  pub zeros-put-in : frames.PutIn
+  pub no-flag-inside : frames.NoFlagInside
+  pub known-checks : frames.KnownChecks
+  pub remainder : frames.Remainder
+  pub burst-found : frames.BurstFound
+  pub one-flip-found : frames.OneFlipFound
+  pub two-flips-found : frames.TwoFlipsFound
+
+-- "A shared flag is allowed, nothing between two flags is idle, a place with only flags, one or more, from it on answers "end", a frame without a
+-- field is valid."
+pub record FlagsAndIdle : Type 0 where
+  pub shared-flags-and-idle : frames.ListReadsBack
+  pub written-on-a-shared-flag : frames.WrittenOn
+  pub end : frames.EndExactly
+  pub no-field : (way : Direction) (control : ℕ) → control < 256 → Fits (frameOf way control [])
+
+-- "A frame, or refusal 40, 42 or 43 in reading, answers the place of its closing flag; other refusals give the place back." The rows of
+-- frames/specs/Reading.antt have the places (refusals); of a frame it is the flag that ends it (frame); the writer gives the place back (writing)
+pub record PlacesAnswered : Type 0 where
+  pub refusals : frames.ReaderRefuses
+  pub frame : frames.WrittenAgain
+  pub writing : frames.RefusedStays
+
+-- "The writer writes both flags. The input is lent bytes, a bit count and a bit place." What it answers and leaves is one for every input, and
+-- bits beside the frame stay
+pub record TheWriter : Type 0 where
+  pub allows-one : (bytes : List ℕ) (count place : ℕ) (way : Direction) (control : ℕ) (field : List ℕ) (n : ℕ)
+      → AllowsOne (Writes bytes count place way control field n)
+  pub others-stay : frames.OthersStay
+
+-- "Demands 2 and 3 keep their text for reports; frames get their own round trip." Both ways, for one frame in lent bytes and for lists of them; and
+-- a stream that is read comes to an end
+pub record TheirOwnRoundTrip : Type 0 where
+  pub written-and-read : frames.WrittenReads
+  pub wherever-it-stands : frames.ReadsBack
+  pub read-and-written : frames.ReadWrites
+  pub field-handed-out : frames.HandedOut
+  pub equal-lists : frames.EqualLists
+  pub calls-enough : frames.CallsEnough
+  pub not-behind : frames.NotBehind
+
+-- "Refusals, in order: 44 count over the lent bits, or no flag at the place; 41 five ones with no inserted zero after them, before the closing flag
+-- or, without one, the end; 45 no closing flag; 40 length, also of a field to be written; 43 check sequence; 42 neither address; 46 writer without
+-- room, nothing written."
+pub record FrameRefusals : Type 0 where
+  pub reading : frames.ReaderRefuses
+  pub writing : frames.WriterRefuses
+  pub nothing-written : frames.RefusedStays
+  pub numbers : NumbersDiffer
+  pub none-is-0 : NoNumberIsZero
+
+pub record Ticket1 : Type 0 where
+  pub read-and-write : ReadAndWriteThem
+  pub flags-and-idle : FlagsAndIdle
+  pub places : PlacesAnswered
+  pub writer : TheWriter
+  pub round-trip : TheirOwnRoundTrip
+  pub refusals : FrameRefusals
+
+-- ---- all of them
+
+pub record Requests : Type 0 where
+  pub ticket-1 : Ticket1
