@@ -67,5 +67,13 @@ pub extern "C" fn siamrung_frame_write_refusal(
     ensures { λ r. ⌜ r ≡ writeRefusal (writeFrame (length (now (bytes .entry))) count place (wayOf «from_sensor») control (now (field .entry)) «field_count») ⌝ }
 {
     let way = way_of(from_sensor);
-    refusal_of(frames::writing::answer(bytes.len(), count, place, way, control, field, field_count)) as u32
+    refusal_of(frames::writing::answer(
+        bytes.len(),
+        count,
+        place,
+        way,
+        control,
+        field,
+        field_count,
+    )) as u32
 }

@@ -105,15 +105,15 @@ module _ (len count place : ℕ) (way : Direction) (control : ℕ) (field : List
         room l =
             record {
               wrote-is =
-              sym
-              (written len count place field n f (place + 8 + m) .1
-              (record {
-                lent = ltb-false _ _ lent;
-                full = ltb-false _ _ full;
-                short = short;
-                room = rw size l;
-                closes = rw size (omega arith);
-              }));
+                  sym
+                  (written len count place field n f (place + 8 + m) .1
+                  (record {
+                    lent = ltb-false _ _ lent;
+                    full = ltb-false _ _ full;
+                    short = short;
+                    room = rw size l;
+                    closes = rw size (omega arith);
+                  }));
               body-is = λ p e. is;
             }
 
@@ -150,5 +150,5 @@ module _ (bytes : List ℕ) (count place : ℕ) (way : Direction) (control : ℕ
       record {
         answers = sym e ∙ d .wrote-is;
         leaves =
-        put ∙ ap (λ (b : List Bool). putAll bytes place (flag ++ (withZeros 0 b ++ flag))) (d .body-is p e) ∙ sym (leaves (P.Closing p) e);
+            put ∙ ap (λ (b : List Bool). putAll bytes place (flag ++ (withZeros 0 b ++ flag))) (d .body-is p e) ∙ sym (leaves (P.Closing p) e);
       }

@@ -90,8 +90,7 @@ back len count place field n f q p (inr (_, inr (_, inr (_, h)))) = absurd h
 
 pub refused-stays : RefusedStays
 refused-stays bytes count place way control field n q p exit w =
-    let f = given way control field n in
-    (
+    let f = given way control field n in (
       back (length bytes) count place field n f q p (writer-refuses (length bytes) count place way control field n q p .0 (sym (w .answers))),
       w .leaves ∙ ap (λ (a : Wrote). leftBy a bytes place f) (sym (w .answers)),
     )

@@ -172,6 +172,7 @@ told-by-bits s t bs bt n e = bits-tell-bytes s t bs bt n (λ p l. let z : 0 + p 
     bit-same (suc (suc x)) y a b h = absurd (omega arith)
     bit-same zero (suc (suc y)) a b h = absurd (omega arith)
     bit-same (suc zero) (suc (suc y)) a b h = absurd (omega arith)
+
     at : (m q : ℕ) → bitsFrom s q m ≡ bitsFrom t q m → (p : ℕ) → p < m → bitAt s (q + p) ≡ bitAt t (q + p)
     at zero q e p l = absurd (omega arith)
     at (suc m) q e zero l =

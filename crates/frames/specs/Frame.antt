@@ -18,7 +18,7 @@ pub record Frame : Type 0 where
 abbrev pub frameOf : Direction → ℕ → List Bool → Frame
 frameOf w c bs = record { way = w; control = c; field = bs }
 
--- the most bits of a field, and the fewest and the most between the flags once inserted zeros are out
+-- the most bits of a field, and the fewest and the most between the flags once inserted zeros are out (5.1.1)
 abbrev pub mostOfField : ℕ
 mostOfField = 2008
 
@@ -33,10 +33,11 @@ pub record Fits (f : Frame) : Type 0 where
   pub control : f .control < 256
   pub field : length (f .field) ≤ mostOfField
 
+-- 5.2.1
 abbrev pub flag : List Bool
 flag = digits 8 0b01111110
 
--- "Address is 11000000 to the sensor, 10000000 from it"
+-- "Address is 11000000 to the sensor, 10000000 from it" (5.2.2)
 abbrev pub addressNumber : Direction → ℕ
 addressNumber ToSensor = 0b11000000
 addressNumber FromSensor = 0b10000000

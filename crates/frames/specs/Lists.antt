@@ -18,8 +18,8 @@ pub record Spaced : Type 0 where
   pub more : ℕ
   pub frame : Frame
 
--- frames one after the other. The flag behind a frame is its closing flag and, where no more stand there, the next one's opening flag; so many more flags
--- stand at the end
+-- frames one after the other. The flag behind a frame is its closing flag; where no more stand there, it is the next one's opening flag too. So
+-- many more flags stand at the end
 unfoldable pub streamOf : List Spaced → ℕ → List Bool
 streamOf [] tail = flag ++ flags tail
 streamOf (x ∷ xs) tail = flags (x .more) ++ (flag ++ (between (x .frame) ++ streamOf xs tail))

@@ -53,7 +53,7 @@ unfoldable pub upToFlag : List Bool → List Bool
 upToFlag [] = []
 upToFlag (b ∷ s) = cond (begins flag (b ∷ s)) [] (b ∷ upToFlag s)
 
--- ---- a stretch: what stands behind the opening flag, the last of neighbouring ones, up to the closing flag
+-- ---- a stretch: what stands behind the opening flag, the last of neighbouring ones, up to the closing flag or, without one, to the end
 
 abbrev pub behindOpening : List Bool → List Bool
 behindOpening s = pastFlags 0 s
@@ -73,13 +73,13 @@ closing s = length s - length (behindOpening s) + length (stretch s)
 
 -- 44: "count over the lent bits", of so many bytes
 abbrev pub countOver : ℕ → ℕ → Bool
-countOver length count = ltb (length * 8) count
+countOver len count = ltb (len * 8) count
 
 -- "a place with only flags, one or more, from it on"
 unfoldable pub onlyFlags : List Bool → Bool
 onlyFlags s = eqb (length (behindOpening s)) 0
 
--- 45: the stretch runs to the end
+-- 45: "no closing flag": the stretch runs to the end
 unfoldable pub noClosingFlag : List Bool → Bool
 noClosingFlag s = eqb (length (stretch s)) (length (behindOpening s))
 
@@ -91,7 +91,7 @@ wrongLength b = ltb (length b) fewest || ltb most (length b)
 unfoldable pub wrongCheck : List Bool → Bool
 wrongCheck b = let n = length b - 16 in not (begins (checkOf (take n b)) (drop n b))
 
--- 42
+-- 42: "neither address"
 unfoldable pub unknownAddress : List Bool → Bool
 unknownAddress b = not (begins (address ToSensor) b || begins (address FromSensor) b)
 

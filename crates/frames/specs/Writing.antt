@@ -1,7 +1,7 @@
 -- What writing a frame answers, and what the lent bytes then hold (document 02, Ticket 1). Definitions only.
 use Prim.Native.Nat.{ℕ, _+_, _-_}
 use mathlib.Core.Path.{_≡_}
-use mathlib.Core.Bool.{Bool, _||_}
+use mathlib.Core.Bool.{_||_}
 use mathlib.Core.List.{List, [], _∷_}
 use lib.Dec.{ltb}
 use lib.ListN.{length}
@@ -41,6 +41,7 @@ leftBy (W.Closing p) bytes place f = putAll bytes place (frameBits f)
 leftBy (W.Refused q p) bytes place f = bytes
 
 -- what a call of the writer answers, and the bytes that it leaves
-pub record Writes (bytes : List ℕ) (count place : ℕ) (way : Direction) (control : ℕ) (field : List ℕ) (n : ℕ) (answer : Wrote) (exit : List ℕ) : Type 0 where
+pub record Writes
+    (bytes : List ℕ) (count place : ℕ) (way : Direction) (control : ℕ) (field : List ℕ) (n : ℕ) (answer : Wrote) (exit : List ℕ) : Type 0 where
   pub answers : answer ≡ writeFrame (length bytes) count place way control field n
   pub leaves : exit ≡ leftBy (writeFrame (length bytes) count place way control field n) bytes place (given way control field n)

@@ -1,4 +1,4 @@
--- The zero inserted after five ones (document 004, 5.1): put in, taken out, and missing. The first argument of each is how many ones stand
+-- The zero inserted after five ones (document 004, 5.2.1): put in, taken out, and missing. The first argument of each is how many ones stand
 -- directly in front of the bits; behind a flag there are none. Definitions only.
 use Prim.Native.Nat.{ℕ, _+_}
 use mathlib.Core.Bool.{Bool, false, cond, _||_}

@@ -48,7 +48,7 @@ pub enum What {
     End,
 }
 
-// With it the place to go on from, and the field's bits: the first on top of the first byte, zeros behind the last.
+// With it the place that is answered, and the field's bits: the first on top of the first byte, zeros behind the last.
 pub struct Found {
     pub what: What,
     pub place: usize,

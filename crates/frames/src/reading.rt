@@ -10,11 +10,14 @@ ghost use Rattle.frames.specs.Stream.{bitsFrom};
 ghost use Rattle.frames.specs.Frame.{frameOf, flag};
 ghost use Rattle.frames.specs.Reading.{accepted, begins, pastFlags, upToFlag, countOver, controlIn, fieldIn, judgedBody, streamAt, fieldBytes, foundAt, readFrame};
 ghost use Rattle.frames.specs.Steps.{BodyIs, addressedBody, behindFlag};
-use crate::check::check;
-use crate::stream::{bit, copy_bits, ones_with, put_bit};
 use crate::Found;
 use crate::FrameRefusal;
 use crate::What;
+use crate::check::check;
+use crate::stream::bit;
+use crate::stream::copy_bits;
+use crate::stream::ones_with;
+use crate::stream::put_bit;
 use fields::Direction;
 
 // Eight bits as a number: a flag, and the addresses.

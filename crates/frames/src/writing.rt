@@ -9,11 +9,14 @@ ghost use mathlib.Core.List.{_++_};
 ghost use Rattle.frames.specs.Frame.{addressNumber, body, flag};
 ghost use Rattle.frames.specs.Writing.{given, writeFrame, Writes};
 ghost use Rattle.frames.specs.Steps.{DecidedIs};
-use crate::check::check;
-use crate::reading::count_over;
-use crate::stream::{bit, copy_bits, ones_with, put_bit};
 use crate::FrameRefusal;
 use crate::Wrote;
+use crate::check::check;
+use crate::reading::count_over;
+use crate::stream::bit;
+use crate::stream::copy_bits;
+use crate::stream::ones_with;
+use crate::stream::put_bit;
 use fields::Direction;
 
 const FLAG: u64 = 0x7E;

@@ -41,9 +41,9 @@ more {b} {n} {register} {i} f x r l e h =
       rs = fed (f .rs) (eqb (bitAt b i) 1);
       sixteen = length-fed (f .rs) (eqb (bitAt b i) 1) (f .sixteen);
       is =
-      h
-      ∙ ap (λ (y : ℕ). cond (eqb (register / 32768) y) (register * 2 % 65536) (bitXor (register * 2 % 65536) 0x1021)) (e ∙ sym (bit-is b i))
-      ∙ rw (f .is) (sym (fed-number (f .rs) (eqb (bitAt b i) 1) (f .sixteen)));
+          h
+          ∙ ap (λ (y : ℕ). cond (eqb (register / 32768) y) (register * 2 % 65536) (bitXor (register * 2 % 65536) 0x1021)) (e ∙ sym (bit-is b i))
+          ∙ rw (f .is) (sym (fed-number (f .rs) (eqb (bitAt b i) 1) (f .sixteen)));
       comes = sym (ap (feed (f .rs)) (stream-cons b n i l)) ∙ f .comes;
     }
 

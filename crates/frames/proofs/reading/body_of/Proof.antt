@@ -77,14 +77,14 @@ module _ {b : List ℕ} {from to : ℕ} {bytes : List ℕ} {count n p : ℕ} (d 
         long = rw put (length-putBit bytes count (bitAt b p) ∙ d .long);
         done = d .done ++ (x ∷ []);
         out =
-        d .out ∙ ap (λ (s : List Bool). d .done ++ zerosOut n s) c
-        ∙ rw (f, is) (sym (append-assoc (d .done) (x ∷ []) (zerosOut (ones n x) rest)));
+            d .out ∙ ap (λ (s : List Bool). d .done ++ zerosOut n s) c
+            ∙ rw (f, is) (sym (append-assoc (d .done) (x ∷ []) (zerosOut (ones n x) rest)));
         missing = d .missing ∙ ap (zeroMissing n) c ∙ rw (f, is) refl;
         count-is = rw (length-append (d .done) (x ∷ []), sym (d .count-is)) refl;
         bytes-are =
-        put ∙ ap (putBit bytes count) (sym (bit-is b p))
-        ∙ rw (d .bytes-are, d .count-is)
-        (sym (putAll-snoc (replicate 255 0) 0 (d .done) x ∙ ap (λ (k : ℕ). putBit (putAll (replicate 255 0) 0 (d .done)) k (bit x)) (zero-add (length (d .done)))));
+            put ∙ ap (putBit bytes count) (sym (bit-is b p))
+            ∙ rw (d .bytes-are, d .count-is)
+            (sym (putAll-snoc (replicate 255 0) 0 (d .done) x ∙ ap (λ (k : ℕ). putBit (putAll (replicate 255 0) 0 (d .done)) k (bit x)) (zero-add (length (d .done)))));
       }
 
   -- no bit is left

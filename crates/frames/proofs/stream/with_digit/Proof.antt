@@ -34,6 +34,7 @@ swapped x k v hx hk hv =
   where
     under : (x a o r : ℕ) → x ≡ a + o + r → o ≤ x
     under x a o r e = omega arith
+
     shape : (x a o r n : ℕ) → x ≡ a + o + r → x - o + n ≡ a + n + r
     shape x a o r n e = omega arith
 
