@@ -67,7 +67,7 @@ number-up : (rs : List Bool) → number (up rs) ≡ number rs * 2
 unfolding number
 number-up rs = number-append rs (false ∷ []) ∙ omega arith
 
-xor-bit : (x y : Bool) → bitXor (bit x) (bit y) ≡ bit (xor x y)
+pub xor-bit : (x y : Bool) → bitXor (bit x) (bit y) ≡ bit (xor x y)
 unfolding xor
 xor-bit true true = refl
 xor-bit true false = refl
@@ -166,12 +166,12 @@ getD-sum (x ∷ xs) (y ∷ ys) zero e = refl
 getD-sum (x ∷ xs) (y ∷ ys) (suc i) e = getD-sum xs ys i (omega arith)
 
 -- bits added to the first of a register
-over : List Bool → List Bool → List Bool
+unfoldable pub over : List Bool → List Bool → List Bool
 over rs [] = rs
 over [] (d ∷ ds) = []
 over (r ∷ rs) (d ∷ ds) = xor r d ∷ over rs ds
 
-length-over : (rs ds : List Bool) → length (over rs ds) ≡ length rs
+pub length-over : (rs ds : List Bool) → length (over rs ds) ≡ length rs
 unfolding over
 length-over rs [] = refl
 length-over [] (d ∷ ds) = refl
@@ -244,7 +244,7 @@ feed-inj rs ss [] m n e = e
 feed-inj rs ss (b ∷ bs) m n e = fed-inj rs ss b m n (feed-inj (fed rs b) (fed ss b) bs (length-fed rs b m) (length-fed ss b n) e)
 
 -- a bit that is fed is added to the register's first bit, and bits that follow it to the next ones
-over-fed : (r d : Bool) (rs ds : List Bool) → length ds ≤ length rs → over (fed (r ∷ rs) d) ds ≡ fed (xor r d ∷ over rs ds) false
+pub over-fed : (r d : Bool) (rs ds : List Bool) → length ds ≤ length rs → over (fed (r ∷ rs) d) ds ≡ fed (xor r d ∷ over rs ds) false
 unfolding fed xor
 over-fed r d rs ds l = go (xor r d)
   where
@@ -252,7 +252,7 @@ over-fed r d rs ds l = go (xor r d)
     go true = over-sum (up rs) generator ds ∙ ap (λ (x : List Bool). sum x generator) (over-up rs ds l)
     go false = over-up rs ds l
 
-feed-over : (rs ds : List Bool) → length rs ≡ 16 → length ds ≤ 16 → feed rs ds ≡ feed (over rs ds) (replicate (length ds) false)
+pub feed-over : (rs ds : List Bool) → length rs ≡ 16 → length ds ≤ 16 → feed rs ds ≡ feed (over rs ds) (replicate (length ds) false)
 unfolding feed over
 feed-over rs [] e l = refl
 feed-over [] (d ∷ ds) e l = absurd (omega arith)

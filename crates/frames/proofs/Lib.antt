@@ -5,6 +5,7 @@ pub mod Chunks
 pub mod Stuffing
 pub mod Filled
 pub mod Checked
+pub mod Bytewise
 pub mod Zeros
 pub mod Refused
 pub mod Flags

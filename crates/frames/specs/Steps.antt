@@ -1,13 +1,15 @@
 -- What the steps of the reader and of the writer leave to the next one; no caller of theirs sees it. Definitions only.
-use Prim.Native.Nat.{ℕ, _+_}
+use Prim.Native.Nat.{ℕ, _+_, _*_, _/_, _%_}
 use mathlib.Core.Path.{_≡_}
 use mathlib.Core.Bool.{Bool, true, false, cond}
 use mathlib.Core.List.{List}
+use lib.Bits.{bitXor}
 use lib.ListN.{length, replicate}
 use Rattle.fields.specs.declared.Direction.{Direction}
 use Rattle.frames.specs.declared.Wrote.{Wrote}
 use Rattle.frames.specs.declared.Wrote.the-variants as P
-use Rattle.frames.specs.Stream.{bitsFrom, putAll}
+use Rattle.frames.specs.Stream.{bitsFrom, putAll, number}
+use Rattle.frames.specs.Check.{preset, feed}
 use Rattle.frames.specs.declared.FrameRefusal.the-variants as R
 use Rattle.frames.specs.declared.Found.{Found}
 use Rattle.frames.specs.Zeros.{zerosOut, zeroMissing}
@@ -33,3 +35,12 @@ behindFlag place s = let o = readBits false s in foundAt (place + o .on) (o .ans
 pub record DecidedIs (len count place : ℕ) (way : Direction) (control : ℕ) (field : List ℕ) (n : ℕ) (wrote : Wrote) (bytes : List ℕ) : Type 0 where
   pub wrote-is : wrote ≡ writeFrame len count place way control field n
   pub body-is : (p : ℕ) → wrote ≡ P.Closing p → bitsFrom bytes 0 (n + 32) ≡ body (given way control field n)
+
+-- the register of the check sequence, as a number, when the first n bits are fed
+abbrev pub registerAt : List ℕ → ℕ → ℕ
+registerAt s n = number (feed preset (bitsFrom s 0 n))
+
+-- the remainder of eight bits that moved out of that register: x^16 is x^12 + x^5 + 1, and the four bits that x^12 moves out again come to the same
+-- once more
+abbrev pub remainderOf : ℕ → ℕ
+remainderOf x = let y = bitXor x (x / 16) in bitXor (bitXor (y * 4096 % 65536) (y * 32)) y

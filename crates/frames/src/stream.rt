@@ -12,7 +12,7 @@ ghost use Rattle.frames.specs.Zeros.{ones};
 // As many bits as one load of eight bytes always holds, in whole bytes.
 const CHUNK: usize = 56;
 
-fn widened(x: u8) -> u64
+pub fn widened(x: u8) -> u64
     ensures { λ r. ⌜ (r ≡ x) × (r < 256) ⌝ }
 {
     x as u64
