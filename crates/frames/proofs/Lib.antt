@@ -10,6 +10,7 @@ pub mod Zeros
 pub mod Refused
 pub mod Flags
 pub mod Flagged
+pub mod Windows
 pub mod Judging
 pub mod Behind
 pub mod Back

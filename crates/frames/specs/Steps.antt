@@ -1,10 +1,11 @@
 -- What the steps of the reader and of the writer leave to the next one; no caller of theirs sees it. Definitions only.
-use Prim.Native.Nat.{ℕ, _+_, _*_, _/_, _%_}
+use Prim.Native.Nat.{ℕ, _+_, _*_, _/_, _%_, _^_, _≤_, _<_}
 use mathlib.Core.Path.{_≡_}
 use mathlib.Core.Bool.{Bool, true, false, cond}
 use mathlib.Core.List.{List}
 use lib.Bits.{bitXor}
 use lib.ListN.{length, replicate}
+use Rattle.bits.specs.Bits.{bitsOf}
 use Rattle.fields.specs.declared.Direction.{Direction}
 use Rattle.frames.specs.declared.Wrote.{Wrote}
 use Rattle.frames.specs.declared.Wrote.the-variants as P
@@ -44,3 +45,12 @@ registerAt s n = number (feed preset (bitsFrom s 0 n))
 -- once more
 abbrev pub remainderOf : ℕ → ℕ
 remainderOf x = let y = bitXor x (x / 16) in bitXor (bitXor (y * 4096 % 65536) (y * 32)) y
+
+-- r tells where six ones stand in a row in w: it is not below the lightest of each six, and not so large that there is no room for them
+pub record SixOnes (w r : ℕ) : Type 0 where
+  pub marks : (k : ℕ) → w / 2 ^ k % 64 ≡ 63 → 2 ^ k ≤ r
+  pub below : r ≤ w / 2 ^ 5
+
+-- from a place on up to another, no flag begins
+abbrev pub NoFlags : List ℕ → ℕ → ℕ → Type 0
+NoFlags bytes from to = (p : ℕ) → from ≤ p → p < to → bitsOf bytes p 8 ≡ 0b01111110 → ⊥

@@ -6,6 +6,7 @@ ghost use Rattle.frames.specs.Numbers.{frameNumber};
 use fields::Direction;
 
 mod stream; // stream.rt: one bit
+mod flag; // flag.rt: where flags are
 mod check; // check.rt: the frame check sequence
 pub mod reading; // reading.rt: the reader
 pub mod writing; // writing.rt: the writer

@@ -1,28 +1,28 @@
 // The reader of frames: a place of a stream of bits to the frame there, a refusal, or the end.
 // It looks for the opening flag, then for the closing one, and then goes through the bits between them once.
-// Relies on stream.rt for the bits, check.rt for the check sequence; specs/Reading.antt says what it answers.
+// Relies on flag.rt for the flags, stream.rt for the bits, check.rt for the check sequence; specs/Reading.antt says what it answers.
 ghost use mathlib.Core.Path.{_≡_};
 ghost use mathlib.Core.Bool.{true};
 ghost use mathlib.Core.List.{[]};
-ghost use Prim.Native.Nat.{_+_, _-_, _≤_};
-ghost use lib.ListN.{length};
+ghost use Prim.Native.Nat.{_-_, _≤_};
 ghost use Rattle.frames.specs.Stream.{bitsFrom};
 ghost use Rattle.frames.specs.Frame.{frameOf, flag};
-ghost use Rattle.frames.specs.Reading.{accepted, begins, pastFlags, upToFlag, countOver, controlIn, fieldIn, judgedBody, streamAt, fieldBytes, foundAt, readFrame};
+ghost use Rattle.frames.specs.Reading.{accepted, begins, countOver, controlIn, fieldIn, judgedBody, streamAt, fieldBytes, foundAt, readFrame};
 ghost use Rattle.frames.specs.Steps.{BodyIs, addressedBody, behindFlag};
 use crate::Found;
 use crate::FrameRefusal;
 use crate::What;
 use crate::check::check;
+use crate::flag::closing;
+use crate::flag::flag_at;
+use crate::flag::past_flags;
 use crate::stream::bit;
 use crate::stream::copy_bits;
 use crate::stream::ones_with;
 use crate::stream::put_bit;
 use fields::Direction;
 
-// Eight bits as a number: a flag, and the addresses.
-const FLAG: u64 = 0x7E;
-
+// The addresses, eight bits as a number.
 const TO_SENSOR: u64 = 0xC0;
 
 const FROM_SENSOR: u64 = 0x80;
@@ -41,59 +41,6 @@ pub fn count_over(length: usize, count: usize) -> bool
         return false;
     }
     true
-}
-
-// Whether a flag begins at a place.
-fn flag_at(b: &[u8], count: usize, p: usize) -> bool
-    ensures { λ r. ⌜ r ≡ begins flag (streamAt (now (b .entry)) count p) ⌝ }
-{
-    if count <= p {
-        return false;
-    }
-    if count - p < 8 {
-        return false;
-    }
-    if bits::read(b, p, 8) == FLAG {
-        return true;
-    }
-    false
-}
-
-// The place behind neighbouring flags.
-fn past_flags(b: &[u8], count: usize, place: usize) -> usize
-    requires { ⌜ place ≤ count ⌝ }
-    ensures { λ r. ⌜ (place ≤ r) × (r ≤ count) × (streamAt (now (b .entry)) count r ≡ pastFlags 0 (streamAt (now (b .entry)) count place)) ⌝ }
-{
-    let mut p = place;
-    while flag_at(b, count, p) {
-        p += 8;
-    }
-    p
-}
-
-// The place of the first flag; the count where there is none.
-fn closing(b: &[u8], count: usize, from: usize) -> usize
-    requires { ⌜ from ≤ count ⌝ }
-    ensures { λ r. ⌜ r ≡ from + length (upToFlag (streamAt (now (b .entry)) count from)) ⌝ }
-{
-    if count - from < 8 {
-        return count;
-    }
-    let last = count - 8;
-    let mut p = from;
-    // the eight bits from p on
-    let mut eight = bits::read(b, from, 8);
-    while p < last {
-        if eight == FLAG {
-            return p;
-        }
-        eight = eight * 2 % 256 + bit(b, p + 8);
-        p += 1;
-    }
-    if eight == FLAG {
-        return p;
-    }
-    count
 }
 
 // What stands between the flags without the inserted zeros: its bits, as many as there is room for, and how many they are. Where a zero is

@@ -1,12 +1,12 @@
--- `frames::reading::past_flags` meets its contract: what lies behind the flags from p on lies behind those from the place on. Assumes nothing.
+-- `frames::flag::past_flags` meets its contract: what lies behind the flags from p on lies behind those from the place on. Assumes nothing.
 use mathlib.Core.Path.{_≡_, refl, sym, _∙_}
 use Prim.Native.Nat.{_-_, _≤_}
 use native.Mathlib.Omega.{arith}
 use borrow.Author.Needs.{needs}
 use Rattle.frames.specs.Reading.{pastFlags, streamAt}
 use Rattle.frames.proofs.Flagged.{flag-room, past-none, past-one}
-use Rattle.frames.proofs.reading.past_flags.Statement.{statement}
-use Rattle.frames.proofs.reading.past_flags.Tie as tie
+use Rattle.frames.proofs.flag.past_flags.Statement.{statement}
+use Rattle.frames.proofs.flag.past_flags.Tie as tie
 
 abbrev Inv-loop : tie.InvT-loop
 Inv-loop b count place p₀ p = (place ≤ p) × (p ≤ count) × (pastFlags 0 (streamAt b count p) ≡ pastFlags 0 (streamAt b count place))

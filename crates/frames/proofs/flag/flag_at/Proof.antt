@@ -1,11 +1,11 @@
--- `frames::reading::flag_at` meets its contract: fewer than eight bits are no flag, and of more the first eight tell. Assumes nothing.
+-- `frames::flag::flag_at` meets its contract: fewer than eight bits are no flag, and of more the first eight tell. Assumes nothing.
 use mathlib.Core.Path.{sym, _∙_}
 use native.Mathlib.Omega.{arith}
 use borrow.Author.Needs.{needs}
 use Rattle.bits.proofs.Laws.{whole}
 use Rattle.frames.proofs.Flagged.{no-flag-short, flag-is, flag-not}
-use Rattle.frames.proofs.reading.flag_at.Statement.{statement}
-use Rattle.frames.proofs.reading.flag_at.Tie as tie
+use Rattle.frames.proofs.flag.flag_at.Statement.{statement}
+use Rattle.frames.proofs.flag.flag_at.Tie as tie
 
 returns : tie.Need-returns
 returns c = sym (no-flag-short _ _ _ (omega arith))
