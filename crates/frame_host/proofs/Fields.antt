@@ -1,11 +1,11 @@
 -- The field that is copied has at most 251 bytes. Assumes nothing.
 use Prim.Native.Nat.{ℕ, _≤_}
-use mathlib.Core.Path.{_≡_, refl, sym, ap, _∙_}
+use mathlib.Core.Path.{_≡_, refl}
 use mathlib.Core.Bool.{Bool}
 use mathlib.Core.List.{List}
 use native.Mathlib.Omega.{arith}
 use lib.ListN.{length}
-use Rattle.frames.specs.Reading.{Answer, accepted, refused, end, Outcome, outcome, countOver, readBits, streamAt, whatOf, readFrame}
+use Rattle.frames.specs.Reading.{Answer, accepted, refused, end, outcome, countOver, readBits, streamAt, whatOf, readFrame}
 use Rattle.frames.proofs.Back.{written-again}
 use Rattle.frame_host.specs.Calls.{countOf}
 

@@ -1,5 +1,5 @@
 -- What the writer decides: when it writes, and each of its refusals by the numbers that its code compares. Assumes nothing.
-use Prim.Native.Nat.{ℕ, _+_, _-_, _*_, _≤_, _<_}
+use Prim.Native.Nat.{ℕ, _+_, _*_, _≤_, _<_}
 use mathlib.Core.Path.{_≡_, refl, sym, ap, _∙_}
 use mathlib.Core.Bool.{Bool, true, false}
 use mathlib.Core.List.{List, _++_}
@@ -17,12 +17,12 @@ use Rattle.frames.specs.declared.FrameRefusal.the-variants as R
 use Rattle.frames.specs.declared.Wrote.{Wrote}
 use Rattle.frames.specs.declared.Wrote.the-variants as P
 use Rattle.frames.specs.Stream.{bitsFrom, putAll}
-use Rattle.frames.specs.Zeros.{withZeros}
-use Rattle.frames.specs.Frame.{Frame, flag, between, frameBits, body}
+use Rattle.frames.specs.Frame.{Frame, flag, between, frameBits}
 use Rattle.frames.specs.Reading.{countOver}
 use Rattle.frames.specs.Writing.{given, writeRows, closingAt, writeFrame, leftBy, Writes}
 use Rattle.frames.specs.Steps.{DecidedIs}
 use Rattle.frames.proofs.Refused.{wrote}
+use Rattle.frames.proofs.Streamed.{length-bitsFrom}
 use Rattle.frames.proofs.Back.{length-frame}
 
 -- what it needs to write a frame, and the place that it then answers
@@ -63,10 +63,10 @@ written len count place field n f p =
 -- ---- the code's decisions
 
 -- nothing is said of the body where the writer refuses
-pub refused-so : (len count place : ℕ) (way : Direction) (control : ℕ) (field : List ℕ) (n : ℕ) (w : Wrote) (bytes : List ℕ) (q : FrameRefusal) (p : ℕ)
-    → w ≡ P.Refused q p → P.Refused q p ≡ writeFrame len count place way control field n → DecidedIs len count place way control field n w bytes
-refused-so len count place way control field n w bytes q p e is =
-    record { wrote-is = e ∙ is; body-is = λ r h. absurd (let z : _≡_ {A = ℕ} 0 1 = cc in omega arith) }
+pub refused-so : (len count place : ℕ) (way : Direction) (control : ℕ) (field : List ℕ) (n : ℕ) (w : Wrote) (bytes : List ℕ) (m : ℕ) (q : FrameRefusal) (p : ℕ)
+    → w ≡ P.Refused q p → P.Refused q p ≡ writeFrame len count place way control field n → DecidedIs len count place way control field n w bytes m
+refused-so len count place way control field n w bytes m q p e is =
+    record { wrote-is = e ∙ is; between-is = λ r h. absurd (let z : _≡_ {A = ℕ} 0 1 = cc in omega arith) }
 
 module _ (len count place : ℕ) (way : Direction) (control : ℕ) (field : List ℕ) (n : ℕ) where
   abbrev f : Frame
@@ -90,9 +90,9 @@ module _ (len count place : ℕ) (way : Direction) (control : ℕ) (field : List
       too-long l = sym (rw (lent, full, lt-ltb _ _ l) refl)
 
       -- the frame's length, by that of what stands between the flags
-      module _ (short : n ≤ 2008) (bytes : List ℕ) (is : bitsFrom bytes 0 (n + 32) ≡ body f) (m : ℕ) (long : m ≡ length (withZeros 0 (bitsFrom bytes 0 (n + 32)))) where
+      module _ (short : n ≤ 2008) (bytes : List ℕ) (m : ℕ) (is : bitsFrom bytes 0 m ≡ between f) where
         size : length (frameBits f) ≡ 16 + m
-        size = length-frame f ∙ ap (λ (k : ℕ). 16 + k) (sym (long ∙ ap (λ (b : List Bool). length (withZeros 0 b)) is))
+        size = length-frame f ∙ ap (λ (k : ℕ). 16 + k) (sym (ap length is) ∙ length-bitsFrom bytes 0 m)
 
         pub no-room : count < place + (16 + m) → P.Refused R.NoRoom place ≡ answers
         unfolding writeFrame
@@ -100,7 +100,7 @@ module _ (len count place : ℕ) (way : Direction) (control : ℕ) (field : List
             let h : count < place + length (frameBits f) = rw size l in
             sym (rw (lent, full, le-ltb _ _ short, lt-ltb _ _ h) refl)
 
-        pub room : place + (16 + m) ≤ count → DecidedIs len count place way control field n (P.Closing (place + 8 + m)) bytes
+        pub room : place + (16 + m) ≤ count → DecidedIs len count place way control field n (P.Closing (place + 8 + m)) bytes m
         unfolding writeFrame
         room l =
             record {
@@ -114,25 +114,25 @@ module _ (len count place : ℕ) (way : Direction) (control : ℕ) (field : List
                     room = rw size l;
                     closes = rw size (omega arith);
                   }));
-              body-is = λ p e. is;
+              between-is = λ p e. is;
             }
 
 -- the places of a frame that is written
-pub places : (len count place : ℕ) (way : Direction) (control : ℕ) (field : List ℕ) (n p : ℕ) (bytes : List ℕ)
-    → P.Closing p ≡ writeFrame len count place way control field n → bitsFrom bytes 0 (n + 32) ≡ body (given way control field n)
-    → (place + 8 + length (withZeros 0 (bitsFrom bytes 0 (n + 32))) ≡ p) × (p + 8 ≤ len * 8) × (n ≤ 2008)
+pub places : (len count place : ℕ) (way : Direction) (control : ℕ) (field : List ℕ) (n p : ℕ) (bytes : List ℕ) (m : ℕ)
+    → P.Closing p ≡ writeFrame len count place way control field n → bitsFrom bytes 0 m ≡ between (given way control field n)
+    → (place + 8 + m ≡ p) × (p + 8 ≤ len * 8)
 unfolding writeFrame
-places len count place way control field n p bytes e is =
+places len count place way control field n p bytes m e is =
     let f = given way control field n in
     let w = written len count place field n f p .0 (sym e) in
     let k = length-frame f in
-    let b = ap (λ (b : List Bool). length (withZeros 0 b)) is in
-    (omega (arith, b, k, w .closes), omega (arith, k, w .closes, w .room, w .lent), w .short)
+    let b : m ≡ length (between f) = sym (length-bitsFrom bytes 0 m) ∙ ap length is in
+    (omega (arith, b, k, w .closes), omega (arith, k, w .closes, w .room, w .lent))
 
 -- ---- a call
 
-module _ (bytes : List ℕ) (count place : ℕ) (way : Direction) (control : ℕ) (field : List ℕ) (n : ℕ) (w : Wrote) (held : List ℕ)
-    (d : DecidedIs (length bytes) count place way control field n w held) where
+module _ (bytes : List ℕ) (count place : ℕ) (way : Direction) (control : ℕ) (field : List ℕ) (n : ℕ) (w : Wrote) (held : List ℕ) (m : ℕ)
+    (d : DecidedIs (length bytes) count place way control field n w held m) where
   -- what stands then in the bytes
   leaves : (a : Wrote) → w ≡ a → leftBy (writeFrame (length bytes) count place way control field n) bytes place (given way control field n)
       ≡ leftBy a bytes place (given way control field n)
@@ -143,12 +143,12 @@ module _ (bytes : List ℕ) (count place : ℕ) (way : Direction) (control : ℕ
   kept q p e = record { answers = d .wrote-is; leaves = sym (leaves (P.Refused q p) e) }
 
   -- any other has written the frame
-  pub framed : (p : ℕ) (exit : List ℕ) → w ≡ P.Closing p → exit ≡ putAll bytes place (flag ++ (withZeros 0 (bitsFrom held 0 (n + 32)) ++ flag))
+  pub framed : (p : ℕ) (exit : List ℕ) → w ≡ P.Closing p → exit ≡ putAll bytes place (flag ++ (bitsFrom held 0 m ++ flag))
       → Writes bytes count place way control field n (P.Closing p) exit
   unfolding frameBits
   framed p exit e put =
       record {
         answers = sym e ∙ d .wrote-is;
         leaves =
-            put ∙ ap (λ (b : List Bool). putAll bytes place (flag ++ (withZeros 0 b ++ flag))) (d .body-is p e) ∙ sym (leaves (P.Closing p) e);
+            put ∙ ap (λ (b : List Bool). putAll bytes place (flag ++ (b ++ flag))) (d .between-is p e) ∙ sym (leaves (P.Closing p) e);
       }

@@ -1,9 +1,9 @@
 -- Where the reader tells the end, and what a refused call of the writer leaves: the claims EndExactly and RefusedStays. Assumes nothing.
 use Prim.Native.Nat.{ℕ, zero, suc}
 use mathlib.Core.Path.{_≡_, refl, sym, ap, _∙_}
-use mathlib.Core.Bool.{Bool, true, false, not, _||_}
+use mathlib.Core.Bool.{Bool, true, false, not}
 use mathlib.Core.List.{List, [], _∷_, _++_, append-nil}
-use mathlib.Core.Logic.{_⊎_, inl, inr}
+use mathlib.Core.Logic.{inl, inr}
 use native.Mathlib.Omega.{arith}
 use borrow.Author.Tests.{eqb-true, not-false}
 use lib.Dec.{eqb}
@@ -17,7 +17,7 @@ use Rattle.frames.specs.declared.Wrote.the-variants as P
 use Rattle.frames.specs.Stream.{digits}
 use Rattle.frames.specs.Frame.{Frame, flag}
 use Rattle.frames.specs.Reading.{accepted, refused, end, Outcome, outcome, begins, pastFlags, onlyFlags, bodyIn, closing, frameIn, readRows, readBits}
-use Rattle.frames.specs.Writing.{given, writeRows, writeFrame, leftBy}
+use Rattle.frames.specs.Writing.{given, writeRows, leftBy}
 use Rattle.frames.specs.Lists.{flags}
 use Rattle.frames.specs.Claims.{EndExactly, RefusedStays}
 use Rattle.frames.proofs.Tests.{differ}

@@ -1,24 +1,22 @@
 -- Flags in a stream of lent bytes: where one begins, by the number that eight bits make; what lies behind neighbouring flags; how far it is to the
 -- first one. For the reader's code. Assumes nothing.
-use Prim.Native.Nat.{ℕ, zero, suc, _+_, _-_, _*_, _%_, _^_, _≤_, _<_}
+use Prim.Native.Nat.{ℕ, _+_, _-_, _*_, _%_, _^_, _≤_, _<_}
 use mathlib.Core.Path.{_≡_, refl, sym, ap, _∙_}
-use mathlib.Core.Bool.{Bool, true, false, cond}
+use mathlib.Core.Bool.{Bool, true, false}
 use mathlib.Core.List.{List, [], _∷_, _++_}
-use native.Mathlib.Nat.{add-comm}
 use native.Mathlib.Decide.{decLt}
 use native.Mathlib.Omega.{arith}
 use borrow.Author.Tests.{eq-eqb, ne-eqb}
 use lib.Dec.{eqb, lit<}
-use lib.ListN.{length, take, drop}
-use lib.Pow.{mod-mod-pow}
+use lib.ListN.{length, drop}
 use Rattle.bits.specs.Bits.{bitAt, bitsOf}
-use Rattle.bits.proofs.Laws.{bitsOf-join, bitsOf-lt, bitAt-lt}
-use Rattle.frames.specs.Stream.{bitsFrom, number, digits}
+use Rattle.bits.proofs.Laws.{bitsOf-join, bitsOf-lt}
+use Rattle.frames.specs.Stream.{bitsFrom, digits}
 use Rattle.frames.specs.Frame.{flag}
 use Rattle.frames.specs.Reading.{begins, pastFlags, upToFlag, streamAt}
 use Rattle.frames.proofs.Tests.{differ}
 use Rattle.frames.proofs.Numbered.{length-digits, number-digits, begins-number, begins-short, begins-eq}
-use Rattle.frames.proofs.Streamed.{length-bitsFrom, take-bitsFrom, drop-bitsFrom, number-bitsFrom, stream-cons, stream-none}
+use Rattle.frames.proofs.Streamed.{length-bitsFrom, take-bitsFrom, drop-bitsFrom, number-bitsFrom, stream-cons}
 
 -- bits begin with those of a number exactly where they make it
 pub begins-by-number : (s : List ℕ) (p m n v : ℕ) → n ≤ m → v < 2 ^ n → begins (digits n v) (bitsFrom s p m) ≡ eqb v (bitsOf s p n)

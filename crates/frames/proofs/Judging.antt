@@ -1,7 +1,7 @@
 -- A body in bytes: its parts by the numbers that they make, as the reader's code tests them. Assumes nothing.
-use Prim.Native.Nat.{ℕ, _+_, _-_, _*_, _%_, _^_, _≤_, _<_}
+use Prim.Native.Nat.{ℕ, _+_, _-_, _*_, _≤_, _<_}
 use mathlib.Core.Path.{_≡_, refl, sym, ap, _∙_}
-use mathlib.Core.Bool.{Bool, true, false, not, cond}
+use mathlib.Core.Bool.{Bool, true, false, not}
 use mathlib.Core.List.{List}
 use native.Mathlib.Decide.{decLt}
 use native.Mathlib.Nat.{zero-add}
@@ -14,10 +14,10 @@ use Rattle.fields.specs.declared.Direction.{Direction}
 use Rattle.fields.specs.declared.Direction.the-variants.{ToSensor, FromSensor}
 use Rattle.frames.specs.declared.FrameRefusal.the-variants as R
 use Rattle.frames.specs.declared.What.the-variants as W
-use Rattle.frames.specs.Stream.{bitsFrom, putAll, number, digits}
+use Rattle.frames.specs.Stream.{bitsFrom, putAll, number}
 use Rattle.frames.specs.Check.{checkOf}
 use Rattle.frames.specs.Frame.{frameOf, address}
-use Rattle.frames.specs.Reading.{accepted, refused, begins, wrongLength, wrongCheck, unknownAddress, controlIn, fieldIn, frameIn, judgedBody, fieldBytes, foundAt}
+use Rattle.frames.specs.Reading.{accepted, refused, begins, wrongLength, wrongCheck, unknownAddress, controlIn, fieldIn, judgedBody, fieldBytes, foundAt}
 use Rattle.frames.specs.Steps.{addressedBody}
 use Rattle.frames.proofs.Numbered.{begins-number}
 use Rattle.frames.proofs.Checked.{length-checkOf}

@@ -2,18 +2,17 @@
 -- the bytes as they are; and all bits beside a frame stay. The claims HandedOut, WrittenReads, WrittenOn, ReadWrites and OthersStay, from the laws
 -- of one frame (Back.antt) and of bits that are put (Streamed.antt).
 -- Assumes nothing.
-use Prim.Native.Nat.{ℕ, zero, suc, _+_, _-_, _*_, _/_, _%_, _^_, _≤_, _<_}
+use Prim.Native.Nat.{ℕ, zero, suc, _+_, _-_, _*_, _≤_, _<_}
 use mathlib.Core.Path.{_≡_, refl, sym, ap, subst, _∙_}
 use mathlib.Core.Bool.{Bool}
 use mathlib.Core.List.{List, _++_, append-assoc}
-use mathlib.Core.Logic.{_↔_, ⊎-elim, inl, inr}
-use native.Mathlib.Nat.{add-assoc, div-add-mod'}
+use mathlib.Core.Logic.{⊎-elim, inl, inr}
+use native.Mathlib.Nat.{add-assoc}
 use native.Mathlib.Omega.{arith}
-use lib.ListN.{length, getD, take, drop, replicate, length-append, length-take, length-drop}
-use lib.Pow.{split}
-use lib.Seq.{take-append-seam, set-getD}
+use lib.ListN.{length, take, drop, replicate, length-append, length-take, length-drop}
+use lib.Seq.{take-append-seam}
 use borrow.Author.Tests.{ltb-false, le-ltb}
-use Rattle.bits.specs.Bits.{bitAt, withDigit, putBit}
+use Rattle.bits.specs.Bits.{putBit}
 use Rattle.fields.specs.declared.Direction.{Direction}
 use Rattle.frames.specs.declared.What.the-variants as W
 use Rattle.frames.specs.declared.Found.{Found}
@@ -27,7 +26,7 @@ use Rattle.frames.specs.Lists.{flags}
 use Rattle.frames.specs.Claims.{opening, HandedOut, WrittenReads, WrittenOn, ReadWrites, OthersStay}
 use Rattle.frames.proofs.Tests.{differ}
 use Rattle.frames.proofs.Numbered.{length-digits}
-use Rattle.frames.proofs.Streamed.{length-bitsFrom, bitsFrom-join, bit-is, take-bitsFrom, drop-bitsFrom, length-putAll, bitsFrom-putAll, bitsFrom-putAll-other}
+use Rattle.frames.proofs.Streamed.{length-bitsFrom, bitsFrom-join, bit-is, put-there, take-bitsFrom, drop-bitsFrom, length-putAll, bitsFrom-putAll, bitsFrom-putAll-other}
 use Rattle.rows.specs.Rows.{firstOf}
 use Rattle.frames.proofs.Decided.{Written, written}
 use Rattle.frames.proofs.Back.{length-frame, reads-back, stands, written-again}
@@ -38,13 +37,6 @@ pub handed-out : HandedOut
 handed-out bs h = bitsFrom-putAll (replicate 251 0) 0 bs (omega arith)
 
 -- bits put where they stand change nothing
-put-there : (s : List ℕ) (p : ℕ) → putBit s p (bitAt s p) ≡ s
-unfolding putBit bitAt withDigit
-put-there s p =
-    let x = getD s (p / 8) 0 in
-    let k = 7 - p % 8 in
-    rw (div-add-mod' (x / 2 ^ k) 2, split x k) (set-getD s (p / 8) 0)
-
 pub put-same : (s : List ℕ) (p n : ℕ) → putAll s p (bitsFrom s p n) ≡ s
 unfolding putAll bitsFrom
 put-same s p zero = refl

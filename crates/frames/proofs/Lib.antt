@@ -2,7 +2,7 @@ pub mod Tests
 pub mod Numbered
 pub mod Streamed
 pub mod Chunks
-pub mod Stuffing
+pub mod Runs
 pub mod Filled
 pub mod Checked
 pub mod Bytewise

@@ -6,20 +6,20 @@ use mathlib.Core.Bool.{Bool, true, false, Bool·beq, true≢false, false≢true,
 use mathlib.Core.List.{List, [], _∷_, _++_, append-nil}
 use mathlib.Core.Logic.{_↔_}
 use native.Mathlib.Numerals.{one-add}
-use native.Mathlib.Nat.{add-mul, mul-assoc, mod-lt, mod-one, mod-eq-of-lt, pow-succ', zero-lt-suc, suc-inj}
+use native.Mathlib.Nat.{add-mul, mul-assoc, div-one, mod-lt, mod-one, mod-eq-of-lt, pow-succ', zero-lt-suc, suc-inj}
 use native.Mathlib.Omega.{arith}
 use borrow.Author.Tests.{eq-eqb, ne-eqb}
 use lib.Arith.{digits-lt}
 use lib.Dec.{eqb}
 use lib.ListN.{length, take, drop, length-append, take-append-drop, drop-of-length-le}
-use lib.Pow.{pow-add, mod-pow-add}
+use lib.Pow.{pow-add, mod-pow-add, shr-shr}
 use lib.Seq.{take-append-seam, length-take-le}
 use Rattle.frames.specs.Stream.{bit, number, digits}
 use Rattle.frames.specs.Reading.{begins}
 
 -- ---- bits make a number
 
-bit-lt : (b : Bool) → bit b < 2
+pub bit-lt : (b : Bool) → bit b < 2
 bit-lt true = omega arith
 bit-lt false = omega arith
 
@@ -61,10 +61,18 @@ unfolding digits
 length-digits zero v = refl
 length-digits (suc n) v = ap suc (length-digits n v)
 
-bit-back : (v : ℕ) → v < 2 → bit (eqb v 1) ≡ v
+pub bit-back : (v : ℕ) → v < 2 → bit (eqb v 1) ≡ v
 bit-back zero h = refl
 bit-back (suc zero) h = refl
 bit-back (suc (suc v)) h = absurd (omega arith)
+
+-- the last bit is the lightest
+pub digits-snoc : (k x : ℕ) → digits (suc k) x ≡ digits k (x / 2) ++ (eqb (x % 2) 1 ∷ [])
+unfolding digits
+digits-snoc zero x = rw (div-one x) refl
+digits-snoc (suc k) x =
+    let e : x / 2 ^ suc k ≡ x / 2 / 2 ^ k = ap (λ (j : ℕ). x / 2 ^ j) (sym (one-add k)) ∙ sym (shr-shr x 1 k) in
+    rw e (ap (λ (t : List Bool). eqb (x / 2 / 2 ^ k % 2) 1 ∷ t) (digits-snoc k x))
 
 number-mod : (n v : ℕ) → number (digits n v) ≡ v % 2 ^ n
 unfolding number digits

@@ -1,20 +1,18 @@
 -- Laws of bits as a list: how a stretch begins, joins and is cut, the number that it makes, and that what was put reads back and leaves all else.
 -- Assumes nothing.
-use Prim.Native.Nat.{ℕ, zero, suc, _+_, _-_, _*_, _/_, _^_, _≤_, _<_}
+use Prim.Native.Nat.{ℕ, zero, suc, _+_, _-_, _*_, _/_, _%_, _^_, _≤_, _<_}
 use mathlib.Core.Path.{_≡_, refl, sym, ap, _∙_}
 use mathlib.Core.Bool.{Bool, true, false}
 use mathlib.Core.List.{List, [], _∷_, _++_}
 use mathlib.Core.Logic.{_⊎_, inl, inr, ⊎-elim}
-use native.Mathlib.Decide.{decLt, ℕ-discrete}
-use native.Mathlib.Nat.{add-zero, zero-lt-suc, mod-lt}
-use native.Mathlib.Numerals.{add-one, one-add}
+use native.Mathlib.Nat.{add-zero, div-add-mod'}
 use native.Mathlib.Omega.{arith}
-use borrow.Author.Tests.{eq-eqb, ne-eqb}
 use lib.Dec.{eqb}
-use lib.ListN.{length, take, drop}
-use lib.Seq.{take-at, drop-at}
-use Rattle.bits.specs.Bits.{bitAt, bitsOf, putBit, putBits, Bytes}
-use Rattle.bits.proofs.Laws.{bitAt-lt, bitsOf-join, putBit-same, length-putBit, length-putBits, putBits-other, putBits-bytes, bits-tell-bytes}
+use lib.ListN.{length, getD, take, drop}
+use lib.Pow.{split}
+use lib.Seq.{take-at, drop-at, set-getD}
+use Rattle.bits.specs.Bits.{bitAt, bitsOf, withDigit, putBit, putBits, Bytes}
+use Rattle.bits.proofs.Laws.{bitAt-lt, bitsOf-join, putBit-same, length-putBit, putBits-other, putBits-bytes}
 use Rattle.frames.specs.Stream.{bit, bitsFrom, putAll, number}
 use Rattle.frames.specs.Reading.{streamAt}
 
@@ -57,6 +55,12 @@ bitsFrom-join s p (suc a) b =
     let e : suc a + b ≡ suc (a + b) = omega arith in
     let f : p + 1 + a ≡ p + suc a = omega arith in
     rw (e, sym f) (ap (λ (t : List Bool). eqb (bitAt s p) 1 ∷ t) (bitsFrom-join s (p + 1) a b))
+
+-- up to the count: the first k bits, and the rest
+pub stream-join : (s : List ℕ) (count p k : ℕ) → p + k ≤ count → streamAt s count p ≡ bitsFrom s p k ++ streamAt s count (p + k)
+stream-join s count p k h =
+    let e : count - p ≡ k + (count - (p + k)) = omega arith in
+    ap (bitsFrom s p) e ∙ bitsFrom-join s p k (count - (p + k))
 
 -- the first bits, and those behind them
 pub take-bitsFrom : (s : List ℕ) (p a n : ℕ) → a ≤ n → take a (bitsFrom s p n) ≡ bitsFrom s p a
@@ -113,6 +117,14 @@ putBit-one s p false = rw (add-zero p) refl
 putBit-other : (s : List ℕ) (p : ℕ) (b : Bool) (j : ℕ) → (j < p) ⊎ (p + 1 ≤ j) → bitAt (putBit s p (bit b)) j ≡ bitAt s j
 putBit-other s p b j o = rw (putBit-one s p b) (putBits-other s p 1 (bit b) j o)
 
+-- a bit that is put where it stands changes nothing
+pub put-there : (s : List ℕ) (p : ℕ) → putBit s p (bitAt s p) ≡ s
+unfolding putBit bitAt withDigit
+put-there s p =
+    let x = getD s (p / 8) 0 in
+    let k = 7 - p % 8 in
+    rw (div-add-mod' (x / 2 ^ k) 2, split x k) (set-getD s (p / 8) 0)
+
 pub length-putAll : (s : List ℕ) (p : ℕ) (bs : List Bool) → length (putAll s p bs) ≡ length s
 unfolding putAll
 length-putAll s p [] = refl
@@ -158,27 +170,3 @@ bitsFrom-putAll s p (b ∷ bs) h =
     putAll-other t (p + 1) bs p (inl (omega arith)) ∙ putBit-same s p (bit b) (omega arith) (bit-lt b) in
     let r : bitsFrom (putAll t (p + 1) bs) (p + 1) (length bs) ≡ bs = bitsFrom-putAll t (p + 1) bs (rw length-putBit (omega arith)) in
     rw (a, r, bit-back b) refl
-
--- bytes that have the same bits are the same
-pub told-by-bits : (s t : List ℕ) → Bytes s → Bytes t → length s ≡ length t → bitsFrom s 0 (length s * 8) ≡ bitsFrom t 0 (length s * 8) → s ≡ t
-unfolding bitsFrom
-told-by-bits s t bs bt n e = bits-tell-bytes s t bs bt n (λ p l. let z : 0 + p ≡ p = omega arith in rw z at (at (length s * 8) 0 e p l))
-  where
-    bit-same : (x y : ℕ) → x < 2 → y < 2 → eqb x 1 ≡ eqb y 1 → x ≡ y
-    bit-same zero zero a b h = refl
-    bit-same zero (suc zero) a b h = absurd (let z : false ≡ true = h in let w : _≡_ {A = ℕ} 0 1 = cc in omega arith)
-    bit-same (suc zero) zero a b h = absurd (let z : true ≡ false = h in let w : _≡_ {A = ℕ} 0 1 = cc in omega arith)
-    bit-same (suc zero) (suc zero) a b h = refl
-    bit-same (suc (suc x)) y a b h = absurd (omega arith)
-    bit-same zero (suc (suc y)) a b h = absurd (omega arith)
-    bit-same (suc zero) (suc (suc y)) a b h = absurd (omega arith)
-
-    at : (m q : ℕ) → bitsFrom s q m ≡ bitsFrom t q m → (p : ℕ) → p < m → bitAt s (q + p) ≡ bitAt t (q + p)
-    at zero q e p l = absurd (omega arith)
-    at (suc m) q e zero l =
-        let h : eqb (bitAt s q) 1 ≡ eqb (bitAt t q) 1 = cc in
-        rw (add-zero q) (bit-same (bitAt s q) (bitAt t q) (bitAt-lt s q) (bitAt-lt t q) h)
-    at (suc m) q e (suc p) l =
-        let h : bitsFrom s (q + 1) m ≡ bitsFrom t (q + 1) m = cc in
-        let f : q + 1 + p ≡ q + suc p = omega arith in
-        rw f at (at m (q + 1) h p (omega arith))

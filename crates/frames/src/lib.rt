@@ -5,7 +5,8 @@ ghost use mathlib.Core.Path.{_≡_};
 ghost use Rattle.frames.specs.Numbers.{frameNumber};
 use fields::Direction;
 
-mod stream; // stream.rt: one bit
+mod stream; // stream.rt: one bit, and many copied
+mod inserted; // inserted.rt: inserted zeros, taken out and put in
 mod flag; // flag.rt: where flags are
 mod check; // check.rt: the frame check sequence
 pub mod reading; // reading.rt: the reader

@@ -1,14 +1,14 @@
 // The reader of frames: a place of a stream of bits to the frame there, a refusal, or the end.
 // It looks for the opening flag, then for the closing one, and then goes through the bits between them once.
-// Relies on flag.rt for the flags, stream.rt for the bits, check.rt for the check sequence; specs/Reading.antt says what it answers.
+// Relies on flag.rt for the flags, inserted.rt for the inserted zeros, check.rt for the check sequence; specs/Reading.antt says what it answers.
 ghost use mathlib.Core.Path.{_≡_};
 ghost use mathlib.Core.Bool.{true};
 ghost use mathlib.Core.List.{[]};
 ghost use Prim.Native.Nat.{_-_, _≤_};
 ghost use Rattle.frames.specs.Stream.{bitsFrom};
 ghost use Rattle.frames.specs.Frame.{frameOf, flag};
-ghost use Rattle.frames.specs.Reading.{accepted, begins, countOver, controlIn, fieldIn, judgedBody, streamAt, fieldBytes, foundAt, readFrame};
-ghost use Rattle.frames.specs.Steps.{BodyIs, addressedBody, behindFlag};
+ghost use Rattle.frames.specs.Reading.{accepted, begins, controlIn, fieldIn, judgedBody, streamAt, fieldBytes, foundAt, readFrame};
+ghost use Rattle.frames.specs.Steps.{addressedBody, behindFlag};
 use crate::Found;
 use crate::FrameRefusal;
 use crate::What;
@@ -16,82 +16,16 @@ use crate::check::check;
 use crate::flag::closing;
 use crate::flag::flag_at;
 use crate::flag::past_flags;
-use crate::stream::bit;
+use crate::inserted::Body;
+use crate::inserted::body_of;
 use crate::stream::copy_bits;
-use crate::stream::ones_with;
-use crate::stream::put_bit;
+use crate::stream::count_over;
 use fields::Direction;
 
 // The addresses, eight bits as a number.
 const TO_SENSOR: u64 = 0xC0;
 
 const FROM_SENSOR: u64 = 0x80;
-
-// Whether so many bytes have fewer bits than the count.
-pub fn count_over(length: usize, count: usize) -> bool
-    ensures { λ r. ⌜ r ≡ countOver length count ⌝ }
-{
-    if count / 8 < length {
-        return false;
-    }
-    if length < count / 8 {
-        return true;
-    }
-    if count % 8 == 0 {
-        return false;
-    }
-    true
-}
-
-// What stands between the flags without the inserted zeros: its bits, as many as there is room for, and how many they are. Where a zero is
-// missing, that is all that is said of it.
-struct Body {
-    bytes: [u8; 255],
-    count: usize,
-    missing: bool,
-}
-
-// Goes through the bits from a place up to another.
-fn body_of(b: &[u8], from: usize, to: usize) -> Body
-    requires { ⌜ from ≤ to ⌝ }
-    ensures { λ r. ⌜ BodyIs (bitsFrom (now (b .entry)) from (to - from)) (r .bytes) (r .count) (r .missing) ⌝ }
-{
-    let mut bytes = [0u8; 255];
-    let mut count = 0;
-    let mut n: u64 = 0;
-    let mut p = from;
-    while p < to {
-        let v = bit(b, p);
-        p += 1;
-        if n == 5 {
-            if v == 1 {
-                return Body {
-                    bytes,
-                    count,
-                    missing: true,
-                };
-            }
-            n = 0;
-        } else {
-            // past the last byte nothing is put: so long a frame is refused
-            put_bit(&mut bytes, count, v);
-            count += 1;
-            n = ones_with(n, v);
-        }
-    }
-    if n == 5 {
-        return Body {
-            bytes,
-            count,
-            missing: true,
-        };
-    }
-    Body {
-        bytes,
-        count,
-        missing: false,
-    }
-}
 
 // The field of a body: the bits behind address and control, as bytes with zeros behind them.
 fn field_of(body: [u8; 255], count: usize) -> [u8; 251]

@@ -1,10 +1,9 @@
 // The writer of frames. It decides first, from numbers and the field alone; then it writes: a flag, the body with its inserted zeros, a flag.
-// Relies on stream.rt for the bits, check.rt for the check sequence; specs/Writing.antt says what it answers and leaves.
+// Relies on stream.rt for the bits, inserted.rt for the inserted zeros, check.rt for the check sequence; specs/Writing.antt says what it answers and leaves.
 ghost use mathlib.Core.Path.{_≡_};
 ghost use Prim.Native.Nat.{_+_, _*_, _≤_};
 ghost use lib.ListN.{length};
 ghost use Rattle.frames.specs.Stream.{bitsFrom, putAll};
-ghost use Rattle.frames.specs.Zeros.{withZeros};
 ghost use mathlib.Core.List.{_++_};
 ghost use Rattle.frames.specs.Frame.{addressNumber, body, flag};
 ghost use Rattle.frames.specs.Writing.{given, writeFrame, Writes};
@@ -12,11 +11,10 @@ ghost use Rattle.frames.specs.Steps.{DecidedIs};
 use crate::FrameRefusal;
 use crate::Wrote;
 use crate::check::check;
-use crate::reading::count_over;
-use crate::stream::bit;
+use crate::inserted::Stuffed;
+use crate::inserted::with_zeros;
 use crate::stream::copy_bits;
-use crate::stream::ones_with;
-use crate::stream::put_bit;
+use crate::stream::count_over;
 use fields::Direction;
 
 const FLAG: u64 = 0x7E;
@@ -47,38 +45,22 @@ fn body_of(way: Direction, control: u8, field: &[u8], n: usize) -> [u8; 255]
     bytes
 }
 
-// How many bits the first n are with their inserted zeros.
-fn stuffed(b: &[u8], n: usize) -> usize
-    requires { ⌜ n ≤ 2040 ⌝ }
-    ensures { λ r. ⌜ (r ≡ length (withZeros 0 (bitsFrom (now (b .entry)) 0 n))) × (r ≤ 4080) ⌝ }
-{
-    let mut total = 0;
-    let mut k: u64 = 0;
-    let mut i = 0;
-    while i < n {
-        k = ones_with(k, bit(b, i));
-        total += 1;
-        if k == 5 {
-            total += 1;
-            k = 0;
-        }
-        i += 1;
-    }
-    total
-}
-
-// What the writer answers, and the body that it then writes.
+// What the writer answers, and what it then writes between the flags.
 struct Decided {
     wrote: Wrote,
-    body: [u8; 255],
+    between: Stuffed,
 }
 
 fn refused(q: FrameRefusal, place: usize) -> Decided
     ensures { λ r. ⌜ r .wrote ≡ Wrote.Refused q place ⌝ }
 {
+    let between = Stuffed {
+        bytes: [0u8; 306],
+        count: 0,
+    };
     Decided {
         wrote: Wrote::Refused(q, place),
-        body: [0u8; 255],
+        between,
     }
 }
 
@@ -91,7 +73,7 @@ fn deciding(
     field: &[u8],
     n: usize,
 ) -> Decided
-    ensures { λ r. ⌜ DecidedIs length count place way control (now (field .entry)) n (r .wrote) (r .body) ⌝ }
+    ensures { λ r. ⌜ DecidedIs length count place way control (now (field .entry)) n (r .wrote) (r .between .bytes) (r .between .count) ⌝ }
 {
     if count_over(length, count) {
         return refused(FrameRefusal::CountOrFlag, place);
@@ -103,16 +85,16 @@ fn deciding(
         return refused(FrameRefusal::WrongLength, place);
     }
     let body = body_of(way, control, field, n);
-    let between = stuffed(&body, n + 32);
+    let between = with_zeros(&body, n + 32);
     if count < place {
         return refused(FrameRefusal::NoRoom, place);
     }
-    if count - place < between + 16 {
+    if count - place < between.count + 16 {
         return refused(FrameRefusal::NoRoom, place);
     }
     Decided {
-        wrote: Wrote::Closing(place + 8 + between),
-        body,
+        wrote: Wrote::Closing(place + 8 + between.count),
+        between,
     }
 }
 
@@ -132,35 +114,13 @@ pub fn answer(
     decided.wrote
 }
 
-// Puts the first n bits of b with their inserted zeros, from a place up to the end.
-fn put_between(s: &mut [u8], place: usize, end: usize, b: &[u8], n: usize)
-    requires { ⌜ place + length (withZeros 0 (bitsFrom (now b) 0 n)) ≡ end ⌝ }
-    ensures { λ _. ⌜ now (s .exit) ≡ putAll (now (s .entry)) place (withZeros 0 (bitsFrom (now (b .entry)) 0 n)) ⌝ }
-{
-    let mut p = place;
-    let mut k: u64 = 0;
-    let mut i = 0;
-    while i < n {
-        let v = bit(b, i);
-        put_bit(s, p, v);
-        p += 1;
-        k = ones_with(k, v);
-        if k == 5 {
-            put_bit(s, p, 0);
-            p += 1;
-            k = 0;
-        }
-        i += 1;
-    }
-}
-
-// Puts a frame whose body is the first n bits of b; the closing flag is at the end.
+// Puts a frame that has the first n bits of b between its flags; the closing one is at the end.
 fn put_frame(s: &mut [u8], place: usize, end: usize, b: &[u8], n: usize)
-    requires { ⌜ (place + 8 + length (withZeros 0 (bitsFrom (now b) 0 n)) ≡ end) × (end + 8 ≤ length (now s) * 8) ⌝ }
-    ensures { λ _. ⌜ now (s .exit) ≡ putAll (now (s .entry)) place (flag ++ (withZeros 0 (bitsFrom (now (b .entry)) 0 n) ++ flag)) ⌝ }
+    requires { ⌜ (place + 8 + n ≡ end) × (end + 8 ≤ length (now s) * 8) ⌝ }
+    ensures { λ _. ⌜ now (s .exit) ≡ putAll (now (s .entry)) place (flag ++ (bitsFrom (now (b .entry)) 0 n ++ flag)) ⌝ }
 {
     bits::write(s, place, 8, FLAG);
-    put_between(s, place + 8, end, b, n);
+    copy_bits(s, place + 8, b, 0, n);
     bits::write(s, end, 8, FLAG);
 }
 
@@ -178,10 +138,11 @@ pub fn write(
 {
     let decided = deciding(b.len(), count, place, way, control, field, n);
     let wrote = decided.wrote;
-    let body = decided.body;
+    let between = decided.between;
+    let bytes = between.bytes;
     let Wrote::Closing(end) = wrote else {
         return wrote;
     };
-    put_frame(b, place, end, &body, n + 32);
+    put_frame(b, place, end, &bytes, between.count);
     wrote
 }

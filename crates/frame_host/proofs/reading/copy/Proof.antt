@@ -1,5 +1,5 @@
 -- `frame_host::reading::copy` meets its contract: the first i bytes are copied. Assumes nothing.
-use mathlib.Core.Path.{_≡_, refl, sym, ap, _∙_}
+use mathlib.Core.Path.{_≡_, refl, ap, _∙_}
 use mathlib.Core.List.{List, _++_}
 use Prim.Native.Nat.{ℕ, suc, _+_, _-_, _≤_, _<_}
 use native.Mathlib.Nat.{zero-add}
@@ -7,7 +7,7 @@ use native.Mathlib.Numerals.{add-one}
 use native.Mathlib.Omega.{arith}
 use borrow.Author.Needs.{needs}
 use lib.ListN.{length, getD, set, take, drop, length-set}
-use lib.Seq.{paste, paste-suc}
+use lib.Seq.{paste-suc}
 use Rattle.frame_host.proofs.reading.copy.Statement.{statement}
 use Rattle.frame_host.proofs.reading.copy.Tie as tie
 

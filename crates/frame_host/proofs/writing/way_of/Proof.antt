@@ -1,5 +1,4 @@
 -- `frame_host::writing::way_of` meets its contract. Assumes nothing.
-use borrow.Author.Needs.{needs}
 use borrow.Author.Tests.{eq-eqb, ne-eqb}
 use Rattle.frame_host.proofs.writing.way_of.Statement.{statement}
 use Rattle.frame_host.proofs.writing.way_of.Tie as tie

@@ -1,7 +1,7 @@
 -- `frames::stream::copy_bits` meets its contract: the first p bits are put. Assumes nothing.
-use mathlib.Core.Path.{_≡_, refl, sym, ap, _∙_}
+use mathlib.Core.Path.{_≡_, refl, ap, _∙_}
 use mathlib.Core.List.{List}
-use Prim.Native.Nat.{ℕ, _+_, _-_, _*_, _%_, _^_, _≤_, _<_}
+use Prim.Native.Nat.{ℕ, _+_, _-_, _%_, _^_, _≤_}
 use native.Mathlib.Omega.{arith}
 use borrow.Author.Needs.{needs}
 use lib.ListN.{length}
@@ -21,10 +21,10 @@ long : {s₀ t s : List ℕ} {at from n p : ℕ} → Copied s₀ at t from n s p
 long {s₀} {t} {s} {at} {from} {n} {p} d = ap length (d .is) ∙ length-putAll s₀ at (bitsFrom t from p)
 
 -- m bits more
-more : {s₀ t s : List ℕ} {at from n p : ℕ} → Copied s₀ at t from n s p → Bytes s₀ → (m r : ℕ) (next : List ℕ) → p + m ≤ n → at + n ≤ length s₀ * 8 → m ≤ 64
+more : {s₀ t s : List ℕ} {at from n p : ℕ} → Copied s₀ at t from n s p → Bytes s₀ → (m r : ℕ) (next : List ℕ) → p + m ≤ n → m ≤ 64
     → r ≡ bitsOf t (from + p) m % 2 ^ 64 → next ≡ putBits s (at + p) m r → Copied s₀ at t from n next (p + m)
-more {s₀} {t} {s} {at} {from} {n} {p} d b m r next l room h e put =
-    record { within = l; is = put ∙ ap (λ (x : List ℕ). putBits x (at + p) m r) (d .is) ∙ put-more s₀ t at from p m r b (omega arith) h e }
+more {s₀} {t} {s} {at} {from} {n} {p} d b m r next l h e put =
+    record { within = l; is = put ∙ ap (λ (x : List ℕ). putBits x (at + p) m r) (d .is) ∙ put-more s₀ t at from p m r b h e }
 
 abbrev Inv-loop : tie.InvT-loop
 Inv-loop s₀ at t from n p₀ s p = Copied s₀ at t from n s p
@@ -41,7 +41,7 @@ loop-again c =
     let w = c .before .before in
     let i = w .before .before .before in
     let k = i .before .before .before in
-    more (i .before .loop .inv) (are-bytes (k .before .args .s .now) (λ j. omega (arith, k .slice-known .given j))) 56 (w .before .read .result) _ (i .loop-test .taken) (k .before .pre .0) (omega arith)
+    more (i .before .loop .inv) (are-bytes (k .before .args .s .now) (λ j. omega (arith, k .slice-known .given j))) 56 (w .before .read .result) _ (omega (arith, i .loop-test .taken, i .before .loop .inv .within)) (omega arith)
     (w .before .read .ensures) (w .write .ensures)
 
 returns : tie.Need-returns Inv-loop μ-loop
@@ -52,7 +52,7 @@ returns c =
     let l = i .before .loop in
     let n = k .before .args .n in
     let e : l .p + (n - l .p) ≡ n = omega (arith, l .inv .within) in
-    let d = more (l .inv) (are-bytes (k .before .args .s .now) (λ j. omega (arith, k .slice-known .given j))) (n - l .p) (w .before .read2 .result) _ (omega arith) (k .before .pre .0) (omega (arith, i .loop-test .left))
+    let d = more (l .inv) (are-bytes (k .before .args .s .now) (λ j. omega (arith, k .slice-known .given j))) (n - l .p) (w .before .read2 .result) _ (omega arith) (omega (arith, i .loop-test .left))
     (w .before .read2 .ensures) (w .write2 .ensures) in
     rw e at (d .is)
 
@@ -68,7 +68,7 @@ copy-bits-spec =
     Inv-loop
     μ-loop
     loop-holds
-    (λ c. omega (arith, c .loop .inv .within))
+    (λ c. c .loop .inv .within)
     (λ c. omega arith)
     (λ c. omega arith)
     (λ c κs. search needs)

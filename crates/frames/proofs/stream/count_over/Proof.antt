@@ -1,12 +1,12 @@
--- `frames::reading::count_over` meets its contract: a count of n bits needs n / 8 bytes, and one more where bits are left over. Assumes nothing.
+-- `frames::stream::count_over` meets its contract: a count of n bits needs n / 8 bytes, and one more where bits are left over. Assumes nothing.
 use native.Mathlib.Omega.{arith}
 use mathlib.Core.Path.{_≡_, sym}
 use mathlib.Core.Bool.{true, false}
 use Prim.Native.Nat.{ℕ, _*_, _≤_, _<_}
 use Rattle.frames.specs.Reading.{countOver}
 use borrow.Author.Tests.{lt-ltb, le-ltb}
-use Rattle.frames.proofs.reading.count_over.Statement.{statement}
-use Rattle.frames.proofs.reading.count_over.Tie as tie
+use Rattle.frames.proofs.stream.count_over.Statement.{statement}
+use Rattle.frames.proofs.stream.count_over.Tie as tie
 
 within : (length count : ℕ) → count ≤ length * 8 → false ≡ countOver length count
 within length count h = sym (le-ltb _ _ h)
