@@ -132,6 +132,7 @@ frameIn b = frameOf (wayIn b) (controlIn b) (fieldIn b)
 abbrev pub judgedBody : List Bool → Answer
 judgedBody b = firstOf (bodyRows b) (accepted (frameIn b))
 
+-- the reader: these rows, and where none holds, the frame and the place of its closing flag
 unfoldable pub readBits : Bool → List Bool → Outcome
 readBits over s = firstOf (readRows over s) (outcome (accepted (frameIn (bodyIn s))) (closing s))
 
@@ -146,12 +147,13 @@ whatOf (accepted f) = W.Frame (f .way) (f .control) (length (f .field))
 whatOf (refused q) = W.Refused q
 whatOf end = W.End
 
--- the field's bits, the first bit on top of the first byte, and zeros behind them; no bits where there is no frame
+-- the field's bits; none, where there is no frame
 abbrev pub fieldOf : Answer → List Bool
 fieldOf (accepted f) = f .field
 fieldOf (refused q) = []
 fieldOf end = []
 
+-- bits in 251 bytes: the first on top of the first byte, and zeros behind the last
 abbrev pub fieldBytes : List Bool → List ℕ
 fieldBytes bs = putAll (replicate 251 0) 0 bs
 
@@ -159,6 +161,7 @@ fieldBytes bs = putAll (replicate 251 0) 0 bs
 abbrev pub foundAt : ℕ → Answer → Found
 foundAt place a = record { what = whatOf a; place = place; field = fieldBytes (fieldOf a) }
 
+-- bytes, a count of bits, a place
 unfoldable pub readFrame : List ℕ → ℕ → ℕ → Found
 readFrame bytes count place =
     let o = readBits (countOver (length bytes) count) (streamAt bytes count place) in foundAt (place + o .on) (o .answer)

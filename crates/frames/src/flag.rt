@@ -10,8 +10,8 @@ ghost use Rattle.frames.specs.Reading.{begins, pastFlags, upToFlag, stre
 ghost use Rattle.frames.specs.Steps.{SixOnes, NoFlags};
 use crate::stream::bit;
 
-// Eight bits as a number.
-const FLAG: u64 = 0x7E;
+// A flag, eight bits as a number.
+pub const FLAG: u64 = 0x7E;
 
 // As many bits as one load of eight bytes always holds.
 const WINDOW: usize = 57;

@@ -1,5 +1,5 @@
 // Frames of the communications channel (document 02, Ticket 1): a flag, the address, the control, a link data field, the frame check sequence, a
-// flag. Here are the types and the refusals; the reader and the writer have a file each.
+// flag. Here are the types, the refusals and the limits; the reader and the writer have a file each.
 // Relies on fields for the direction; specs/Frame.antt says what a frame is.
 ghost use mathlib.Core.Path.{_≡_};
 ghost use Rattle.frames.specs.Numbers.{frameNumber};
@@ -11,6 +11,24 @@ mod flag; // flag.rt: where flags are
 mod check; // check.rt: the frame check sequence
 pub mod reading; // reading.rt: the reader
 pub mod writing; // writing.rt: the writer
+
+// The addresses, eight bits as a number.
+const TO_SENSOR: u64 = 0xC0;
+
+const FROM_SENSOR: u64 = 0x80;
+
+// The most bits of a field.
+const MOST_OF_FIELD: usize = 2008;
+
+// The fewest and the most bits between the flags, inserted zeros not counted.
+const FEWEST: usize = 32;
+
+const MOST: usize = 2040;
+
+// The bits of address and control together, and those of the check sequence.
+const HEAD_BITS: usize = 16;
+
+const CHECK_BITS: usize = 16;
 
 // Why a place gives no frame, or a frame was not written, in the order of document 02.
 pub enum FrameRefusal {

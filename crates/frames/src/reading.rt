@@ -9,8 +9,14 @@ ghost use Rattle.frames.specs.Stream.{bitsFrom};
 ghost use Rattle.frames.specs.Frame.{frameOf, flag};
 ghost use Rattle.frames.specs.Reading.{accepted, begins, controlIn, fieldIn, judgedBody, streamAt, fieldBytes, foundAt, readFrame};
 ghost use Rattle.frames.specs.Steps.{addressedBody, behindFlag};
+use crate::CHECK_BITS;
+use crate::FEWEST;
+use crate::FROM_SENSOR;
 use crate::Found;
 use crate::FrameRefusal;
+use crate::HEAD_BITS;
+use crate::MOST;
+use crate::TO_SENSOR;
 use crate::What;
 use crate::check::check;
 use crate::flag::closing;
@@ -22,18 +28,13 @@ use crate::stream::copy_bits;
 use crate::stream::count_over;
 use fields::Direction;
 
-// The addresses, eight bits as a number.
-const TO_SENSOR: u64 = 0xC0;
-
-const FROM_SENSOR: u64 = 0x80;
-
 // The field of a body: the bits behind address and control, as bytes with zeros behind them.
 fn field_of(body: [u8; 255], count: usize) -> [u8; 251]
     requires { ⌜ count ≤ 2008 ⌝ }
     ensures { λ r. ⌜ r ≡ fieldBytes (bitsFrom body 16 count) ⌝ }
 {
     let mut field = [0u8; 251];
-    copy_bits(&mut field, 0, &body, 16, count);
+    copy_bits(&mut field, 0, &body, HEAD_BITS, count);
     field
 }
 
@@ -53,13 +54,13 @@ fn frame(bytes: [u8; 255], count: usize, way: Direction, place: usize) -> Found
     requires { ⌜ (32 ≤ count) × (count ≤ 2040) ⌝ }
     ensures { λ r. ⌜ r ≡ foundAt place (accepted (frameOf way (controlIn (bitsFrom bytes 0 count)) (fieldIn (bitsFrom bytes 0 count)))) ⌝ }
 {
-    let field = field_of(bytes, count - 32);
+    let field = field_of(bytes, count - FEWEST);
     let control = bits::read(&bytes, 8, 8) as u8;
     Found {
         what: What::Frame {
             way,
             control,
-            count: count - 32,
+            count: count - FEWEST,
         },
         place,
         field,
@@ -87,13 +88,14 @@ fn judged(body: Body, place: usize) -> Found
 {
     let bytes = body.bytes;
     let count = body.count;
-    if count < 32 {
+    if count < FEWEST {
         return nothing(What::Refused(FrameRefusal::WrongLength), place);
     }
-    if 2040 < count {
+    if MOST < count {
         return nothing(What::Refused(FrameRefusal::WrongLength), place);
     }
-    if check(&bytes, count - 16) == bits::read(&bytes, count - 16, 16) {
+    let covered = count - CHECK_BITS;
+    if check(&bytes, covered) == bits::read(&bytes, covered, CHECK_BITS) {
         return addressed(bytes, count, place);
     }
     nothing(What::Refused(FrameRefusal::WrongCheck), place)

@@ -1,5 +1,6 @@
 // The writer of frames. It decides first, from numbers and the field alone; then it writes: a flag, the body with its inserted zeros, a flag.
-// Relies on stream.rt for the bits, inserted.rt for the inserted zeros, check.rt for the check sequence; specs/Writing.antt says what it answers and leaves.
+// Relies on stream.rt for the bits, inserted.rt for the inserted zeros, check.rt for the check sequence; specs/Writing.antt says what it answers
+// and leaves.
 ghost use mathlib.Core.Path.{_≡_};
 ghost use Prim.Native.Nat.{_+_, _*_, _≤_};
 ghost use lib.ListN.{length};
@@ -8,26 +9,28 @@ ghost use mathlib.Core.List.{_++_};
 ghost use Rattle.frames.specs.Frame.{addressNumber, body, flag};
 ghost use Rattle.frames.specs.Writing.{given, writeFrame, Writes};
 ghost use Rattle.frames.specs.Steps.{DecidedIs};
+use crate::CHECK_BITS;
+use crate::FEWEST;
+use crate::FROM_SENSOR;
 use crate::FrameRefusal;
+use crate::HEAD_BITS;
+use crate::MOST_OF_FIELD;
+use crate::TO_SENSOR;
 use crate::Wrote;
 use crate::check::check;
+use crate::flag::FLAG;
 use crate::inserted::Stuffed;
 use crate::inserted::with_zeros;
 use crate::stream::copy_bits;
 use crate::stream::count_over;
 use fields::Direction;
 
-const FLAG: u64 = 0x7E;
-
-// The bits of a field and those around it.
-const MOST_OF_FIELD: usize = 2008;
-
 fn address_of(way: Direction) -> u64
     ensures { λ r. ⌜ r ≡ addressNumber way ⌝ }
 {
     match way {
-        Direction::ToSensor => 0xC0,
-        Direction::FromSensor => 0x80,
+        Direction::ToSensor => TO_SENSOR,
+        Direction::FromSensor => FROM_SENSOR,
     }
 }
 
@@ -39,9 +42,9 @@ fn body_of(way: Direction, control: u8, field: &[u8], n: usize) -> [u8; 255]
     let mut bytes = [0u8; 255];
     bits::write(&mut bytes, 0, 8, address_of(way));
     bits::write(&mut bytes, 8, 8, control as u64);
-    copy_bits(&mut bytes, 16, field, 0, n);
-    let sequence = check(&bytes, n + 16);
-    bits::write(&mut bytes, n + 16, 16, sequence);
+    copy_bits(&mut bytes, HEAD_BITS, field, 0, n);
+    let sequence = check(&bytes, n + HEAD_BITS);
+    bits::write(&mut bytes, n + HEAD_BITS, CHECK_BITS, sequence);
     bytes
 }
 
@@ -85,10 +88,11 @@ fn deciding(
         return refused(FrameRefusal::WrongLength, place);
     }
     let body = body_of(way, control, field, n);
-    let between = with_zeros(&body, n + 32);
+    let between = with_zeros(&body, n + FEWEST);
     if count < place {
         return refused(FrameRefusal::NoRoom, place);
     }
+    // the two flags have sixteen bits
     if count - place < between.count + 16 {
         return refused(FrameRefusal::NoRoom, place);
     }
