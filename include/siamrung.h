@@ -436,8 +436,8 @@ uint32_t siamrung_field_write_refusal(const uint8_t *bytes, size_t length, uint3
  * No octet is turned round: of the control, too, the first bit sent is the heaviest. An octet that a paper on HDLC writes with the first bit
  * sent as the lightest has its bits here in the other order: 3F there is FC here.
  *
- * A call looks at the place, where a flag must begin. It passes the flags that follow directly, and reads the frame behind the last one. It
- * does not look behind the closing flag. To walk a stream, call siamrung_frame_kind, then go on from the place that siamrung_frame_place
+ * A call looks at the place, where a flag must begin. It passes the flags that follow directly, and reads the frame behind the last one. Bits
+ * behind the closing flag make no difference. To walk a stream, call siamrung_frame_kind, then go on from the place that siamrung_frame_place
  * answers. After a frame and after the refusals 40, 43 and 42 this is the place of the closing flag, so that a walk does work in proportion to
  * the stream. After the refusals 44, 41 and 45 it is the place that was passed, and the walk ends there. A program that wants to go on looks for
  * a flag itself, behind the flags that follow the place directly: examples/frames.c does so.
