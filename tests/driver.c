@@ -9,10 +9,12 @@
  *   'F' bytes, count (8), from_sensor (4), ask (1), numbers: a field; the indices to ask beside 0 to 31
  *   'G' bytes, type (4), items (bytes), list (bytes), text (bytes): a field to write
  *   'S' stream, numbers: a stream to walk; the counts and places, in turn, to look at beside the walk
- *   'T' stream, count (4), count times: count (8), place (8), from_sensor (4), control (1), field (bytes), count (8): a stream, the frames to
- *       write into it with the count to pass with each field; then the walk
- * "stream" is bytes, count (8), place (8), numbers: a stream of frames, the count to pass with it, the place from which to walk it, and the
- * sizes of the buffers that each field is asked with. A buffer holds 165, 172, 179 .. (modulo 256) before the call.
+ *   'T' stream, count (4), count times: count (8), place (8), from_sensor (4), control (1), field (bytes), length (8), count (8): a stream,
+ *       the frames to write into it with the length and the count to pass with each field; then the walk
+ * "stream" is bytes, length (8), count (8), place (8), numbers: a stream of frames, the length and the count to pass with it, the place
+ * from which to walk it, and the sizes of the buffers that each field is asked with. A length is that of the bytes, or is only said to be
+ * greater; no bit is counted that is not there, and other bytes stand behind. A size above 256 is only said too: 256 bytes are there, and no
+ * field needs more. A buffer holds 165, 172, 179 .. (modulo 256) before the call.
  * Output: answers, each with its length (4) before it. The first is a head: the version (4) and the size of a size_t (4). Then follows one
  * for each case: the numbers that the calls gave, four bytes for a uint32_t, eight for the others, one for siamrung_has and
  * siamrung_field_has (255 for any number but 0 and 1), and the bytes after each writing, a field buffer's too. It ends with one byte: 1 if
@@ -35,6 +37,8 @@ static const uint32_t no_items[NO_ITEMS] = {68, 265, 457, 0x80000004};
 #define LAST_INDEX 31
 /* where there is no report, items are asked this many times more seldom */
 #define SELDOM 8
+/* no field of a frame needs more bytes */
+#define MOST_ROOM 256
 
 /* ---- the slices of a case, each with a copy */
 
@@ -320,6 +324,7 @@ static void answer_field_write(void)
 
 struct stream {
     struct slice slice;
+    size_t length;
     size_t count;
     size_t place;
     size_t *rooms;
@@ -331,6 +336,7 @@ static struct stream get_stream(void)
     struct stream stream;
     uint64_t i;
     stream.slice = get_slice();
+    stream.length = (size_t)get_number(8);
     stream.count = (size_t)get_number(8);
     stream.place = (size_t)get_number(8);
     stream.rooms_count = get_number(4);
@@ -350,13 +356,14 @@ static void drop_stream(struct stream *stream)
 /* The field copied to a buffer of that size, which holds a pattern before. */
 static void put_frame_field(const struct stream *stream, size_t count, size_t place, size_t room)
 {
-    uint8_t *field = room > 0 ? take(room) : NULL;
+    size_t there = room < MOST_ROOM ? room : MOST_ROOM;
+    uint8_t *field = there > 0 ? take(there) : NULL;
     size_t i;
-    for (i = 0; i < room; i++) {
+    for (i = 0; i < there; i++) {
         field[i] = (uint8_t)(165 + 7 * i);
     }
-    put_number(siamrung_frame_field(stream->slice.bytes, stream->slice.length, count, place, field, room), 8);
-    put(field, room);
+    put_number(siamrung_frame_field(stream->slice.bytes, stream->length, count, place, field, room), 8);
+    put(field, there);
     free(field);
 }
 
@@ -364,7 +371,7 @@ static void put_frame_field(const struct stream *stream, size_t count, size_t pl
 static size_t look_at_frame(const struct stream *stream, size_t count, size_t place, int *end)
 {
     const uint8_t *bytes = stream->slice.bytes;
-    size_t length = stream->slice.length;
+    size_t length = stream->length;
     uint32_t kind = siamrung_frame_kind(bytes, length, count, place);
     size_t next = siamrung_frame_place(bytes, length, count, place);
     uint64_t i;
@@ -416,14 +423,15 @@ static int write_frame(struct stream *stream)
     uint32_t from_sensor = (uint32_t)get_number(4);
     uint8_t control = (uint8_t)get_number(1);
     struct slice field = get_slice();
+    size_t field_length = (size_t)get_number(8);
     size_t field_count = (size_t)get_number(8);
     int unchanged;
-    put_number(siamrung_frame_write_refusal(slice->bytes, slice->length, count, place, from_sensor, control, field.bytes, field.length,
+    put_number(siamrung_frame_write_refusal(slice->bytes, stream->length, count, place, from_sensor, control, field.bytes, field_length,
                                             field_count), 4);
     unchanged = same(slice);
-    put_number(siamrung_frame_write(slice->bytes, slice->length, count, place, from_sensor, control, field.bytes, field.length,
+    put_number(siamrung_frame_write(slice->bytes, stream->length, count, place, from_sensor, control, field.bytes, field_length,
                                     field_count), 8);
-    put_number(siamrung_frame_write_refusal(slice->bytes, slice->length, count, place, from_sensor, control, field.bytes, field.length,
+    put_number(siamrung_frame_write_refusal(slice->bytes, stream->length, count, place, from_sensor, control, field.bytes, field_length,
                                             field_count), 4);
     put(slice->bytes, slice->length);
     unchanged = unchanged && same(&field);

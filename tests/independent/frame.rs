@@ -211,6 +211,8 @@ pub struct Write {
     pub from_sensor: u32,
     pub control: u8,
     pub field: Vec<u8>,
+    /// the number of bytes that is passed with the field
+    pub field_length: u64,
     pub field_count: u64,
 }
 
@@ -232,7 +234,7 @@ impl Against {
 impl Write {
     /// The frame that is asked for; nothing where its field is not there or is too long.
     fn frame(&self) -> Option<Frame> {
-        if over(self.field_count, self.field.len() as u64) || self.field_count > MOST_FIELD {
+        if over(self.field_count, self.field_length) || self.field_count > MOST_FIELD {
             return None;
         }
         let field = bits::of_bytes(&self.field)[..self.field_count as usize].to_string();
@@ -253,7 +255,7 @@ impl Write {
     pub fn against(&self, length: u64) -> Against {
         Against {
             count_over: over(self.count, length),
-            field_over: over(self.field_count, self.field.len() as u64),
+            field_over: over(self.field_count, self.field_length),
             too_long: self.field_count > MOST_FIELD,
             missing: (u128::from(self.place) + self.needed()).saturating_sub(u128::from(self.count)),
         }

@@ -10,6 +10,8 @@ use crate::line::END;
 /// A stream is walked from the place, and then looked at with other counts and places.
 pub struct Reading {
     pub bytes: Vec<u8>,
+    /// the number of bytes that is passed
+    pub length: u64,
     pub count: u64,
     pub place: u64,
     /// the sizes of the buffers that the field is copied to
@@ -23,18 +25,23 @@ pub struct Reading {
 /// Frames are written into a stream one after the other; then it is walked from the place.
 pub struct Writing {
     pub bytes: Vec<u8>,
+    /// the number of bytes that is passed
+    pub length: u64,
     pub count: u64,
     pub place: u64,
     pub rooms: Vec<u64>,
     pub writes: Vec<Write>,
 }
 
+/// No field needs a larger buffer. Of a greater size only so many bytes are there.
+pub const MOST_ROOM: u64 = 256;
+
 /// What a buffer holds before a field is copied to it.
 fn pattern(room: u64) -> Vec<u8> {
-    (0..room).map(|index| ((165 + 7 * index) % 256) as u8).collect()
+    (0..room.min(MOST_ROOM)).map(|index| ((165 + 7 * index) % 256) as u8).collect()
 }
 
-fn put_stream(message: &mut Vec<u8>, bytes: &[u8], numbers: [u64; 2], rooms: &[u64]) {
+fn put_stream(message: &mut Vec<u8>, bytes: &[u8], numbers: [u64; 3], rooms: &[u64]) {
     put_bytes(message, bytes);
     for number in numbers {
         message.extend_from_slice(&number.to_be_bytes());
@@ -44,14 +51,14 @@ fn put_stream(message: &mut Vec<u8>, bytes: &[u8], numbers: [u64; 2], rooms: &[u
 
 impl Reading {
     pub fn put(&self, message: &mut Vec<u8>) {
-        put_stream(message, &self.bytes, [self.count, self.place], &self.rooms);
+        put_stream(message, &self.bytes, [self.length, self.count, self.place], &self.rooms);
         let looks: Vec<u64> = self.looks.iter().flat_map(|&(count, place)| [count, place]).collect();
         put_numbers(message, &looks);
     }
 
     pub fn expect(&self, answer: &mut Answer, totals: &mut FrameTotals) {
         let all = bits::of_bytes(&self.bytes);
-        let stream = Stream { all: &all, length: self.bytes.len() as u64, count: self.count };
+        let stream = Stream { all: &all, length: self.length, count: self.count };
         totals.stream(&stream, &self.made);
         expect_walk(answer, totals, &stream, self.place, &self.rooms);
         for &(count, place) in &self.looks {
@@ -70,14 +77,14 @@ impl Reading {
     }
 
     pub fn shown(&self) -> String {
-        let stream = shown_stream(&self.bytes, [self.count, self.place], &self.rooms);
+        let stream = shown_stream(&self.bytes, [self.length, self.count, self.place], &self.rooms);
         format!("stream, {}; counts and places {:?}", stream, self.looks)
     }
 }
 
 impl Writing {
     pub fn put(&self, message: &mut Vec<u8>) {
-        put_stream(message, &self.bytes, [self.count, self.place], &self.rooms);
+        put_stream(message, &self.bytes, [self.length, self.count, self.place], &self.rooms);
         message.extend_from_slice(&(self.writes.len() as u32).to_be_bytes());
         for write in &self.writes {
             message.extend_from_slice(&write.count.to_be_bytes());
@@ -85,18 +92,18 @@ impl Writing {
             message.extend_from_slice(&write.from_sensor.to_be_bytes());
             message.push(write.control);
             put_bytes(message, &write.field);
+            message.extend_from_slice(&write.field_length.to_be_bytes());
             message.extend_from_slice(&write.field_count.to_be_bytes());
         }
     }
 
     pub fn expect(&self, answer: &mut Answer, totals: &mut FrameTotals) {
-        let length = self.bytes.len() as u64;
         let mut now = self.bytes.clone();
         let mut flag = None;
         let mut written = Vec::new();
         for write in &self.writes {
-            let (refusal, place) = frame::write(&mut now, length, write);
-            totals.write(length, write, (refusal, place), flag == Some(write.place));
+            let (refusal, place) = frame::write(&mut now, self.length, write);
+            totals.write(self.length, write, (refusal, place), flag == Some(write.place));
             if refusal == 0 {
                 flag = Some(place);
                 written.push(write.place);
@@ -107,24 +114,25 @@ impl Writing {
             answer.all("bytes after siamrung_frame_write", &now);
         }
         let all = bits::of_bytes(&now);
-        let stream = Stream { all: &all, length: self.bytes.len() as u64, count: self.count };
+        let stream = Stream { all: &all, length: self.length, count: self.count };
         let read = expect_walk(answer, totals, &stream, self.place, &self.rooms);
         read.iter().filter(|place| written.contains(place)).for_each(|_| totals.read_back());
     }
 
     pub fn shown(&self) -> String {
         let one = |write: &Write| {
-            let field = format!("{}, {} bits", hex(&write.field), write.field_count);
+            let field = format!("{} passed as {} bytes, {} bits", hex(&write.field), write.field_length, write.field_count);
             let frame = format!("from_sensor {} control {:02X} field {}", write.from_sensor, write.control, field);
             format!("; count {} place {} {}", write.count, write.place, frame)
         };
         let all: String = self.writes.iter().map(one).collect();
-        format!("writing frames into {}{}", shown_stream(&self.bytes, [self.count, self.place], &self.rooms), all)
+        format!("writing frames into {}{}", shown_stream(&self.bytes, [self.length, self.count, self.place], &self.rooms), all)
     }
 }
 
-fn shown_stream(bytes: &[u8], [count, place]: [u64; 2], rooms: &[u64]) -> String {
-    format!("{} bytes {}, {} bits, walked from {}, field buffers of {:?}", bytes.len(), hex(bytes), count, place, rooms)
+fn shown_stream(bytes: &[u8], [length, count, place]: [u64; 3], rooms: &[u64]) -> String {
+    let passed = format!("{} bytes {} passed as {}", bytes.len(), hex(bytes), length);
+    format!("{}, {} bits, walked from {}, field buffers of {:?}", passed, count, place, rooms)
 }
 
 /// The walk from a place, stopped at the end or where a place gives itself back. Answers the places that gave a frame.

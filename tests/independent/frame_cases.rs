@@ -360,7 +360,7 @@ fn case_of(rng: &mut Rng, pieces: &[String], some: usize, field_bits: usize, mut
     let looks = looks(rng, &text, 8 * bytes.len() as u64, some);
     let mut rooms = rooms(rng, field_bits);
     rooms.truncate(if rng.once_in(3) { 2 } else { 1 });
-    Case::Frames(Reading { count: text.len() as u64, place, bytes, rooms, looks, made })
+    Case::Frames(Reading { length: bytes.len() as u64, count: text.len() as u64, place, bytes, rooms, looks, made })
 }
 
 /// Up to five short frames, sound or damaged.
@@ -409,7 +409,7 @@ fn asked(rng: &mut Rng, place: u64, bits: usize) -> Write {
     let bytes = bits::to_bytes(&text);
     let from_sensor = if rng.once_in(2) { 0 } else { *rng.pick(&[1, 1, 2, 256, 1 << 31, u32::MAX]) };
     let control = rng.below(256) as u8;
-    let write = Write { count: 0, place, from_sensor, control, field: bytes, field_count: bits as u64 };
+    let write = Write { count: 0, place, from_sensor, control, field_length: bytes.len() as u64, field: bytes, field_count: bits as u64 };
     if bits < 100 && rng.once_in(6) {
         with_last_zero(write)
     } else {
@@ -444,6 +444,7 @@ fn chain(rng: &mut Rng, from: u64, fields: &[usize]) -> (Vec<Write>, u64) {
 fn lengthen(rng: &mut Rng, write: &mut Write) {
     let length = 252 + rng.index(8);
     write.field = rng.bytes(length);
+    write.field_length = length as u64;
     write.field_count = if rng.once_in(2) { MOST_FIELD + 1 } else { rng.between(MOST_FIELD + 1, 8 * length as u64) };
 }
 
@@ -516,5 +517,5 @@ pub fn write(seed: u64, number: u64) -> Case {
         }
     }
     let rooms = rooms(rng, fields[fields.len() - 1]);
-    Case::FrameWrites(Writing { bytes: before(rng, length), count, place, rooms, writes })
+    Case::FrameWrites(Writing { bytes: before(rng, length), length: length as u64, count, place, rooms, writes })
 }

@@ -1,6 +1,6 @@
 //! Chosen cases of frames, each once: each refusal's smallest input beside its nearest neighbour; two known frames with every bit turned
 //! over, at every count and from every place; every check sequence of one frame; every length at the limits; every room for a frame and
-//! for a field; counts and places at the ends of what a number holds.
+//! for a field; counts, places and lengths at the ends of what a number holds.
 
 use crate::bits;
 use crate::case::Case;
@@ -33,8 +33,8 @@ fn text_of(words: &str) -> String {
 /// A stream of those bits, all counted, in as few bytes as they need; bits behind the count are zeros.
 fn read(name: String, text: &str, looks: Vec<(u64, u64)>) -> Named {
     let bytes = bits::to_bytes(text);
-    let count = text.len() as u64;
-    (name, Case::Frames(Reading { bytes, count, place: 0, rooms: vec![0, 1, 3], looks, made: Vec::new() }))
+    let (length, count) = (bytes.len() as u64, text.len() as u64);
+    (name, Case::Frames(Reading { bytes, length, count, place: 0, rooms: vec![0, 1, 3], looks, made: Vec::new() }))
 }
 
 /// A stream in words, and what its first place gets: a refusal, 121 for the end, 122 for a frame.
@@ -194,7 +194,7 @@ fn every_room() -> Vec<Named> {
     for bits in [0, 1, 7, 8, 9, 15, 16, 17, 40, 2000, 2001, 2007, 2008] {
         let needed = (bits as u64 + 7) / 8;
         let mut rooms: Vec<u64> = if needed < 9 { (0..needed).collect() } else { vec![0, 1, needed - 2, needed - 1] };
-        rooms.extend([needed, needed + 1, needed + 2, 256, 1000, 65536]);
+        rooms.extend([needed, needed + 1, needed + 2, 256, 1 << 61, 1 << 63, u64::MAX]);
         for fill in ["0", "1", "10110"] {
             let field = fill.repeat(bits)[..bits].to_string();
             let frame = Frame { from_sensor: true, control: 0xA5, field };
@@ -230,6 +230,26 @@ fn ends_of_numbers() -> Vec<Named> {
     ["", "F", "F A F", "F A F F"].iter().map(case).collect()
 }
 
+/// Lengths that are only said to be so great; no bit is counted that is not there. Behind the bytes whose bits are counted stand others: a
+/// library may read some at once.
+const OTHERS: usize = 16;
+const SAID: [u64; 7] = [1 << 32, 1 << 60, 1 << 61, (1 << 61) + 1, 1 << 63, u64::MAX - 1, u64::MAX];
+
+fn said_lengths() -> Vec<Named> {
+    let text = text_of("F A F");
+    let mut bytes = bits::to_bytes(&text);
+    let there = 8 * bytes.len() as u64;
+    bytes.extend([0; OTHERS]);
+    let case = |&length: &u64| {
+        let counts: Vec<u64> = numbers(there).into_iter().filter(|&count| count <= there || frame::over(count, length)).collect();
+        let looks = pairs(&counts, &[0, 41, u64::MAX]);
+        let count = text.len() as u64;
+        let reading = Reading { bytes: bytes.clone(), length, count, place: 0, rooms: vec![1], looks, made: Vec::new() };
+        (format!("length said to be {}", length), Case::Frames(reading))
+    };
+    SAID.iter().map(case).collect()
+}
+
 /// What is turned over on the way can make another frame: one bit that makes a flag behind a check sequence, or two that make a zero more.
 fn turned_over() -> Vec<Named> {
     let inner = bits::of_low_first(&KNOWN[0]);
@@ -253,14 +273,14 @@ fn written(name: String, byte: u8, writes: Vec<Write>) -> Named {
     let count = writes.iter().map(|write| write.count).max().unwrap_or(0);
     let length = (count as usize + 7) / 8;
     let place = writes[0].place;
-    (name, Case::FrameWrites(Writing { bytes: vec![byte; length], count, place, rooms: vec![251], writes }))
+    (name, Case::FrameWrites(Writing { bytes: vec![byte; length], length: length as u64, count, place, rooms: vec![251], writes }))
 }
 
 /// A frame with a field of those bits, which fill whole bytes with ones behind them.
 fn asked(count: u64, place: u64, from_sensor: u32, control: u8, field: &str) -> Write {
     let field_count = field.len() as u64;
     let bytes = bits::to_bytes(&format!("{}{}", field, "1".repeat((8 - field.len() % 8) % 8)));
-    Write { count, place, from_sensor, control, field: bytes, field_count }
+    Write { count, place, from_sensor, control, field_length: bytes.len() as u64, field: bytes, field_count }
 }
 
 /// Both known frames, and one whose check sequence ends in five ones, with every room from none to two bits more than they need.
@@ -356,21 +376,21 @@ const ATTEMPTS: &[Attempt] = &[
 fn attempt([length, count, place, field_length, field_count]: [u64; 5]) -> Writing {
     let field = vec![0; field_length as usize];
     // control 5 needs no inserted zero, neither without a field nor with those of ATTEMPTS
-    let write = Write { count, place, from_sensor: 0, control: 5, field, field_count };
-    Writing { bytes: vec![0xFF; length as usize], count: 8 * length, place: 0, rooms: vec![251], writes: vec![write] }
+    let write = Write { count, place, from_sensor: 0, control: 5, field, field_length, field_count };
+    Writing { bytes: vec![0xFF; length as usize], length, count: 8 * length, place: 0, rooms: vec![251], writes: vec![write] }
 }
 
 fn attempts() -> Vec<Named> {
     let case = |&(numbers, gets): &Attempt| {
         let writing = attempt(numbers);
-        let (refusal, _) = frame::write(&mut writing.bytes.clone(), writing.bytes.len() as u64, &writing.writes[0]);
+        let (refusal, _) = frame::write(&mut writing.bytes.clone(), writing.length, &writing.writes[0]);
         assert_eq!(refusal, gets, "{:?}", numbers);
         (format!("writing {:?}", numbers), Case::FrameWrites(writing))
     };
     ATTEMPTS.iter().map(case).collect()
 }
 
-/// Counts, places and field counts at the ends.
+/// Counts, places and field counts at the ends; then lengths that are only said to be so great.
 fn ends_of_numbers_written() -> Vec<Named> {
     let mut cases = Vec::new();
     for (count, place) in pairs(&numbers(48), &numbers(48)) {
@@ -378,11 +398,23 @@ fn ends_of_numbers_written() -> Vec<Named> {
         let writing = |field: u64| Case::FrameWrites(attempt([6, count, place, 1, field]));
         cases.extend(fields.iter().map(|&field| (format!("writing count {} place {} field {}", count, place, field), writing(field))));
     }
+    for said in SAID {
+        let mut stream = attempt([6, 48, 0, 0, 0]);
+        stream.length = said;
+        stream.bytes.extend([0xFF; OTHERS]);
+        cases.push((format!("writing into a length said to be {}", said), Case::FrameWrites(stream)));
+        for field_count in [0, 1, 8] {
+            let mut field = attempt([8, 64, 0, 1, field_count]);
+            field.writes[0].field.extend([0; OTHERS]);
+            field.writes[0].field_length = said;
+            cases.push((format!("writing {} bits of a field length said to be {}", field_count, said), Case::FrameWrites(field)));
+        }
+    }
     cases
 }
 
 pub fn cases() -> impl Iterator<Item = Named> {
-    let parts: [fn() -> Vec<Named>; 14] = [
+    let parts: [fn() -> Vec<Named>; 15] = [
         streams,
         every_place,
         every_bit,
@@ -391,6 +423,7 @@ pub fn cases() -> impl Iterator<Item = Named> {
         every_length,
         every_room,
         ends_of_numbers,
+        said_lengths,
         turned_over,
         every_room_written,
         every_length_written,
