@@ -18,8 +18,10 @@
  *
  * Frames. A stream of frames is counted in bits: see "calls that read a frame" below.
  *
- * Versions. The numbers below keep their meaning: none is ever used for something else. siamrung_version grows with each change of the calls.
- * A call whose meaning changes under the same arguments gets a new name, so that an old program does not link with it.
+ * Versions. The numbers below keep their meaning: none is ever used for something else. siamrung_version grows with each change of the calls,
+ * and of what they accept. Version 3 added the calls of frames. Version 4 accepts an ELM_DOWNLINK with LENGTH 0, which was refused (28, and 30
+ * in writing). A call whose meaning changes under the same arguments gets a new name, so that an old program does not link with it. A call
+ * that accepts more than before keeps its name: what it answers then is as described here.
  */
 #ifndef SIAMRUNG_H
 #define SIAMRUNG_H
@@ -262,7 +264,8 @@ extern "C" {
 #define SIAMRUNG_FIELD_ITEM_EXP 204
 /* text of a tactical message, 56 bits; siamrung_field_text_place answers where an ELM's text is */
 #define SIAMRUNG_FIELD_ITEM_TEXT 205
-/* Length of an ELM; the ELM's text has 10 (LENGTH + 1) bytes */
+/* Length of an ELM, 4 bits; the ELM's text has 10 (LENGTH + 1) bytes. In ELM_DOWNLINK every value is in use: 0 is one segment, a text of 10 bytes.
+ * In ELM_UPLINK 0 is not in use: its text has at least two segments, 20 bytes. */
 #define SIAMRUNG_FIELD_ITEM_LENGTH 206
 #define SIAMRUNG_FIELD_ITEM_MSRC 207
 /* referenced number */
@@ -303,7 +306,7 @@ extern "C" {
 
 /* ---- calls that read a line */
 
-/* Answers the version of these calls: 3. It grows with each change of the calls. */
+/* Answers the version of these calls: 4. It grows with each change of the calls, and of what they accept. */
 uint32_t siamrung_version(void);
 
 /* Answers what stands at the place: a kind of report, SIAMRUNG_KIND_REFUSED or SIAMRUNG_KIND_END. */

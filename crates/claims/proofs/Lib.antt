@@ -1,6 +1,7 @@
 pub mod Numbers
 pub mod Twelve
 pub mod Printed
+pub mod OneSegment
 pub mod Places
 pub mod Anywhere
 pub mod Fields

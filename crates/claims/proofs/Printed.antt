@@ -107,32 +107,32 @@ entries-as-printed s k = record {
 -- ---- the rules
 
 -- what a fault is, of what is wrong with a part by its rule: 1 a spare bit, 2 a value
-spare-1 : (b : Bool) → eqb (cond b 0 1) 1 ≡ not b
+pub spare-1 : (b : Bool) → eqb (cond b 0 1) 1 ≡ not b
 spare-1 true = refl
 spare-1 false = refl
 
-spare-2 : (b : Bool) → eqb (cond b 0 1) 2 ≡ false
+pub spare-2 : (b : Bool) → eqb (cond b 0 1) 2 ≡ false
 spare-2 true = refl
 spare-2 false = refl
 
-value-1 : (b : Bool) → eqb (cond b 2 0) 1 ≡ false
+pub value-1 : (b : Bool) → eqb (cond b 2 0) 1 ≡ false
 value-1 true = refl
 value-1 false = refl
 
-value-2 : (b : Bool) → eqb (cond b 2 0) 2 ≡ b
+pub value-2 : (b : Bool) → eqb (cond b 2 0) 2 ≡ b
 value-2 true = refl
 value-2 false = refl
 
-other-1 : (b : Bool) → eqb (cond b 0 2) 1 ≡ false
+pub other-1 : (b : Bool) → eqb (cond b 0 2) 1 ≡ false
 other-1 true = refl
 other-1 false = refl
 
-other-2 : (b : Bool) → eqb (cond b 0 2) 2 ≡ not b
+pub other-2 : (b : Bool) → eqb (cond b 0 2) 2 ≡ not b
 other-2 true = refl
 other-2 false = refl
 
 -- a part of no bits
-no-bits : (s : List ℕ) (p : ℕ) → bitsOf s p 0 ≡ 0
+pub no-bits : (s : List ℕ) (p : ℕ) → bitsOf s p 0 ≡ 0
 unfolding bitsOf
 no-bits s p = refl
 

@@ -8,8 +8,9 @@ use Rattle.frames.proofs.Lent as lent
 use Rattle.frames.proofs.Lists as lists
 use Rattle.frames.proofs.Refused as refused
 use Rattle.frames.proofs.Zeros as zeros
-use Rattle.claims.specs.Requests.{ReadAndWriteThem, FlagsAndIdle, PlacesAnswered, TheWriter, TheirOwnRoundTrip, FrameRefusals, Ticket1, Requests}
+use Rattle.claims.specs.Requests.{ReadAndWriteThem, FlagsAndIdle, PlacesAnswered, TheWriter, TheirOwnRoundTrip, FrameRefusals, Ticket1, OneSegmentAccepted, UplinkKeepsItsMinimum, LoseThisCase, Requests}
 use Rattle.claims.proofs.Numbers.{numbers-differ, no-number-is-zero}
+use Rattle.claims.proofs.OneSegment as segment
 
 -- ---- Ticket 1
 
@@ -63,6 +64,34 @@ refusals = record {
   none-is-0 = no-number-is-zero;
 }
 
+-- ---- Ticket 2
+
+accepted : OneSegmentAccepted
+accepted = record {
+  bare-read = segment.bare-read;
+  relayed-read = segment.relayed-read;
+  bare-written = segment.bare-written;
+  relayed-written = segment.relayed-written;
+}
+
+uplink : UplinkKeepsItsMinimum
+uplink = record { read = segment.uplink-read; written = segment.uplink-written }
+
+lost : LoseThisCase
+lost = record {
+  rule = segment.only-the-rule;
+  value = segment.value-lost;
+  read-as-before = segment.read-as-before;
+  read-now = segment.read-now;
+  count-stays = segment.count-stays;
+  spares-stay = segment.spares-stay;
+  taken = segment.taken-before;
+  written-as-before = segment.written-as-before;
+  written-now = segment.written-now;
+}
+
+-- ---- all of them
+
 pub requests : Requests
 requests = record {
   ticket-1 = record {
@@ -73,4 +102,5 @@ requests = record {
     round-trip = round-trip;
     refusals = refusals;
   };
+  ticket-2 = record { accepted = accepted; uplink = uplink; refusals = lost };
 }

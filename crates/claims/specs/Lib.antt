@@ -1,5 +1,6 @@
 pub mod Numbers
 pub mod Twelve
 pub mod Printed
+pub mod OneSegment
 pub mod Demands
 pub mod Requests

@@ -10,6 +10,7 @@ use Rattle.frames.specs.Writing.{Writes}
 use Rattle.frames.specs.Claims as frames
 use Rattle.claims.specs.Demands.{AllowsOne}
 use Rattle.claims.specs.Numbers.{NumbersDiffer, NoNumberIsZero}
+use Rattle.claims.specs.OneSegment as segment
 
 -- ---- Ticket 1: frame the communications channel
 
@@ -80,7 +81,42 @@ pub record Ticket1 : Type 0 where
   pub round-trip : TheirOwnRoundTrip
   pub refusals : FrameRefusals
 
+-- ---- Ticket 2: one-segment ELM from the aircraft
+
+-- "A sensor sends downlink ELMs of 120 bits and we refuse them. The figure ends its first text at 120; the two-segment minimum stands among the
+-- ground-to-air blocks. For type 42, Length 0 is one segment and accepted, bare or relayed, read or written." The rule is the row of type 42 in
+-- fields/specs/Table.antt, which asks nothing of its Length. That what is written is read again is demand 2, which speaks of these fields too
+pub record OneSegmentAccepted : Type 0 where
+  pub bare-read : segment.BareRead
+  pub relayed-read : segment.RelayedRead
+  pub bare-written : segment.BareWritten
+  pub relayed-written : segment.RelayedWritten
+
+-- "Type 22 keeps its minimum."
+pub record UplinkKeepsItsMinimum : Type 0 where
+  pub read : segment.UplinkRead
+  pub written : segment.UplinkWritten
+
+-- "Refusals: 28 and 30 lose this case." Exactly this: 28 in reading (value), 30 in writing (taken), and with them the answers (read, written). Every
+-- other rule of the table stays (rule); another count is still 26, a spare bit 27
+pub record LoseThisCase : Type 0 where
+  pub rule : segment.OnlyTheRule
+  pub value : segment.ValueLost
+  pub read-as-before : segment.ReadAsBefore
+  pub read-now : segment.ReadNow
+  pub count-stays : segment.CountStays
+  pub spares-stay : segment.SparesStay
+  pub taken : segment.TakenBefore
+  pub written-as-before : segment.WrittenAsBefore
+  pub written-now : segment.WrittenNow
+
+pub record Ticket2 : Type 0 where
+  pub accepted : OneSegmentAccepted
+  pub uplink : UplinkKeepsItsMinimum
+  pub refusals : LoseThisCase
+
 -- ---- all of them
 
 pub record Requests : Type 0 where
   pub ticket-1 : Ticket1
+  pub ticket-2 : Ticket2

@@ -23,13 +23,13 @@ abbrev part : ℕ → ℕ → Part
 part r w = record { width = w; rule = r }
 
 -- a part of w bits: with any value; spare; "not in use: .. of 0"; "MSRC but 1"; "QUAL 5-7"; "DEL 6-7"; "advisory bits 9-11 of 111"
-abbrev any : ℕ → Part
+abbrev pub any : ℕ → Part
 any = part 0
 
-abbrev spare : ℕ → Part
+abbrev pub spare : ℕ → Part
 spare = part 1
 
-abbrev notZero : ℕ → Part
+abbrev pub notZero : ℕ → Part
 notZero = part 2
 
 abbrev one : ℕ → Part
@@ -60,11 +60,11 @@ pub record Known : Type 0 where
   pub parts : List Part
 
 -- no part is counted: the place behind the last of eleven parts, where every value counts as 0
-abbrev none : ℕ
+abbrev pub none : ℕ
 none = 11
 
 -- base + step * (more + the values of the parts first, second and third) bits; part 0 is the type code
-abbrev known : ℕ → Direction → ℕ → ℕ → ℕ → ℕ → ℕ → ℕ → List Part → Known
+abbrev pub known : ℕ → Direction → ℕ → ℕ → ℕ → ℕ → ℕ → ℕ → List Part → Known
 known c w b s m i j k ps =
     record { row = record { code = c; way = w; base = b; step = s; more = m; first = i; second = j; third = k }; parts = ps }
 
@@ -73,7 +73,7 @@ unfoldable pub table : List Known
 table =
     -- tactical: address 9-32, number 33-36, P 37, EXP 38-40, text 41-96; 96
     known 0x21 ToSensor 96 0 0 none none none (any 24 ∷ notZero 4 ∷ any 1 ∷ notZero 3 ∷ any 56 ∷ [])
-    -- ELM: the same to 40, spare 41-44, Length 45-48, text; 48+80(L+1)
+    -- ELM: the same to 40, spare 41-44, Length 45-48, text, of two segments at least; 48+80(L+1)
     ∷ known 0x22 ToSensor 48 80 1 6 none none (any 24 ∷ notZero 4 ∷ any 1 ∷ notZero 3 ∷ spare 4 ∷ notZero 4 ∷ [])
     -- request: to 40, MSRC 41-44, spare; 48
     ∷ known 0x23 ToSensor 48 0 0 none none none (any 24 ∷ notZero 4 ∷ any 1 ∷ notZero 3 ∷ one 4 ∷ spare 4 ∷ [])
@@ -100,8 +100,8 @@ table =
     ∷ known 0x32 FromSensor 40 0 0 none none none (any 24 ∷ notZero 4 ∷ any 1 ∷ spare 3 ∷ [])
     -- tactical: address 9-32, text; 88
     ∷ known 0x41 FromSensor 88 0 0 none none none (any 24 ∷ any 56 ∷ [])
-    -- ELM: address, spare 33-36, Length 37-40, text; 40+80(L+1)
-    ∷ known 0x42 FromSensor 40 80 1 3 none none (any 24 ∷ spare 4 ∷ notZero 4 ∷ [])
+    -- ELM: address, spare 33-36, Length 37-40, text, of one segment at least (document 02, Ticket 2); 40+80(L+1)
+    ∷ known 0x42 FromSensor 40 80 1 3 none none (any 24 ∷ spare 4 ∷ any 4 ∷ [])
     -- address, spare 33-34, UM; 40
     ∷ known 0x43 FromSensor 40 0 0 none none none (any 24 ∷ spare 2 ∷ any 6 ∷ [])
     -- address, CA 33-35, ACA 36-41, ECA 42-93, spare; 96
@@ -118,7 +118,7 @@ table =
 
 -- ---- the table, looked up
 
-abbrev rowsOf : List Known → List Row
+abbrev pub rowsOf : List Known → List Row
 rowsOf [] = []
 rowsOf (k ∷ ks) = k .row ∷ rowsOf ks
 
@@ -159,11 +159,11 @@ rulesOf (p ∷ ps) = p .rule ∷ rulesOf ps
 abbrev eleven : List Part → List Part
 eleven ps = take 11 (any 8 ∷ ps ++ replicate 10 (spare 0))
 
-abbrev partWidths : List Known → List (List ℕ)
+abbrev pub partWidths : List Known → List (List ℕ)
 partWidths [] = []
 partWidths (k ∷ ks) = widthsOf (eleven (k .parts)) ∷ partWidths ks
 
-abbrev partRules : List Known → List (List ℕ)
+abbrev pub partRules : List Known → List (List ℕ)
 partRules [] = []
 partRules (k ∷ ks) = rulesOf (eleven (k .parts)) ∷ partRules ks
 

@@ -1,0 +1,496 @@
+-- Document 02, Ticket 2: by the row of type 42, computed, and by the code that every other row has. Assumes nothing.
+use Prim.Native.Nat.{ℕ, zero, suc, _+_, _-_, _*_, _/_, _%_, _^_}
+use native.Mathlib.Nat.{add-zero, zero-add}
+use native.Mathlib.Omega.{arith}
+use mathlib.Core.Path.{_≡_, refl, sym, ap, _∙_}
+use mathlib.Core.Bool.{Bool, true, false, not, cond, _&&_, _||_}
+use mathlib.Core.List.{List, [], _∷_, map}
+use mathlib.Core.Logic.{_⊎_, inl, inr, ⊎-elim}
+use lib.Dec.{eqb, ltb}
+use lib.IntN.{ℤ}
+use lib.ListN.{length, getD, drop, length-drop}
+use borrow.Author.Tests.{eqb-true, eq-eqb, ne-eqb}
+use Rattle.bits.specs.Bits.{bitsOf, bits}
+use Rattle.rows.specs.Rows.{row, firstOf}
+use Rattle.refusals.specs.declared.FieldRefusal.the-variants.{CountOutOfRange, WrongByteCount, BitAfterCount, UnknownType, TypeNotCarried, WrongDirection, NotRelayed, WrongBitCount, SpareBitSet, ValueNotInUse}
+use Rattle.fields.specs.declared.Direction.{Direction}
+use Rattle.fields.specs.declared.Direction.the-variants.{ToSensor, FromSensor}
+use Rattle.fields.specs.declared.Field.{Field}
+use Rattle.fields.specs.declared.Field.the-variants.{ElmDownlink}
+use Rattle.fields.specs.declared.Field.the-variants as F
+use Rattle.fields.specs.declared.Record.{Record}
+use Rattle.fields.specs.declared.Record.the-variants.{Single, Relay}
+use Rattle.fields.specs.declared.Answer.{Answer}
+use Rattle.fields.specs.declared.Answer.the-variants.{Accepted, Refused}
+use Rattle.fields.specs.declared.Written.{Written}
+use Rattle.fields.specs.declared.Place.{Place}
+use Rattle.fields.specs.declared.Place.the-variants.{At, Nowhere}
+use Rattle.fields.specs.Table.{Known, table, rows, noRow, rowAt, widths, widthsAt, rules, rulesAt, rowsOf, partRules, noParts, placeFrom, placeOf, byPlace, valuesOf, hasFault, countIn, sizeIn}
+use Rattle.fields.specs.Lists.{anyUnused, listFits}
+use Rattle.fields.specs.Records.{fieldOf, fieldAt, numbersOf}
+use Rattle.fields.specs.Writing.{fieldIn, numbersIn, headBits, fitAll, textLengthBy, textLength, relaysAt, headFits, takesAt, takes, bitsIn, putIn, writtenOf, leftBy, leftOf}
+use Rattle.fields.specs.Reading.{fromSensor, sameWay, countOutOfRange, wrongByteCount, bitAfterCount, wrongBitCount, opens, startOf, recordIn, recordOf, answerOf, listedBy, listed, textIn, textPlace, textOf, typeOf, valuesAt, unknownType, typeNotCarried, wrongDirection, notRelayed, sizedBy, sized, spareBitSet, blockCount, blocksIn, valueNotInUse}
+use Rattle.fields.proofs.Rows.{found-code}
+use Rattle.claims.specs.OneSegment.{formerly, formerTable, formerRulesAt, formerSpareBitSet, formerValueNotInUse, formerAnswer, formerTakesAt, formerTakes, formerWritten, OnlyTheRule, zeroLength, oneSegmentAt, oneSegment, BareRead, RelayedRead, CountStays, SparesStay, UplinkRead, ValueLost, ReadAsBefore, ReadNow, zeroLengthIn, fits, BareWritten, RelayedWritten, UplinkWritten, TakenBefore, WrittenAsBefore, WrittenNow}
+use Rattle.claims.proofs.Printed.{no-bits, spare-1, spare-2, value-1, value-2, other-1, other-2}
+
+pub only-the-rule : OnlyTheRule
+unfolding table rows widths formerTable
+only-the-rule = (refl, refl)
+
+-- a test is not both
+differ : {X : Type 0} → false ≡ true → X
+differ e = absurd (let z : _≡_ {A = ℕ} 0 1 = cc in omega arith)
+
+-- ---- the other types
+
+-- a row with another code has the rules that it had
+same-rules : (ks : List Known) (i : ℕ) → eqb (getD (rowsOf ks) i noRow .code) 0x42 ≡ false → getD (partRules (map formerly ks)) i noParts ≡ getD (partRules ks) i noParts
+same-rules [] i e = refl
+same-rules (k ∷ ks) zero e = rw e refl
+same-rules (k ∷ ks) (suc i) e = same-rules ks i e
+
+-- what is said of a type by its rules is what was said
+same-at : {X : Type 0} (x : X) (f : ℕ → List ℕ → X) (c : ℕ) → eqb c 0x42 ≡ false
+    → byPlace x (λ i. f i (formerRulesAt i)) (placeOf c) ≡ byPlace x (λ i. f i (rulesAt i)) (placeOf c)
+unfolding formerRulesAt formerTable rulesAt rules rowAt rows
+same-at x f c e = go (placeOf c) refl
+  where
+    go : (p : Place) → placeOf c ≡ p → byPlace x (λ i. f i (formerRulesAt i)) p ≡ byPlace x (λ i. f i (rulesAt i)) p
+    go Nowhere q = refl
+    go (At i) q = ap (f i) (same-rules table i (ap (λ (m : ℕ). eqb m 0x42) (found-code c i q) ∙ e))
+
+-- ---- type 42
+
+-- all that is said of a field of a type, by its code c
+record Told : Type 0 where
+  unknown : Bool
+  not-carried : Bool
+  other-way : Bool
+  not-relayed : Bool
+  other-count : Bool
+  spare-set : Bool
+  unused : Bool
+  spare-was-set : Bool
+  was-unused : Bool
+  means : Field
+
+abbrev told : List ℕ → ℕ → ℕ → Direction → ℕ → Told
+told s n a w c = record {
+  unknown = unknownType c;
+  not-carried = typeNotCarried c;
+  other-way = wrongDirection c w;
+  not-relayed = notRelayed c a;
+  other-count = byPlace false (λ i. not (sized s n a i)) (placeOf c);
+  spare-set = byPlace false (λ i. hasFault 1 (rulesAt i) (valuesAt s a i)) (placeOf c);
+  unused = byPlace false (λ i. hasFault 2 (rulesAt i) (valuesAt s a i) || anyUnused (blocksIn s a i)) (placeOf c);
+  spare-was-set = byPlace false (λ i. hasFault 1 (formerRulesAt i) (valuesAt s a i)) (placeOf c);
+  was-unused = byPlace false (λ i. hasFault 2 (formerRulesAt i) (valuesAt s a i) || anyUnused (blocksIn s a i)) (placeOf c);
+  means = byPlace (fieldOf 0 (valuesAt s a 0)) (λ i. fieldOf i (valuesAt s a i)) (placeOf c);
+}
+
+or-false : (b : Bool) → (b || false) ≡ b
+or-false true = refl
+or-false false = refl
+
+and-false : (b : Bool) → (b && false) ≡ false
+and-false true = refl
+and-false false = refl
+
+-- bits 33-36, spare, and 37-40, Length, where the widths of the parts before them have them, and by the document's numbers
+abbrev spares : List ℕ → ℕ → ℕ
+spares s a = bitsOf s (a + 8 + 24) 4
+
+abbrev lengthIn : List ℕ → ℕ → ℕ
+lengthIn s a = bitsOf s (a + 8 + 24 + 4) 4
+
+spares-are : (s : List ℕ) (a : ℕ) → spares s a ≡ bits s (a + 33) (a + 36)
+spares-are s a =
+    let p : a + 8 + 24 ≡ a + 33 - 1 = omega arith in
+    let q : 4 ≡ a + 36 + 1 - (a + 33) = omega arith in
+    λ i. bitsOf s (p i) (q i)
+
+length-is : (s : List ℕ) (a : ℕ) → lengthIn s a ≡ bits s (a + 37) (a + 40)
+length-is s a =
+    let p : a + 8 + 24 + 4 ≡ a + 37 - 1 = omega arith in
+    let q : 4 ≡ a + 40 + 1 - (a + 37) = omega arith in
+    λ i. bitsOf s (p i) (q i)
+
+abbrev elm : List ℕ → ℕ → ℕ → Direction → Told
+elm s n a w = record {
+  unknown = false;
+  not-carried = false;
+  other-way = not (fromSensor w);
+  not-relayed = false;
+  other-count = not (eqb n (a + (40 + 80 * (1 + lengthIn s a))));
+  spare-set = not (eqb (spares s a) 0);
+  unused = false;
+  spare-was-set = not (eqb (spares s a) 0);
+  was-unused = eqb (lengthIn s a) 0;
+  means = ElmDownlink (bitsOf s (a + 8) 24) (lengthIn s a);
+}
+
+of-42 : (s : List ℕ) (n a : ℕ) (w : Direction) → told s n a w 0x42 ≡ elm s n a w
+unfolding unknownType typeNotCarried wrongDirection sameWay notRelayed sizedBy table rows rowAt placeFrom widths widthsAt rules rulesAt formerTable formerRulesAt valuesOf hasFault countIn sizeIn blockCount anyUnused fieldAt
+of-42 s n a w = simp (add-zero, and-false, or-false, no-bits, spare-1, spare-2, value-1, value-2)
+
+-- told of a field whose type is 42
+told-42 : (s : List ℕ) (n a : ℕ) (w : Direction) → eqb (typeOf s a) 0x42 ≡ true → told s n a w (typeOf s a) ≡ elm s n a w
+told-42 s n a w e = ap (told s n a w) (eqb-true (typeOf s a) 0x42 e) ∙ of-42 s n a w
+
+pub value-lost : ValueLost
+unfolding formerSpareBitSet formerValueNotInUse spareBitSet valueNotInUse zeroLength
+value-lost s a = go (eqb (typeOf s a) 0x42) refl
+  where
+    go : (b : Bool) → eqb (typeOf s a) 0x42 ≡ b
+        → (formerSpareBitSet s a ≡ spareBitSet s a) × (formerValueNotInUse s a ≡ (valueNotInUse s a || (b && eqb (bits s (a + 37) (a + 40)) 0)))
+    go false e = (
+      same-at false (λ i rs. hasFault 1 rs (valuesAt s a i)) (typeOf s a) e,
+      same-at false (λ i rs. hasFault 2 rs (valuesAt s a i) || anyUnused (blocksIn s a i)) (typeOf s a) e ∙ sym (or-false (valueNotInUse s a)),
+    )
+    go true e =
+        let k = told-42 s 0 a ToSensor e in
+        let unused : valueNotInUse s a ≡ false = ap (λ (x : Told). x .unused) k in (
+          ap (λ (x : Told). x .spare-was-set) k ∙ sym (ap (λ (x : Told). x .spare-set) k),
+          rw unused (ap (λ (x : Told). x .was-unused) k ∙ ap (λ (m : ℕ). eqb m 0) (length-is s a)),
+        )
+
+-- ---- the reader
+
+-- the rows of a field of type 42, by their tests; the last test is what is said of its values
+abbrev answering : Bool → Bool → Bool → Bool → Bool → Bool → Bool → Answer → Answer
+answering range bytes after from fits spare unused x =
+    firstOf
+    (row range (Refused CountOutOfRange)
+    ∷ row bytes (Refused WrongByteCount)
+    ∷ row after (Refused BitAfterCount)
+    ∷ row false (Refused UnknownType)
+    ∷ row false (Refused TypeNotCarried)
+    ∷ row (not from) (Refused WrongDirection)
+    ∷ row false (Refused NotRelayed)
+    ∷ row (not fits) (Refused WrongBitCount)
+    ∷ row (not spare) (Refused SpareBitSet)
+    ∷ row unused (Refused ValueNotInUse)
+    ∷ [])
+    x
+
+-- with Length 0: the last row held, and holds no more
+core : (range bytes after from fits spare : Bool) (x : Answer) → (fits ≡ true → (range ≡ false) × (after ≡ false))
+    → ((fits && (not bytes && (from && spare))) ≡ false → answering range bytes after from fits spare false x ≡ answering range bytes after from fits spare true x)
+    × ((fits && (not bytes && (from && spare))) ≡ true
+    → (answering range bytes after from fits spare true x ≡ Refused ValueNotInUse) × (answering range bytes after from fits spare false x ≡ x))
+core range bytes after from false spare x h = (λ e. refl, λ e. differ e)
+core range bytes after from true spare x h = rw (h refl .0, h refl .1) (inner bytes from spare)
+  where
+    inner : (bytes from spare : Bool) → ((not bytes && (from && spare)) ≡ false → answering false bytes false from true spare false x ≡ answering false bytes false from true spare true x)
+        × ((not bytes && (from && spare)) ≡ true
+        → (answering false bytes false from true spare true x ≡ Refused ValueNotInUse) × (answering false bytes false from true spare false x ≡ x))
+    inner true from spare = (λ e. refl, λ e. differ e)
+    inner false false spare = (λ e. refl, λ e. differ e)
+    inner false true false = (λ e. refl, λ e. differ e)
+    inner false true true = (λ e. differ (sym e), λ e. (refl, refl))
+
+-- a field of type 42 with Length 0, by its rows
+both : (a b : Bool) → (a && b) ≡ true → (a ≡ true) × (b ≡ true)
+both true true e = (refl, refl)
+both true false e = differ e
+both false b e = differ e
+
+-- the rows, by what is told of a field
+abbrev telling : List ℕ → ℕ → (Told → Bool) → (Told → Bool) → Told → Answer → Answer
+telling s n spare unused t x =
+    firstOf
+    (row (countOutOfRange n) (Refused CountOutOfRange)
+    ∷ row (wrongByteCount s n) (Refused WrongByteCount)
+    ∷ row (bitAfterCount s n) (Refused BitAfterCount)
+    ∷ row (t .unknown) (Refused UnknownType)
+    ∷ row (t .not-carried) (Refused TypeNotCarried)
+    ∷ row (t .other-way) (Refused WrongDirection)
+    ∷ row (t .not-relayed) (Refused NotRelayed)
+    ∷ row (t .other-count) (Refused WrongBitCount)
+    ∷ row (spare t) (Refused SpareBitSet)
+    ∷ row (unused t) (Refused ValueNotInUse)
+    ∷ [])
+    x
+
+now-told : (s : List ℕ) (n : ℕ) (w : Direction)
+    → answerOf s n w ≡ telling s n (λ t. t .spare-set) (λ t. t .unused) (told s n (startOf s n w) w (typeOf s (startOf s n w))) (Accepted (recordOf s n w))
+unfolding answerOf wrongBitCount spareBitSet valueNotInUse
+now-told s n w = refl
+
+was-told : (s : List ℕ) (n : ℕ) (w : Direction)
+    → formerAnswer s n w ≡ telling s n (λ t. t .spare-was-set) (λ t. t .was-unused) (told s n (startOf s n w) w (typeOf s (startOf s n w))) (Accepted (recordOf s n w))
+unfolding formerAnswer wrongBitCount formerSpareBitSet formerValueNotInUse
+was-told s n w = refl
+
+abbrev answered : List ℕ → ℕ → ℕ → Direction → Bool → Answer → Answer
+answered s n a w unused x =
+    answering (countOutOfRange n) (wrongByteCount s n) (bitAfterCount s n) (fromSensor w) (eqb n (a + 120)) (eqb (bits s (a + 33) (a + 36)) 0) unused x
+
+with-0 : (s : List ℕ) (n : ℕ) (w : Direction) → zeroLength s (startOf s n w) ≡ true
+    → (answerOf s n w ≡ answered s n (startOf s n w) w false (Accepted (recordOf s n w)))
+    × (formerAnswer s n w ≡ answered s n (startOf s n w) w true (Accepted (recordOf s n w)))
+unfolding zeroLength
+with-0 s n w z =
+    let a = startOf s n w in
+    let x = Accepted (recordOf s n w) in
+    let k = both (eqb (typeOf s a) 0x42) (eqb (bits s (a + 37) (a + 40)) 0) z in
+    let nil : lengthIn s a ≡ 0 = length-is s a ∙ eqb-true _ 0 (k .1) in
+    let t = told-42 s n a w (k .0) in
+    let spare = spares-are s a in (
+      now-told s n w ∙ ap (λ (y : Told). telling s n (λ t. t .spare-set) (λ t. t .unused) y x) t
+          ∙ (λ i. answering (countOutOfRange n) (wrongByteCount s n) (bitAfterCount s n) (fromSensor w) (eqb n (a + (40 + 80 * (1 + nil i)))) (eqb (spare i) 0) false x),
+      was-told s n w ∙ ap (λ (y : Told). telling s n (λ t. t .spare-was-set) (λ t. t .was-unused) y x) t
+          ∙ (λ i. answering (countOutOfRange n) (wrongByteCount s n) (bitAfterCount s n) (fromSensor w) (eqb n (a + (40 + 80 * (1 + nil i)))) (eqb (spare i) 0) (eqb (nil i) 0) x),
+    )
+
+-- 120 bits, or 136, are neither too few nor too many, and fill their bytes
+counted : (s : List ℕ) (n : ℕ) (w : Direction) → eqb n (startOf s n w + 120) ≡ true → (countOutOfRange n ≡ false) × (bitAfterCount s n ≡ false)
+unfolding countOutOfRange bitAfterCount
+counted s n w e = go (opens s n w) (eqb-true n _ e)
+  where
+    go : (b : Bool) → n ≡ cond b 16 0 + 120 → (countOutOfRange n ≡ false) × (bitAfterCount s n ≡ false)
+    go true q = rw q (refl, rw (no-bits s 136) refl)
+    go false q = rw q (refl, rw (no-bits s 120) refl)
+
+-- the rest of the case, where type and Length are 42 and 0
+abbrev otherwise : List ℕ → ℕ → ℕ → Direction → Bool
+otherwise s n a w = eqb n (a + 120) && (not (wrongByteCount s n) && (fromSensor w && eqb (bits s (a + 33) (a + 36)) 0))
+
+-- the answers, by whether a field is the case
+abbrev Differ : Bool → List ℕ → ℕ → Direction → Type 0
+Differ b s n w =
+    (b ≡ false → answerOf s n w ≡ formerAnswer s n w)
+    × (b ≡ true → (formerAnswer s n w ≡ Refused ValueNotInUse) × (answerOf s n w ≡ Accepted (recordOf s n w)))
+
+-- type and Length are not: no row moved
+reads-same : (s : List ℕ) (n : ℕ) (w : Direction) → zeroLength s (startOf s n w) ≡ false → answerOf s n w ≡ formerAnswer s n w
+unfolding answerOf formerAnswer
+reads-same s n w e =
+    let a = startOf s n w in
+    let v = value-lost s a in
+    let u : formerValueNotInUse s a ≡ valueNotInUse s a = v .1 ∙ ap (λ (b : Bool). valueNotInUse s a || b) e ∙ or-false (valueNotInUse s a) in
+    rw (v .0, u) refl
+
+-- they are: the last row did
+reads-other : (s : List ℕ) (n : ℕ) (w : Direction) → zeroLength s (startOf s n w) ≡ true → Differ (otherwise s n (startOf s n w) w) s n w
+reads-other s n w e =
+    let a = startOf s n w in
+    let k = with-0 s n w e in
+    rw (k .0, k .1)
+    (core (countOutOfRange n) (wrongByteCount s n) (bitAfterCount s n) (fromSensor w) (eqb n (a + 120)) (eqb (bits s (a + 33) (a + 36)) 0)
+    (Accepted (recordOf s n w)) (counted s n w))
+
+reads : (s : List ℕ) (n : ℕ) (w : Direction) → Differ (oneSegment s n w) s n w
+unfolding oneSegmentAt
+reads s n w = go (zeroLength s (startOf s n w)) refl
+  where
+    go : (z : Bool) → zeroLength s (startOf s n w) ≡ z → Differ (z && otherwise s n (startOf s n w) w) s n w
+    go false e = (λ q. reads-same s n w e, λ q. differ q)
+    go true e = reads-other s n w e
+
+pub read-as-before : ReadAsBefore
+read-as-before s n w = reads s n w .0
+
+pub read-now : ReadNow
+read-now s n w = reads s n w .1
+
+-- ---- as it is read
+
+pub count-stays : CountStays
+unfolding fromSensor
+count-stays s n none z ne = with-0 s n FromSensor z .0 ∙ rw (none .0, none .1 .0, none .1 .1 .0, ne-eqb n (startOf s n FromSensor + 120) ne) refl
+
+pub spares-stay : SparesStay
+unfolding fromSensor
+spares-stay s n a is bytes z fits ne =
+    let here : eqb n (startOf s n FromSensor + 120) ≡ true = eq-eqb n _ (fits ∙ ap (λ (m : ℕ). m + 120) is) in
+    let k = counted s n FromSensor here in
+    with-0 s n FromSensor (rw (← is) z) .0 ∙ rw (k .0, bytes, k .1, here, ← is, ne-eqb (bits s (a + 33) (a + 36)) 0 ne) refl
+
+-- a field of type 42 with Length 0 that begins behind the first a bits is the case
+is-one : (s : List ℕ) (n a : ℕ) → startOf s n FromSensor ≡ a → n ≡ a + 120 → wrongByteCount s n ≡ false
+    → typeOf s a ≡ 0x42 → bits s (a + 33) (a + 36) ≡ 0 → bits s (a + 37) (a + 40) ≡ 0 → oneSegment s n FromSensor ≡ true
+unfolding oneSegmentAt zeroLength fromSensor
+is-one s n a at count bytes type spare nil = rw (at, type, nil, eq-eqb n (a + 120) count, bytes, spare) refl
+
+-- its record and the place of its text
+its-record : (s : List ℕ) (a : ℕ) → typeOf s a ≡ 0x42 → recordIn s a ≡ ElmDownlink (bitsOf s (a + 8) 24) (bits s (a + 37) (a + 40))
+its-record s a e = ap (λ (x : Told). x .means) (told-42 s 0 a ToSensor (eq-eqb _ _ e)) ∙ ap (ElmDownlink (bitsOf s (a + 8) 24)) (length-is s a)
+
+its-text : (s : List ℕ) (a : ℕ) → typeOf s a ≡ 0x42 → textIn s a ≡ (a + 40) / 8
+unfolding textIn table rows rowAt placeFrom
+its-text s a e = ap (λ (c : ℕ). byPlace (length s) (λ i. cond (eqb (rowAt i .step) 80) ((a + rowAt i .base) / 8) (length s)) (placeOf c)) e
+
+pub bare-read : BareRead
+unfolding opens wrongByteCount textOf
+bare-read s long type spare nil =
+    let shut : opens s 120 FromSensor ≡ false = rw type refl in
+    let start : startOf s 120 FromSensor ≡ 0 = ap (λ (b : Bool). cond b 16 0) shut in
+    let one = is-one s 120 0 start refl (rw long refl) type spare nil in
+    let means : recordOf s 120 FromSensor ≡ Single (ElmDownlink (bits s 9 32) 0) = rw shut (ap Single (its-record s 0 type ∙ ap (ElmDownlink (bits s 9 32)) nil)) in
+    let answer = read-now s 120 FromSensor one .1 ∙ ap Accepted means in (
+      answer,
+      ap (λ (x : Answer). drop (textPlace s x) s) answer ∙ ap (λ (k : ℕ). drop k s) (its-text s 0 type),
+      omega (arith, long, length-drop 5 s),
+    )
+
+pub relayed-read : RelayedRead
+unfolding opens fromSensor wrongByteCount textOf
+relayed-read s long type inner spare nil =
+    let opened : opens s 136 FromSensor ≡ true = rw type refl in
+    let start : startOf s 136 FromSensor ≡ 16 = ap (λ (b : Bool). cond b 16 0) opened in
+    let one = is-one s 136 16 start refl (rw long refl) inner spare nil in
+    let means : recordOf s 136 FromSensor ≡ Relay (bits s 9 16) (ElmDownlink (bits s 25 48) 0) = rw opened (ap (Relay (bits s 9 16)) (its-record s 16 inner ∙ ap (ElmDownlink (bits s 25 48)) nil)) in
+    let answer = read-now s 136 FromSensor one .1 ∙ ap Accepted means in (
+      answer,
+      ap (λ (x : Answer). drop (textPlace s x) s) answer ∙ ap (λ (k : ℕ). drop k s) (its-text s 16 inner),
+      omega (arith, long, length-drop 7 s),
+    )
+
+-- ---- type 22
+
+or-true : (b : Bool) → (b || true) ≡ true
+or-true true = refl
+or-true false = refl
+
+-- what is told of 128 bits of type 22 with Length 0
+uplink-told : (s : List ℕ) → bits s 41 44 ≡ 0 → bits s 45 48 ≡ 0
+    → (told s 128 0 ToSensor 0x22 .other-way ≡ false) × (told s 128 0 ToSensor 0x22 .other-count ≡ false)
+    × (told s 128 0 ToSensor 0x22 .spare-set ≡ false)
+    × (told s 128 0 ToSensor 0x22 .unused ≡ true)
+unfolding wrongDirection sameWay fromSensor sizedBy table rows rowAt placeFrom widths widthsAt rules rulesAt valuesOf hasFault countIn sizeIn blockCount anyUnused
+uplink-told s spare nil = (
+  refl,
+  rw nil refl,
+  rw (spare, nil) (simp (no-bits, value-1)),
+  rw (spare, nil) (simp (value-2, or-true)),
+)
+
+pub uplink-read : UplinkRead
+unfolding opens wrongByteCount countOutOfRange bitAfterCount unknownType typeNotCarried notRelayed table rows placeFrom
+uplink-read s long type spare nil =
+    let shut : opens s 128 ToSensor ≡ false = rw type refl in
+    let k = uplink-told s spare nil in
+    now-told s 128 ToSensor
+    ∙ rw (shut, type, long, no-bits s 128, k .0, k .1, k .2, k .3) refl
+
+-- ---- the writer
+
+-- a record is of type 42, or of another
+of-field : (f : Field) → (eqb (getD (numbersOf f) 0 0) 0x42 ≡ false) ⊎ ((a : ℕ) × (c : ℕ) × (f ≡ ElmDownlink a c))
+of-field (F.TacticalUplink a b c d e) = inl refl
+of-field (F.ElmUplink a b c d f) = inl refl
+of-field (F.DownlinkRequest a b c d e) = inl refl
+of-field (F.IdRequest a b) = inl refl
+of-field (F.CapabilityRequest a b) = inl refl
+of-field (F.Cancellation a b c d) = inl refl
+of-field (F.Test a) = inl refl
+of-field (F.AltimeterCorrection b) = inl refl
+of-field (F.AtcFailure a) = inl refl
+of-field (F.SensorFailure a c) = inl refl
+of-field (F.DabsControlState a b c) = inl refl
+of-field (F.AtcrbsControlState a b) = inl refl
+of-field (F.RejectionNotice a b c) = inl refl
+of-field (F.DeliveryNotice a b c) = inl refl
+of-field (F.TacticalDownlink a b) = inl refl
+of-field (F.ElmDownlink a c) = inr (a, c, refl)
+of-field (F.Utility a c) = inl refl
+of-field (F.Capability a b c d) = inl refl
+of-field (F.IdCode a c) = inl refl
+of-field (F.TestResponse a) = inl refl
+of-field (F.ControllerAlert a b c d e f g h i j) = inl refl
+
+and-true : (b : Bool) → (b && true) ≡ b
+and-true true = refl
+and-true false = refl
+
+last : (a b c d : Bool) → (a && (b && (c && d))) ≡ ((a && (b && d)) && c)
+last true true true d = sym (and-true d)
+last true true false d = sym (and-false d)
+last true false c d = refl
+last false b c d = refl
+
+-- of type 42: its Length, c, was the difference
+taken-elm : (r : Record) (l : List ℤ) (t : List ℕ) (a c : ℕ) → fieldIn r ≡ ElmDownlink a c → formerTakes r l t ≡ (takes r l t && not (eqb c 0))
+unfolding formerTakes takes formerTakesAt takesAt table rows rowAt placeFrom widths widthsAt rules rulesAt formerTable formerRulesAt hasFault
+taken-elm r l t a c e =
+    let vs = numbersOf (ElmDownlink a c) in
+    rw e
+    (simp (value-2, or-false)
+    (last (headFits 15 r) (fitAll (widthsAt 15) vs) (not (eqb c 0)) (listFits (rowAt 15 .step) (listed 15 vs) l && eqb (length t) (textLength 15 vs))))
+
+pub taken-before : TakenBefore
+unfolding zeroLengthIn formerTakes takes formerTakesAt takesAt
+taken-before r l t = ⊎-elim other elm-taken (of-field (fieldIn r))
+  where
+    other : eqb (getD (numbersIn r) 0 0) 0x42 ≡ false → formerTakes r l t ≡ (takes r l t && not (zeroLengthIn r))
+    other e =
+        same-at false
+        (λ i rs.
+        headFits i r
+        && (fitAll (widthsAt i) (numbersIn r)
+        && (not (hasFault 2 rs (numbersIn r))
+        && (listFits (rowAt i .step) (listed i (numbersIn r)) l && eqb (length t) (textLength i (numbersIn r))))))
+        (getD (numbersIn r) 0 0)
+        e
+        ∙ rw e (sym (and-true (takes r l t)))
+
+    elm-taken : (a : ℕ) × (c : ℕ) × (fieldIn r ≡ ElmDownlink a c) → formerTakes r l t ≡ (takes r l t && not (zeroLengthIn r))
+    elm-taken k =
+        taken-elm r l t (k .0) (k .1) (k .2)
+        ∙ ap (λ (f : Field). takes r l t && not (eqb (getD (numbersOf f) 0 0) 0x42 && eqb (getD (numbersOf f) 3 0) 0)) (sym (k .2))
+
+pub written-as-before : WrittenAsBefore
+unfolding writtenOf leftOf formerWritten
+written-as-before r l t s e =
+    let same : takes r l t ≡ formerTakes r l t = sym (taken-before r l t ∙ go (takes r l t) (zeroLengthIn r) e) in
+    let answer : writtenOf r l t s ≡ formerWritten r l t s = rw same refl in
+    (answer, ap (λ (w : Written). leftBy w s (putIn r l t s)) answer)
+  where
+    go : (b z : Bool) → (z && b) ≡ false → (b && not z) ≡ b
+    go true true q = differ (sym q)
+    go true false q = refl
+    go false z q = refl
+
+-- its bits
+elm-bits : (r : Record) (a : ℕ) → fieldIn r ≡ ElmDownlink a 0 → bitsIn r ≡ headBits r + 120
+unfolding bitsIn table rows rowAt placeFrom countIn sizeIn
+elm-bits r a e = rw e refl
+
+zero-bits : (r : Record) → zeroLengthIn r ≡ true → bitsIn r ≡ headBits r + 120
+unfolding zeroLengthIn
+zero-bits r z = ⊎-elim (λ e. differ (rw e at z)) is-elm (of-field (fieldIn r))
+  where
+    is-elm : (a : ℕ) × (c : ℕ) × (fieldIn r ≡ ElmDownlink a c) → bitsIn r ≡ headBits r + 120
+    is-elm k =
+        let c : k .1 ≡ 0 = eqb-true (k .1) 0 (rw (k .2) at z) in
+        elm-bits r (k .0) (k .2 ∙ ap (ElmDownlink (k .0)) c)
+
+pub written-now : WrittenNow
+unfolding writtenOf formerWritten
+written-now r l t s e =
+    let k = both (zeroLengthIn r) (takes r l t) e in
+    let before : formerTakes r l t ≡ false = taken-before r l t ∙ rw (k .0, k .1) refl in
+    (rw before refl, rw (k .1, ← zero-bits r (k .0)) refl)
+
+-- what the writer takes of it
+bare-takes : (address : ℕ) (l : List ℤ) (t : List ℕ) → takes (Single (ElmDownlink address 0)) l t ≡ fits address l t
+unfolding takes takesAt headFits fitAll table rows rowAt placeFrom widths widthsAt rules rulesAt hasFault countIn listedBy textLengthBy
+bare-takes address l t = simp (and-true)
+
+pub bare-written : BareWritten
+unfolding writtenOf
+bare-written address l t s = rw (bare-takes address l t, elm-bits (Single (ElmDownlink address 0)) address refl) refl
+
+relayed-takes : (sensor address : ℕ) (l : List ℤ) (t : List ℕ) → takes (Relay sensor (ElmDownlink address 0)) l t ≡ (ltb sensor (2 ^ 8) && fits address l t)
+unfolding takes takesAt headFits relaysAt fromSensor fitAll table rows rowAt placeFrom widths widthsAt rules rulesAt hasFault countIn listedBy textLengthBy
+relayed-takes sensor address l t = simp (and-true)
+
+pub relayed-written : RelayedWritten
+unfolding writtenOf
+relayed-written sensor address l t s = rw (relayed-takes sensor address l t, elm-bits (Relay sensor (ElmDownlink address 0)) address refl) refl
+
+pub uplink-written : UplinkWritten
+unfolding writtenOf takes takesAt headFits table rows placeFrom rules rulesAt hasFault
+uplink-written address number priority exp l t s = simp (value-2, or-true, and-false)
