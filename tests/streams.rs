@@ -1,8 +1,9 @@
-// Makes the sample streams of examples/streams, and what examples/frames.c must print of them, from document 02's Ticket 1 and document 01's
+// Makes the sample streams of examples/streams, and what examples/frames.c must print of them, from document 02's Tickets 1 and 2 and document 01's
 // "Link data fields": `streams NAME` writes the bytes, `streams NAME printed` what is printed. Bits are text here, the check sequence is a long
 // division, and the types that the samples have stand in a table of widths.
 //   story    frames both ways, with shared flags and idle flags; flags at the end
 //   damaged  these frames with a fault of each kind, begun and cut inside a frame, the last byte filled with zeros
+//   elms     ELMs of one segment and of two, from the sensor, relayed and to the sensor; some are refused
 use std::io::Write;
 
 const FLAG: &str = "01111110";
@@ -50,8 +51,9 @@ fn known(octets: [u8; 4]) -> String {
 // A type, the way it travels, its parts with their bits (and whether they are printed in hexadecimal), and the bits of a list entry.
 type Layout = (u8, &'static str, &'static [(&'static str, usize, bool)], usize);
 
-const LAYOUTS: [Layout; 6] = [
+const LAYOUTS: [Layout; 7] = [
     (0x21, TO, &[("address", 24, true), ("number", 4, false), ("priority", 1, false), ("exp", 3, false), ("text", 56, true)], 0),
+    (0x22, TO, &[("address", 24, true), ("number", 4, false), ("priority", 1, false), ("exp", 3, false), ("spare", 4, false), ("length", 4, false)], 0),
     (0x9B, TO, &[("spare", 4, false), ("n", 4, false)], 8),
     (0x9A, TO, &[("ip", 3, false), ("is", 3, false), ("iu", 2, false)], 24),
     (0x32, FROM, &[("address", 24, true), ("referenced", 4, false), ("di", 1, false), ("spare", 3, false)], 0),
@@ -83,7 +85,20 @@ fn entry(bits: &str) -> String {
     }
 }
 
+// An ELM has as many segments of 80 bits as its Length, the last part, says and one.
+fn elm_has_its_count(code: u8, bits: &str) -> bool {
+    let text = match code {
+        0x22 => 48,
+        0x42 => 40,
+        _ => return true,
+    };
+    bits.len() as u64 == text as u64 + 80 * (number(&bits[text - 4..text]) + 1)
+}
+
 fn items(code: u8, bits: &str) -> String {
+    if !elm_has_its_count(code, bits) {
+        return " field REFUSED 26: the field has not as many bits as its type".into();
+    }
     let (_, _, parts, step) = layout(code);
     let (mut out, mut at) = (String::new(), 8);
     for (name, width, hexadecimal) in *parts {
@@ -97,6 +112,9 @@ fn items(code: u8, bits: &str) -> String {
         }
     }
     let rest = &bits[at..];
+    if code == 0x22 && rest.len() == 80 {
+        return " field REFUSED 28: a value is not in use".into();
+    }
     if *step > 0 {
         out += " entries";
         (0..rest.len() / step).for_each(|i| out += &entry(&rest[i * step..][..*step]));
@@ -177,6 +195,19 @@ fn damaged() -> String {
     let cut = parts.concat();
     let filling = "0".repeat((8 - cut.len() % 8) % 8);
     cut + &filling
+}
+
+// ELMs with flags between them, of texts that make a whole number of bytes.
+fn elms() -> String {
+    let downlink = |spare: u64, length: u64, bytes: usize| field(0x42, &[0xA1B2C3, spare, length]) + &"01000001".repeat(bytes);
+    let uplink = |length: u64, bytes: usize| field(0x22, &[0xA1B2C3, 4, 1, 2, 0, length]) + &"01000001".repeat(bytes);
+    let relayed = format!("0000001100000111{}", downlink(0, 0, 10));
+    let from = [downlink(0, 0, 10), relayed, downlink(0, 1, 20), downlink(0, 0, 20), downlink(8, 0, 10)];
+    let to = [uplink(1, 20), uplink(0, 10)];
+    let frames = from.iter().map(|field| frame(FROM, 0x30, field)).chain(to.iter().map(|field| frame(TO, 0x31, field)));
+    let stream = frames.fold(FLAG.to_string(), |stream, frame| stream + &sent(&frame) + FLAG);
+    assert_eq!(stream.len() % 8, 0);
+    stream
 }
 
 // ---- what is printed
@@ -273,6 +304,7 @@ fn main() {
     let stream = match words[1].as_str() {
         "story" => story(),
         "damaged" => damaged(),
+        "elms" => elms(),
         other => panic!("no such sample: {other}"),
     };
     let bytes: Vec<u8> = match words.get(2).map(String::as_str) {

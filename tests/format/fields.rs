@@ -133,6 +133,15 @@ fn rule_of(name: &str) -> (&'static str, u32) {
     }
 }
 
+// What a cell says of a type: all that it says, or of "0 in 22, none in 42" the words before that type.
+fn of_type(cell: &str, code: u32) -> &str {
+    let by_type = |text| words(text).last().map_or(false, |last| last.len() == 2 && u32::from_str_radix(last, 16).is_ok()) && str::contains(text, " in ");
+    if !cell.split(", ").all(by_type) {
+        return cell;
+    }
+    cell.split(", ").find_map(|text| text.strip_suffix(&format!(" in {code:02X}"))).unwrap_or("nothing")
+}
+
 pub fn link_fields(page: &[Table], specs: &[File], header: &Numbers, found: &mut Findings) {
     let types = types(page);
     found.same("how many types", 22, "its tables of types", types.len());
@@ -169,7 +178,7 @@ pub fn link_fields(page: &[Table], specs: &[File], header: &Numbers, found: &mut
             let there: Vec<String> = known.parts.iter().map(|part| shown(&[part.1])).collect();
             found.same(&format!("{what}: its parts"), here, TYPES, there);
             for ((span, name), (rule, _)) in of.parts.iter().zip(&known.parts) {
-                let said = if name.is_empty() { "spare" } else { part(name).map_or("nothing", |row| parts.cell(row, "not in use")) };
+                let said = if name.is_empty() { "spare" } else { part(name).map_or("nothing", |row| of_type(parts.cell(row, "not in use"), of.code)) };
                 let there = if rule == "spare" { "spare" } else { rule_of(rule).0 };
                 found.same(&format!("{what}, bits {}: not in use", shown(&[*span])), said, TYPES, there);
             }
@@ -179,7 +188,7 @@ pub fn link_fields(page: &[Table], specs: &[File], header: &Numbers, found: &mut
             if let Some(row) = behind.rows.iter().find(|row| behind.cell(row, "behind the parts") == of.behind) {
                 let (step, some) = (known.size.step.to_string(), format!("{} to {}", sum(&least), sum(&widest)));
                 found.same(&format!("{what}: bits of each behind the parts"), behind.cell(row, "bits of each"), TYPES, &step);
-                found.same(&format!("{what}: how many behind the parts"), behind.cell(row, "how many"), TYPES, &some);
+                found.same(&format!("{what}: how many behind the parts"), of_type(behind.cell(row, "how many"), of.code), TYPES, &some);
             } else {
                 let none = if name == "Relay" { "a whole field" } else { "" };
                 found.same(&format!("{what}: behind the parts"), &of.behind[..], TYPES, none);
