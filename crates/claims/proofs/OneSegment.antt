@@ -34,15 +34,37 @@ use Rattle.fields.proofs.Rows.{found-code}
 use Rattle.claims.specs.OneSegment.{formerly, formerTable, formerRulesAt, formerSpareBitSet, formerValueNotInUse, formerAnswer, formerTakesAt, formerTakes, formerWritten, OnlyTheRule, zeroLength, oneSegmentAt, oneSegment, BareRead, RelayedRead, CountStays, SparesStay, UplinkRead, ValueLost, ReadAsBefore, ReadNow, zeroLengthIn, fits, BareWritten, RelayedWritten, UplinkWritten, TakenBefore, WrittenAsBefore, WrittenNow}
 use Rattle.claims.proofs.Printed.{no-bits, spare-1, spare-2, value-1, value-2, other-1, other-2}
 
-pub only-the-rule : OnlyTheRule
-unfolding table rows widths formerTable
-only-the-rule = (refl, refl)
+-- ---- tests
 
--- a test is not both
 differ : {X : Type 0} → false ≡ true → X
 differ e = absurd (let z : _≡_ {A = ℕ} 0 1 = cc in omega arith)
 
+both : (a b : Bool) → (a && b) ≡ true → (a ≡ true) × (b ≡ true)
+both true true e = (refl, refl)
+both true false e = differ e
+both false b e = differ e
+
+and-true : (b : Bool) → (b && true) ≡ b
+and-true true = refl
+and-true false = refl
+
+and-false : (b : Bool) → (b && false) ≡ false
+and-false true = refl
+and-false false = refl
+
+or-true : (b : Bool) → (b || true) ≡ true
+or-true true = refl
+or-true false = refl
+
+or-false : (b : Bool) → (b || false) ≡ b
+or-false true = refl
+or-false false = refl
+
 -- ---- the other types
+
+pub only-the-rule : OnlyTheRule
+unfolding table rows widths formerTable
+only-the-rule = (refl, refl)
 
 -- a row with another code has the rules that it had
 same-rules : (ks : List Known) (i : ℕ) → eqb (getD (rowsOf ks) i noRow .code) 0x42 ≡ false → getD (partRules (map formerly ks)) i noParts ≡ getD (partRules ks) i noParts
@@ -89,14 +111,6 @@ told s n a w c = record {
   means = byPlace (fieldOf 0 (valuesAt s a 0)) (λ i. fieldOf i (valuesAt s a i)) (placeOf c);
 }
 
-or-false : (b : Bool) → (b || false) ≡ b
-or-false true = refl
-or-false false = refl
-
-and-false : (b : Bool) → (b && false) ≡ false
-and-false true = refl
-and-false false = refl
-
 -- bits 33-36, spare, and 37-40, Length, where the widths of the parts before them have them, and by the document's numbers
 abbrev spares : List ℕ → ℕ → ℕ
 spares s a = bitsOf s (a + 8 + 24) 4
@@ -116,19 +130,24 @@ length-is s a =
     let q : 4 ≡ a + 40 + 1 - (a + 37) = omega arith in
     λ i. bitsOf s (p i) (q i)
 
-abbrev elm : List ℕ → ℕ → ℕ → Direction → Told
-elm s n a w = record {
+-- what is told of an ELM from the aircraft, by these tests: it comes from the sensor, its count fits, its spare bits are zero, its Length is 0
+abbrev elmBy : Bool → Bool → Bool → Bool → Field → Told
+elmBy from fits spare nil f = record {
   unknown = false;
   not-carried = false;
-  other-way = not (fromSensor w);
+  other-way = not from;
   not-relayed = false;
-  other-count = not (eqb n (a + (40 + 80 * (1 + lengthIn s a))));
-  spare-set = not (eqb (spares s a) 0);
+  other-count = not fits;
+  spare-set = not spare;
   unused = false;
-  spare-was-set = not (eqb (spares s a) 0);
-  was-unused = eqb (lengthIn s a) 0;
-  means = ElmDownlink (bitsOf s (a + 8) 24) (lengthIn s a);
+  spare-was-set = not spare;
+  was-unused = nil;
+  means = f;
 }
+
+abbrev elm : List ℕ → ℕ → ℕ → Direction → Told
+elm s n a w =
+    elmBy (fromSensor w) (eqb n (a + (40 + 80 * (1 + lengthIn s a)))) (eqb (spares s a) 0) (eqb (lengthIn s a) 0) (ElmDownlink (bitsOf s (a + 8) 24) (lengthIn s a))
 
 of-42 : (s : List ℕ) (n a : ℕ) (w : Direction) → told s n a w 0x42 ≡ elm s n a w
 unfolding unknownType typeNotCarried wrongDirection sameWay notRelayed sizedBy table rows rowAt placeFrom widths widthsAt rules rulesAt formerTable formerRulesAt valuesOf hasFault countIn sizeIn blockCount anyUnused fieldAt
@@ -157,92 +176,81 @@ value-lost s a = go (eqb (typeOf s a) 0x42) refl
 
 -- ---- the reader
 
--- the rows of a field of type 42, by their tests; the last test is what is said of its values
-abbrev answering : Bool → Bool → Bool → Bool → Bool → Bool → Bool → Answer → Answer
-answering range bytes after from fits spare unused x =
+-- the rows, by the tests of count and bytes and by what is told of the field: as they are, and as they were
+abbrev telling : Bool → Bool → Bool → Told → Bool → Bool → Answer → Answer
+telling range bytes after t spare unused x =
     firstOf
     (row range (Refused CountOutOfRange)
     ∷ row bytes (Refused WrongByteCount)
     ∷ row after (Refused BitAfterCount)
-    ∷ row false (Refused UnknownType)
-    ∷ row false (Refused TypeNotCarried)
-    ∷ row (not from) (Refused WrongDirection)
-    ∷ row false (Refused NotRelayed)
-    ∷ row (not fits) (Refused WrongBitCount)
-    ∷ row (not spare) (Refused SpareBitSet)
-    ∷ row unused (Refused ValueNotInUse)
-    ∷ [])
-    x
-
--- with Length 0: the last row held, and holds no more
-core : (range bytes after from fits spare : Bool) (x : Answer) → (fits ≡ true → (range ≡ false) × (after ≡ false))
-    → ((fits && (not bytes && (from && spare))) ≡ false → answering range bytes after from fits spare false x ≡ answering range bytes after from fits spare true x)
-    × ((fits && (not bytes && (from && spare))) ≡ true
-    → (answering range bytes after from fits spare true x ≡ Refused ValueNotInUse) × (answering range bytes after from fits spare false x ≡ x))
-core range bytes after from false spare x h = (λ e. refl, λ e. differ e)
-core range bytes after from true spare x h = rw (h refl .0, h refl .1) (inner bytes from spare)
-  where
-    inner : (bytes from spare : Bool) → ((not bytes && (from && spare)) ≡ false → answering false bytes false from true spare false x ≡ answering false bytes false from true spare true x)
-        × ((not bytes && (from && spare)) ≡ true
-        → (answering false bytes false from true spare true x ≡ Refused ValueNotInUse) × (answering false bytes false from true spare false x ≡ x))
-    inner true from spare = (λ e. refl, λ e. differ e)
-    inner false false spare = (λ e. refl, λ e. differ e)
-    inner false true false = (λ e. refl, λ e. differ e)
-    inner false true true = (λ e. differ (sym e), λ e. (refl, refl))
-
--- a field of type 42 with Length 0, by its rows
-both : (a b : Bool) → (a && b) ≡ true → (a ≡ true) × (b ≡ true)
-both true true e = (refl, refl)
-both true false e = differ e
-both false b e = differ e
-
--- the rows, by what is told of a field
-abbrev telling : List ℕ → ℕ → (Told → Bool) → (Told → Bool) → Told → Answer → Answer
-telling s n spare unused t x =
-    firstOf
-    (row (countOutOfRange n) (Refused CountOutOfRange)
-    ∷ row (wrongByteCount s n) (Refused WrongByteCount)
-    ∷ row (bitAfterCount s n) (Refused BitAfterCount)
     ∷ row (t .unknown) (Refused UnknownType)
     ∷ row (t .not-carried) (Refused TypeNotCarried)
     ∷ row (t .other-way) (Refused WrongDirection)
     ∷ row (t .not-relayed) (Refused NotRelayed)
     ∷ row (t .other-count) (Refused WrongBitCount)
-    ∷ row (spare t) (Refused SpareBitSet)
-    ∷ row (unused t) (Refused ValueNotInUse)
+    ∷ row spare (Refused SpareBitSet)
+    ∷ row unused (Refused ValueNotInUse)
     ∷ [])
     x
 
+abbrev now : Bool → Bool → Bool → Answer → Told → Answer
+now range bytes after x t = telling range bytes after t (t .spare-set) (t .unused) x
+
+abbrev was : Bool → Bool → Bool → Answer → Told → Answer
+was range bytes after x t = telling range bytes after t (t .spare-was-set) (t .was-unused) x
+
 now-told : (s : List ℕ) (n : ℕ) (w : Direction)
-    → answerOf s n w ≡ telling s n (λ t. t .spare-set) (λ t. t .unused) (told s n (startOf s n w) w (typeOf s (startOf s n w))) (Accepted (recordOf s n w))
+    → answerOf s n w
+    ≡ now (countOutOfRange n) (wrongByteCount s n) (bitAfterCount s n) (Accepted (recordOf s n w)) (told s n (startOf s n w) w (typeOf s (startOf s n w)))
 unfolding answerOf wrongBitCount spareBitSet valueNotInUse
 now-told s n w = refl
 
 was-told : (s : List ℕ) (n : ℕ) (w : Direction)
-    → formerAnswer s n w ≡ telling s n (λ t. t .spare-was-set) (λ t. t .was-unused) (told s n (startOf s n w) w (typeOf s (startOf s n w))) (Accepted (recordOf s n w))
+    → formerAnswer s n w
+    ≡ was (countOutOfRange n) (wrongByteCount s n) (bitAfterCount s n) (Accepted (recordOf s n w)) (told s n (startOf s n w) w (typeOf s (startOf s n w)))
 unfolding formerAnswer wrongBitCount formerSpareBitSet formerValueNotInUse
 was-told s n w = refl
 
-abbrev answered : List ℕ → ℕ → ℕ → Direction → Bool → Answer → Answer
-answered s n a w unused x =
-    answering (countOutOfRange n) (wrongByteCount s n) (bitAfterCount s n) (fromSensor w) (eqb n (a + 120)) (eqb (bits s (a + 33) (a + 36)) 0) unused x
+-- what is told of type 42 with Length 0
+abbrev zeroTold : List ℕ → ℕ → ℕ → Direction → Told
+zeroTold s n a w = elmBy (fromSensor w) (eqb n (a + 120)) (eqb (bits s (a + 33) (a + 36)) 0) true (ElmDownlink (bitsOf s (a + 8) 24) 0)
 
-with-0 : (s : List ℕ) (n : ℕ) (w : Direction) → zeroLength s (startOf s n w) ≡ true
-    → (answerOf s n w ≡ answered s n (startOf s n w) w false (Accepted (recordOf s n w)))
-    × (formerAnswer s n w ≡ answered s n (startOf s n w) w true (Accepted (recordOf s n w)))
+zero-told : (s : List ℕ) (n a : ℕ) (w : Direction) → zeroLength s a ≡ true → told s n a w (typeOf s a) ≡ zeroTold s n a w
 unfolding zeroLength
-with-0 s n w z =
-    let a = startOf s n w in
-    let x = Accepted (recordOf s n w) in
+zero-told s n a w z =
     let k = both (eqb (typeOf s a) 0x42) (eqb (bits s (a + 37) (a + 40)) 0) z in
     let nil : lengthIn s a ≡ 0 = length-is s a ∙ eqb-true _ 0 (k .1) in
-    let t = told-42 s n a w (k .0) in
-    let spare = spares-are s a in (
-      now-told s n w ∙ ap (λ (y : Told). telling s n (λ t. t .spare-set) (λ t. t .unused) y x) t
-          ∙ (λ i. answering (countOutOfRange n) (wrongByteCount s n) (bitAfterCount s n) (fromSensor w) (eqb n (a + (40 + 80 * (1 + nil i)))) (eqb (spare i) 0) false x),
-      was-told s n w ∙ ap (λ (y : Told). telling s n (λ t. t .spare-was-set) (λ t. t .was-unused) y x) t
-          ∙ (λ i. answering (countOutOfRange n) (wrongByteCount s n) (bitAfterCount s n) (fromSensor w) (eqb n (a + (40 + 80 * (1 + nil i)))) (eqb (spare i) 0) (eqb (nil i) 0) x),
+    let spare = spares-are s a in
+    told-42 s n a w (k .0)
+    ∙ (λ i. elmBy (fromSensor w) (eqb n (a + (40 + 80 * (1 + nil i)))) (eqb (spare i) 0) (eqb (nil i) 0) (ElmDownlink (bitsOf s (a + 8) 24) (nil i)))
+
+-- so the answers, by their rows
+with-0 : (s : List ℕ) (n : ℕ) (w : Direction) → zeroLength s (startOf s n w) ≡ true
+    → (formerAnswer s n w ≡ was (countOutOfRange n) (wrongByteCount s n) (bitAfterCount s n) (Accepted (recordOf s n w)) (zeroTold s n (startOf s n w) w))
+    × (answerOf s n w ≡ now (countOutOfRange n) (wrongByteCount s n) (bitAfterCount s n) (Accepted (recordOf s n w)) (zeroTold s n (startOf s n w) w))
+with-0 s n w z =
+    let t = zero-told s n (startOf s n w) w z in (
+      was-told s n w ∙ ap (was (countOutOfRange n) (wrongByteCount s n) (bitAfterCount s n) (Accepted (recordOf s n w))) t,
+      now-told s n w ∙ ap (now (countOutOfRange n) (wrongByteCount s n) (bitAfterCount s n) (Accepted (recordOf s n w))) t,
     )
+
+-- an answer as it was and as it is, by whether the field is the case
+abbrev Split : Bool → Answer → Answer → Answer → Type 0
+Split test before present x = (test ≡ false → present ≡ before) × (test ≡ true → (before ≡ Refused ValueNotInUse) × (present ≡ x))
+
+-- the last row held, and holds no more
+core : (bytes from spare : Bool) (f : Field) (x : Answer)
+    → Split (not bytes && (from && spare)) (was false bytes false x (elmBy from true spare true f)) (now false bytes false x (elmBy from true spare true f)) x
+core true from spare f x = (λ e. refl, λ e. differ e)
+core false false spare f x = (λ e. refl, λ e. differ e)
+core false true false f x = (λ e. refl, λ e. differ e)
+core false true true f x = (λ e. differ (sym e), λ e. (refl, refl))
+
+-- where the count does not fit, a row before it answers; where it fits, it is in range and fills its bytes
+whole : (range bytes after from fits spare : Bool) (f : Field) (x : Answer) → (fits ≡ true → (range ≡ false) × (after ≡ false))
+    → Split (fits && (not bytes && (from && spare))) (was range bytes after x (elmBy from fits spare true f)) (now range bytes after x (elmBy from fits spare true f)) x
+whole range bytes after from false spare f x h = (λ e. refl, λ e. differ e)
+whole range bytes after from true spare f x h = rw (h refl .0, h refl .1) (core bytes from spare f x)
 
 -- 120 bits, or 136, are neither too few nor too many, and fill their bytes
 counted : (s : List ℕ) (n : ℕ) (w : Direction) → eqb n (startOf s n w + 120) ≡ true → (countOutOfRange n ≡ false) × (bitAfterCount s n ≡ false)
@@ -252,16 +260,6 @@ counted s n w e = go (opens s n w) (eqb-true n _ e)
     go : (b : Bool) → n ≡ cond b 16 0 + 120 → (countOutOfRange n ≡ false) × (bitAfterCount s n ≡ false)
     go true q = rw q (refl, rw (no-bits s 136) refl)
     go false q = rw q (refl, rw (no-bits s 120) refl)
-
--- the rest of the case, where type and Length are 42 and 0
-abbrev otherwise : List ℕ → ℕ → ℕ → Direction → Bool
-otherwise s n a w = eqb n (a + 120) && (not (wrongByteCount s n) && (fromSensor w && eqb (bits s (a + 33) (a + 36)) 0))
-
--- the answers, by whether a field is the case
-abbrev Differ : Bool → List ℕ → ℕ → Direction → Type 0
-Differ b s n w =
-    (b ≡ false → answerOf s n w ≡ formerAnswer s n w)
-    × (b ≡ true → (formerAnswer s n w ≡ Refused ValueNotInUse) × (answerOf s n w ≡ Accepted (recordOf s n w)))
 
 -- type and Length are not: no row moved
 reads-same : (s : List ℕ) (n : ℕ) (w : Direction) → zeroLength s (startOf s n w) ≡ false → answerOf s n w ≡ formerAnswer s n w
@@ -273,21 +271,21 @@ reads-same s n w e =
     rw (v .0, u) refl
 
 -- they are: the last row did
-reads-other : (s : List ℕ) (n : ℕ) (w : Direction) → zeroLength s (startOf s n w) ≡ true → Differ (otherwise s n (startOf s n w) w) s n w
-reads-other s n w e =
-    let a = startOf s n w in
-    let k = with-0 s n w e in
-    rw (k .0, k .1)
-    (core (countOutOfRange n) (wrongByteCount s n) (bitAfterCount s n) (fromSensor w) (eqb n (a + 120)) (eqb (bits s (a + 33) (a + 36)) 0)
-    (Accepted (recordOf s n w)) (counted s n w))
-
-reads : (s : List ℕ) (n : ℕ) (w : Direction) → Differ (oneSegment s n w) s n w
+reads : (s : List ℕ) (n : ℕ) (w : Direction) → Split (oneSegment s n w) (formerAnswer s n w) (answerOf s n w) (Accepted (recordOf s n w))
 unfolding oneSegmentAt
-reads s n w = go (zeroLength s (startOf s n w)) refl
+reads s n w = go (zeroLength s a) refl
   where
-    go : (z : Bool) → zeroLength s (startOf s n w) ≡ z → Differ (z && otherwise s n (startOf s n w) w) s n w
+    a : ℕ
+    a = startOf s n w
+
+    go : (z : Bool) → zeroLength s a ≡ z
+        → Split (z && (eqb n (a + 120) && (not (wrongByteCount s n) && (fromSensor w && eqb (bits s (a + 33) (a + 36)) 0)))) (formerAnswer s n w) (answerOf s n w) (Accepted (recordOf s n w))
     go false e = (λ q. reads-same s n w e, λ q. differ q)
-    go true e = reads-other s n w e
+    go true e =
+        let k = with-0 s n w e in
+        rw (k .0, k .1)
+        (whole (countOutOfRange n) (wrongByteCount s n) (bitAfterCount s n) (fromSensor w) (eqb n (a + 120)) (eqb (bits s (a + 33) (a + 36)) 0)
+        (ElmDownlink (bitsOf s (a + 8) 24) 0) (Accepted (recordOf s n w)) (counted s n w))
 
 pub read-as-before : ReadAsBefore
 read-as-before s n w = reads s n w .0
@@ -299,14 +297,16 @@ read-now s n w = reads s n w .1
 
 pub count-stays : CountStays
 unfolding fromSensor
-count-stays s n none z ne = with-0 s n FromSensor z .0 ∙ rw (none .0, none .1 .0, none .1 .1 .0, ne-eqb n (startOf s n FromSensor + 120) ne) refl
+count-stays s n none z ne =
+    let a = startOf s n FromSensor in
+    with-0 s n FromSensor z .1 ∙ rw (none .0, none .1 .0, none .1 .1 .0, ne-eqb n (a + 120) ne) refl
 
 pub spares-stay : SparesStay
 unfolding fromSensor
 spares-stay s n a is bytes z fits ne =
     let here : eqb n (startOf s n FromSensor + 120) ≡ true = eq-eqb n _ (fits ∙ ap (λ (m : ℕ). m + 120) is) in
     let k = counted s n FromSensor here in
-    with-0 s n FromSensor (rw (← is) z) .0 ∙ rw (k .0, bytes, k .1, here, ← is, ne-eqb (bits s (a + 33) (a + 36)) 0 ne) refl
+    with-0 s n FromSensor (rw (← is) z) .1 ∙ rw (k .0, bytes, k .1, here, ← is, ne-eqb (bits s (a + 33) (a + 36)) 0 ne) refl
 
 -- a field of type 42 with Length 0 that begins behind the first a bits is the case
 is-one : (s : List ℕ) (n a : ℕ) → startOf s n FromSensor ≡ a → n ≡ a + 120 → wrongByteCount s n ≡ false
@@ -349,10 +349,6 @@ relayed-read s long type inner spare nil =
     )
 
 -- ---- type 22
-
-or-true : (b : Bool) → (b || true) ≡ true
-or-true true = refl
-or-true false = refl
 
 -- what is told of 128 bits of type 22 with Length 0
 uplink-told : (s : List ℕ) → bits s 41 44 ≡ 0 → bits s 45 48 ≡ 0
@@ -400,10 +396,6 @@ of-field (F.Capability a b c d) = inl refl
 of-field (F.IdCode a c) = inl refl
 of-field (F.TestResponse a) = inl refl
 of-field (F.ControllerAlert a b c d e f g h i j) = inl refl
-
-and-true : (b : Bool) → (b && true) ≡ b
-and-true true = refl
-and-true false = refl
 
 last : (a b c d : Bool) → (a && (b && (c && d))) ≡ ((a && (b && d)) && c)
 last true true true d = sym (and-true d)
