@@ -122,6 +122,7 @@ impl Case {
             Case::Field { bytes, count, from_sensor, ask, indices } => {
                 let read = field::read(&tables.fields, bytes, *count, *from_sensor != 0);
                 totals.field(&read);
+                totals.segments.field(bytes, *count, *from_sensor != 0, &read);
                 expect_field(&mut answer, bytes.len(), &read, *ask, indices);
             }
             Case::FieldWrite { bytes, kind, items, list, text } => {
@@ -261,6 +262,7 @@ fn expect_field_write(tables: &Tables, answer: &mut Answer, totals: &mut Totals,
     let mut now = bytes.to_vec();
     let (refusal, bits) = field::write(&tables.fields, &mut now, given);
     totals.field_write(refusal);
+    totals.segments.write(&tables.fields, bytes.len(), given, (refusal, bits));
     answer.u32("siamrung_field_write_refusal before", 0, refusal);
     answer.u64("siamrung_field_write", 0, 0, bits);
     answer.u32("siamrung_field_write_refusal after", 0, refusal);

@@ -1,5 +1,5 @@
 //! Chosen cases, each once: every number of sixteen bits as a run of one word; every layout and every type with all its values at their least
-//! and at their most, read and written; each refusal beside its nearest neighbour; a message and a relay cut to every count up to 200 bits.
+//! and at their most, read and written; each refusal beside its nearest neighbour; messages and relays cut to every count up to 200 bits.
 
 use crate::bits;
 use crate::case::{Case, Tables, Write};
@@ -126,7 +126,7 @@ fn runs() -> Vec<Named> {
 
 // ---- fields
 
-fn field_case(name: String, bytes: Vec<u8>, count: u64, from_sensor: bool) -> Named {
+pub fn field_case(name: String, bytes: Vec<u8>, count: u64, from_sensor: bool) -> Named {
     (name, Case::Field { bytes, count, from_sensor: u32::from(from_sensor), ask: true, indices: vec![LIST as u64] })
 }
 
@@ -169,7 +169,7 @@ fn wrongly_relayed(tables: &Tables, field: &Field) -> Named {
 }
 
 /// A writing into bytes that are all ones.
-fn written(room: usize, parts: &Parts) -> Case {
+pub fn written(room: usize, parts: &Parts) -> Case {
     let (items, list) = (item_bytes(&parts.items), parts.list_bytes());
     Case::FieldWrite { bytes: vec![0xFF; room], kind: parts.kind, items, list, text: parts.text.clone() }
 }
@@ -230,7 +230,7 @@ const NEIGHBOURS: &[Row] = &[
     ("C12", "21A1B2C35B00000000000000", 96, false),
 ];
 
-fn bytes_of(text: &str) -> Vec<u8> {
+pub fn bytes_of(text: &str) -> Vec<u8> {
     let mut bytes = Vec::new();
     for word in text.split_whitespace() {
         let (hex, times) = word.split_once('*').map_or((word, 1), |(hex, n)| (hex, n.parse().expect("a number")));
@@ -241,11 +241,15 @@ fn bytes_of(text: &str) -> Vec<u8> {
     bytes
 }
 
-/// The neighbours; and a tactical message and the relay of a notice with zeros behind, cut to every count from 0 to 200.
+/// Fields with zeros behind, and whether they come from the sensor: a tactical message, the relay of a notice, an ELM and its relay.
+const TO_CUT: &[(&str, bool)] =
+    &[("2100000011 00*20", false), ("03073100000010 00*18", true), ("4200000000 00*20", true), ("03074200000000 00*18", true)];
+
+/// The neighbours; and those fields cut to every count from 0 to 200.
 fn neighbours() -> Vec<Named> {
     let row = |&(name, text, count, from): &Row| field_case(name.to_string(), bytes_of(text), count, from);
     let mut cases: Vec<Named> = NEIGHBOURS.iter().map(row).collect();
-    for (text, from) in [("2100000011 00*20", false), ("03073100000010 00*18", true)] {
+    for &(text, from) in TO_CUT {
         for count in 0..=200 {
             let bytes = bytes_of(text)[..(count + 7) / 8].to_vec();
             cases.push(field_case(format!("{} cut to {} bits", text, count), bytes, count as u64, from));

@@ -1,5 +1,5 @@
 //! The link data fields of document 01 ("Link data fields") and of section 5.3 of document 004: reading, writing and every refusal, in the
-//! order of document 01. Types and items have the numbers of siamrung.h.
+//! order of document 01. Types and items have the numbers of siamrung.h. Type 42 takes every Length, as Ticket 2 of document 02 says.
 
 use crate::bits;
 use crate::layout::{Layout, Names};
@@ -43,6 +43,7 @@ pub const ITEMS: &Names = &[
     ("V1", 235),
     ("V2", 236),
 ];
+pub const LENGTH: u32 = 206;
 pub const SENSOR: u32 = 237;
 pub const RELAY: u32 = 0x03;
 pub const TEST_RESPONSE: u32 = 0x62;
@@ -94,7 +95,7 @@ const FROM_SENSOR: &[Row] = &[
     (0x31, "rejection notice", 40, Tail::Nothing, &["9-32 ADDRESS, 33-36 REFERENCED used, 37-39 QUAL qualifier, 40 zero"]),
     (0x32, "delivery notice", 40, Tail::Nothing, &["9-32 ADDRESS, 33-36 REFERENCED used, 37 DI, 38-40 zero"]),
     (0x41, "tactical downlink", 88, Tail::Nothing, &["9-32 ADDRESS, 33-88 TEXT"]),
-    (0x42, "ELM downlink", 40, Tail::Text, &["9-32 ADDRESS, 33-36 zero, 37-40 LENGTH used"]),
+    (0x42, "ELM downlink", 40, Tail::Text, &["9-32 ADDRESS, 33-36 zero, 37-40 LENGTH"]),
     (0x43, "utility", 40, Tail::Nothing, &["9-32 ADDRESS, 33-34 zero, 35-40 UM"]),
     (0x44, "capability", 96, Tail::Nothing, &["9-32 ADDRESS, 33-35 CA, 36-41 ACA, 42-93 ECA, 94-96 zero"]),
     (0x45, "ID code", 48, Tail::Nothing, &["9-32 ADDRESS, 33-36 zero, 37-48 CODE"]),
@@ -123,7 +124,7 @@ impl Field {
         let numbers = self.head.items();
         let sum: u64 = match self.tail {
             Tail::Nothing => 0,
-            Tail::Text => item(206) + 1,
+            Tail::Text => item(LENGTH) + 1,
             Tail::Blocks => item(211) + 1,
             Tail::Entries => numbers.iter().map(|&number| item(number)).sum(),
         };

@@ -1,15 +1,17 @@
 //! Cases for link data fields: every type and relay with values at their limits, every damage that a refusal of document 01 names, every
-//! bit count; and fields to write.
+//! bit count; and fields to write. Then ELMs of one segment, and fields that are nearly so.
 
 use crate::bits;
 use crate::case::{Case, Tables};
-use crate::field::{self, Field, Given, Tail, LIST, RELAY, SENSOR};
+use crate::field::{self, Field, Given, Tail, LENGTH, LIST, RELAY, SENSOR};
 use crate::layout::Rule;
 use crate::line_cases::{foreign, item_bytes, shuffled_bytes, spoil_in_turn, spoil_value, valid_items, WAYS};
 use crate::rng::Rng;
 
 const FIELD: u64 = 3;
 const FIELD_WRITE: u64 = 4;
+const SEGMENT: u64 = 7;
+const SEGMENT_WRITE: u64 = 8;
 
 /// What a field is written from.
 pub struct Parts {
@@ -168,7 +170,8 @@ fn resize(rng: &mut Rng, text: &mut String, count: usize) {
     }
 }
 
-/// A few bits whose numbers are not all in use: an item with a rule, or the first altimeter block.
+/// A few bits whose numbers are not all in use: an item with a rule, or the first altimeter block; and the Length of an ELM, which tells a
+/// count.
 struct Spot<'a> {
     kind: (&'a Field, bool),
     from: usize,
@@ -178,7 +181,7 @@ struct Spot<'a> {
 fn spots(tables: &Tables) -> Vec<Spot<'_>> {
     let mut spots = Vec::new();
     for kind in kinds(tables) {
-        for (_, rule, piece) in kind.0.head.item_pieces().filter(|piece| piece.1 != Rule::Any) {
+        for (_, rule, piece) in kind.0.head.item_pieces().filter(|piece| piece.1 != Rule::Any || piece.0 == LENGTH) {
             let (first, to) = piece.spans[0];
             let from = if rule == Rule::Advisory { to - 2 } else { first };
             spots.push(Spot { kind, from, to });
@@ -457,5 +460,92 @@ pub fn write(tables: &Tables, seed: u64, number: u64) -> Case {
     }
     let torn = rng.once_in(30);
     let items = shuffled_bytes(rng, &mut parts.items, torn);
+    Case::FieldWrite { bytes: rng.bytes(length), kind: parts.kind, items, list, text: parts.text }
+}
+
+// ---- ELMs of one segment
+
+fn of_type(tables: &Tables, number: u32) -> &Field {
+    tables.fields.iter().find(|field| field.head.number == number).expect("a type of the table")
+}
+
+/// Another count, which still tells Length: near, whole segments more, or any.
+fn other_count(rng: &mut Rng, text: &mut String) {
+    let right = text.len() as u64;
+    let least = right - 80;
+    let count = match rng.below(4) {
+        0 => *rng.pick(&[right - 1, right + 1]),
+        1 => *rng.pick(&[least, right - 8, right + 8, right + 16]),
+        2 => right + 80 * rng.between(1, 15),
+        _ => rng.between(least, 2008),
+    };
+    resize(rng, text, if count == right { right + 1 } else { count } as usize);
+}
+
+/// An ELM of that type with Length 0 and one segment, whether that is in use or not. Length is the last item of the fixed part.
+fn with_length_0(rng: &mut Rng, tables: &Tables, number: u32, relayed: bool) -> Carried {
+    let kind = of_type(tables, number);
+    let mut field = carried(rng, tables, (kind, relayed));
+    let head = kind.head.bits + if relayed { 16 } else { 0 };
+    bits::paste(&mut field.text, &[(head - 3, head)], "0000");
+    field.text.truncate(head + 80);
+    field
+}
+
+/// The ELM of one segment with that number, bare and relayed by turns, or a field that is nearly one; the number goes round what can be
+/// said of it.
+pub fn segment(tables: &Tables, seed: u64, number: u64) -> Case {
+    let rng = &mut Rng::new(seed, SEGMENT, number);
+    let relayed = number % 2 == 1;
+    let before = if relayed { 16 } else { 0 };
+    let turn = (number / 16) as usize;
+    let types: Vec<usize> = if relayed { (1..=8).chain(17..=24).collect() } else { (1..=8).collect() };
+    let mut field = with_length_0(rng, tables, 0x42, relayed);
+    match number / 2 % 8 {
+        0 => (),
+        1 => field.from_sensor = false,
+        2 => other_count(rng, &mut field.text),
+        3 => {
+            field.text = bits::flipped(&field.text, before + 33 + turn % 4);
+            other_count(rng, &mut field.text);
+        }
+        4 => field.text = bits::flipped(&field.text, before + 33 + turn % 4),
+        5 => field.text = bits::flipped(&field.text, types[turn % types.len()]),
+        6 => field.text = bits::flipped(&field.text, before + 37 + turn % 4),
+        _ => {
+            field = with_length_0(rng, tables, 0x22, false);
+            if relayed {
+                other_count(rng, &mut field.text);
+            }
+        }
+    }
+    case_of(rng, field)
+}
+
+/// The writing of an ELM of one segment with that number: as it should be, with another text, with too little room, or as a 22.
+pub fn write_segment(tables: &Tables, seed: u64, number: u64) -> Case {
+    let rng = &mut Rng::new(seed, SEGMENT_WRITE, number);
+    let way = number / 2 % 4;
+    let uplink = way == 3;
+    let relayed = number % 2 == 1 && !uplink;
+    let field = of_type(tables, if uplink { 0x22 } else { 0x42 });
+    let mut parts = valid_parts(rng, field, relayed, 1);
+    parts.items.retain(|item| item.0 != u64::from(LENGTH));
+    parts.items.push((u64::from(LENGTH), 0));
+    parts.text.truncate(10);
+    let needed = if relayed { 17 } else { 15 };
+    let larger = needed + rng.index(20);
+    let mut length = *rng.pick(&[needed, needed + 1, larger, 251]);
+    match way {
+        1 => spoil_text(rng, &mut parts.text),
+        2 => length = if rng.once_in(2) { needed - 1 } else { rng.index(needed) },
+        _ => (),
+    }
+    // 30 comes before 31.
+    if (way == 1 || uplink) && rng.once_in(4) {
+        length = rng.index(needed);
+    }
+    let list = parts.list_bytes();
+    let items = shuffled_bytes(rng, &mut parts.items, false);
     Case::FieldWrite { bytes: rng.bytes(length), kind: parts.kind, items, list, text: parts.text }
 }

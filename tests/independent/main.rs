@@ -4,10 +4,11 @@
 //! document's own bit numbers. It needs the driver (driver.c linked with the library), which it starts as a child process.
 //!
 //!   independent SEED LINES FIELDS FRAMES COMMAND..   compares LINES lines, FIELDS fields and FRAMES streams of frames, and half as many
-//!                                                    writings of each; from 20,000 lines and 50,000 fields on, and from 20,000 streams
-//!                                                    on, the quotas have to be met; 0 leaves a part out
+//!                                                    writings of each; then half as many ELMs of one segment as fields, read and
+//!                                                    written; from 20,000 lines and 50,000 fields on (ELMs: 50,000 fields), and from
+//!                                                    20,000 streams on, the quotas have to be met; 0 leaves a part out
 //!   independent chosen COMMAND..                     compares nmi, degrees and seconds for every count of every field, and the cases of
-//!                                                    chosen.rs and frame_chosen.rs
+//!                                                    chosen.rs, segment_chosen.rs and frame_chosen.rs
 //!   independent chosen-frames COMMAND..              compares the cases of frame_chosen.rs alone
 //!
 //! A difference is printed with its case, and the program then ends with 1.
@@ -31,6 +32,8 @@ mod line_cases;
 mod report;
 mod rng;
 mod run;
+mod segment_chosen;
+mod segment_totals;
 mod totals;
 mod worked;
 
@@ -59,6 +62,20 @@ fn cases(seed: u64, lines: u64, fields: u64) -> impl Iterator<Item = Named> {
     })
 }
 
+/// The cases of ELMs of one segment, in order.
+fn cases_of_segments(seed: u64, fields: u64) -> impl Iterator<Item = Named> {
+    let tables = Tables::new();
+    let (reads, writes) = (fields / 2, fields / 4);
+    (0..reads + writes).map(move |index| {
+        if index < reads {
+            (format!("seed {}, one segment {}", seed, index), field_cases::segment(&tables, seed, index))
+        } else {
+            let number = index - reads;
+            (format!("seed {}, one segment, writing {}", seed, number), field_cases::write_segment(&tables, seed, number))
+        }
+    })
+}
+
 /// The cases of frames, in order, behind the others.
 fn cases_of_frames(seed: u64, frames: u64) -> impl Iterator<Item = Named> {
     let stream = move |number| (format!("seed {}, stream {}", seed, number), frame_cases::stream(seed, number));
@@ -73,6 +90,11 @@ fn compare(seed: u64, [lines, fields, frames]: [u64; 3], command: &[String]) -> 
     if lines + fields > 0 {
         let below = totals.report(&Tables::new());
         short.extend(below.into_iter().filter(|_| lines >= 20_000 && fields >= 50_000));
+    }
+    if fields > 0 {
+        // A run of their own: the quotas of all fields have to be met without these.
+        let below = run::run(command, move || cases_of_segments(seed, fields))?.segments.report();
+        short.extend(below.into_iter().filter(|_| fields >= 50_000));
     }
     if frames > 0 {
         let below = totals.frames.report();
@@ -89,7 +111,7 @@ fn chosen(command: &[String]) -> Result<(), String> {
     every_count::check_exact();
     let totals = run::run(command, every_count::cases)?;
     println!("every count: {} reports in {} lines, no difference", totals.runs, totals.lines);
-    let totals = run::run(command, chosen::cases)?;
+    let totals = run::run(command, || chosen::cases().chain(segment_chosen::cases()))?;
     let (reads, writes) = (totals.runs + totals.fields, totals.writes + totals.field_writes);
     println!("chosen cases: {} runs and fields read, {} written, no difference", reads, writes);
     chosen_frames(command)

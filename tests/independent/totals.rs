@@ -3,6 +3,7 @@
 use crate::field::{Record, RELAY};
 use crate::frame_totals::FrameTotals;
 use crate::line::{self, Look, MOST_BYTES};
+use crate::segment_totals::SegmentTotals;
 use std::collections::BTreeMap;
 
 pub const LINE_REFUSALS: &[u32] = &[2, 14, 1, 3, 4, 5, 6, 7, 8, 9];
@@ -24,6 +25,7 @@ pub struct Totals {
     pub writes: u64,
     pub field_writes: u64,
     pub frames: FrameTotals,
+    pub segments: SegmentTotals,
     /// reports by place in the list of layouts
     layouts: Tally,
     types: Tally,

@@ -1,13 +1,13 @@
-//! The worked cases of document 01 (C1 to C12, the lister's example, the flipped bit of "Three easy errors") and known frames, run on this
-//! program itself: before it judges the library it has to agree with the paper.
+//! The worked cases of document 01 (C1 to C12, the lister's example, the flipped bit of "Three easy errors"), an ELM of one segment and known
+//! frames, run on this program itself: before it judges the library it has to agree with the paper.
 
 use crate::bits;
 use crate::case::Tables;
-use crate::field;
+use crate::field::{self, Given};
 use crate::frame::{self, Frame, Stream};
 use crate::frame_chosen::KNOWN;
 use crate::line;
-use crate::line_cases::valid_items;
+use crate::line_cases::{item_bytes, valid_items};
 use crate::report;
 use crate::rng::Rng;
 
@@ -65,6 +65,25 @@ fn fields(tables: &Tables) {
     assert_eq!(c12.items, wanted);
 }
 
+/// An ELM of one segment, bare and relayed, is read and written (Ticket 2 of document 02).
+fn segments(tables: &Tables) {
+    let bare = [&[0x42, 0x12, 0x34, 0x56, 0x00][..], b"0123456789"].concat();
+    let relayed = [&[0x03, 0x07][..], &bare].concat();
+    let items = [(237, 7), (201, 0x123456), (206, 0)];
+    let rows = [(&bare, 120, 0x42, &items[1..], 5), (&relayed, 136, 0x03, &items[..], 7)];
+    for (bytes, count, kind, items, place) in rows {
+        let read = field::read(&tables.fields, bytes, count, true).unwrap_or_else(|refusal| panic!("one segment got {}", refusal));
+        assert_eq!((read.kind, read.inner, read.text), (kind, 0x42, Some((place, 10))));
+        assert_eq!((&read.items[..], read.entries.len()), (items, 0));
+        let given: Vec<(u64, u64)> = items.iter().map(|&(number, value)| (u64::from(number), value as u64)).collect();
+        let given = Given { kind: 0x42, items: &item_bytes(&given), list: &[0; 240], text: b"0123456789" };
+        let mut written = vec![0xFF; 20];
+        assert_eq!(field::write(&tables.fields, &mut written, &given), (0, count));
+        written.truncate(bytes.len());
+        assert_eq!(&written, bytes);
+    }
+}
+
 /// Of every layout, some records written and read give the same items, and written again the same words.
 fn both_ways(tables: &Tables) {
     let rng = &mut Rng::new(0, 0, 0);
@@ -102,6 +121,7 @@ pub fn check(tables: &Tables) {
     reports(tables);
     runs(tables);
     fields(tables);
+    segments(tables);
     frames();
     both_ways(tables);
 }

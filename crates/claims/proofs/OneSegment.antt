@@ -1,6 +1,6 @@
 -- Document 02, Ticket 2: by the row of type 42, computed, and by the code that every other row has. Assumes nothing.
-use Prim.Native.Nat.{ℕ, zero, suc, _+_, _-_, _*_, _/_, _%_, _^_}
-use native.Mathlib.Nat.{add-zero, zero-add}
+use Prim.Native.Nat.{ℕ, zero, suc, _+_, _-_, _*_, _/_, _^_}
+use native.Mathlib.Nat.{add-zero}
 use native.Mathlib.Omega.{arith}
 use mathlib.Core.Path.{_≡_, refl, sym, ap, _∙_}
 use mathlib.Core.Bool.{Bool, true, false, not, cond, _&&_, _||_}
@@ -32,7 +32,7 @@ use Rattle.fields.specs.Writing.{fieldIn, numbersIn, headBits, fitAll, textLeng
 use Rattle.fields.specs.Reading.{fromSensor, sameWay, countOutOfRange, wrongByteCount, bitAfterCount, wrongBitCount, opens, startOf, recordIn, recordOf, answerOf, listedBy, listed, textIn, textPlace, textOf, typeOf, valuesAt, unknownType, typeNotCarried, wrongDirection, notRelayed, sizedBy, sized, spareBitSet, blockCount, blocksIn, valueNotInUse}
 use Rattle.fields.proofs.Rows.{found-code}
 use Rattle.claims.specs.OneSegment.{formerly, formerTable, formerRulesAt, formerSpareBitSet, formerValueNotInUse, formerAnswer, formerTakesAt, formerTakes, formerWritten, OnlyTheRule, zeroLength, oneSegmentAt, oneSegment, BareRead, RelayedRead, CountStays, SparesStay, UplinkRead, ValueLost, ReadAsBefore, ReadNow, zeroLengthIn, fits, BareWritten, RelayedWritten, UplinkWritten, TakenBefore, WrittenAsBefore, WrittenNow}
-use Rattle.claims.proofs.Printed.{no-bits, spare-1, spare-2, value-1, value-2, other-1, other-2}
+use Rattle.claims.proofs.Printed.{no-bits, spare-1, spare-2, value-1, value-2}
 
 -- ---- tests
 

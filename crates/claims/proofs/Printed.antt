@@ -123,11 +123,11 @@ pub value-2 : (b : Bool) → eqb (cond b 2 0) 2 ≡ b
 value-2 true = refl
 value-2 false = refl
 
-pub other-1 : (b : Bool) → eqb (cond b 0 2) 1 ≡ false
+other-1 : (b : Bool) → eqb (cond b 0 2) 1 ≡ false
 other-1 true = refl
 other-1 false = refl
 
-pub other-2 : (b : Bool) → eqb (cond b 0 2) 2 ≡ not b
+other-2 : (b : Bool) → eqb (cond b 0 2) 2 ≡ not b
 other-2 true = refl
 other-2 false = refl
 

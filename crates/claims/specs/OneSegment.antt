@@ -1,6 +1,6 @@
 -- Document 02, Ticket 2, "One-segment ELM from the aircraft": what a field and a record of type 42 with Length 0 now get, and that nothing else got another
 -- answer. For that the rule before stands here: no promise names it, and no code follows it. Statements only; proofs/OneSegment.antt proves them.
-use Prim.Native.Nat.{ℕ, _+_, _^_, _<_, _≤_}
+use Prim.Native.Nat.{ℕ, _+_, _^_}
 use mathlib.Core.Path.{_≡_}
 use mathlib.Core.List.{List, [], _∷_, _++_, map}
 use mathlib.Core.Bool.{Bool, true, false, not, cond, _&&_, _||_}
