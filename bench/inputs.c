@@ -138,7 +138,7 @@ struct shape {
 static struct shape shape_of(unsigned type)
 {
     struct shape s[] = {{4, 0xFF, 0x11}, {4, 0xF0, 0x10}, {4, 0xFF, 0x11}, {1, 0x0F, 0}, {1, 0xC0, 0x40}, {1, 0xF3, 1}, {1, 0xFF, 0},
-                        {4, 0xF6, 0x10}, {4, 0xF8, 0x10}, {4, 0x0F, 1},    {4, 0x3F, 0}, {4, 0x0F, 0}};
+                        {4, 0xF6, 0x10}, {4, 0xF8, 0x10}, {4, 0x0F, 0},    {4, 0x3F, 0}};
 
     switch (type) {
     case 0x21: case 0x22: case 0x23: return s[0];
@@ -150,9 +150,8 @@ static struct shape shape_of(unsigned type)
     case 0x9A: case 0x96: return s[6];
     case 0x31: return s[7];
     case 0x32: return s[8];
-    case 0x42: return s[9];
+    case 0x42: case 0x45: return s[9];
     case 0x43: return s[10];
-    case 0x45: return s[11];
     default: return (struct shape){0, 0xFF, 0};
     }
 }

@@ -72,8 +72,6 @@ int plain_unused(unsigned type, const uint64_t *v)
         return v[I(EXP)] == 0 || v[I(LENGTH)] == 0;
     case 0x23:
         return v[I(EXP)] == 0 || v[I(MSRC)] != 1;
-    case 0x42:
-        return v[I(LENGTH)] == 0;
     case 0x99:
         return v[I(STATE)] == 0;
     case 0x65:

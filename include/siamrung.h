@@ -20,8 +20,8 @@
  *
  * Versions. The numbers below keep their meaning: none is ever used for something else. siamrung_version grows with each change of the calls,
  * and of what they accept. Version 3 added the calls of frames. Version 4 accepts an ELM_DOWNLINK with LENGTH 0, alone and relayed, which was
- * refused (28, and 30 in writing). A call whose meaning changes under the same arguments gets a new name, so that an old program does not link
- * with it. A call that accepts more than before keeps its name: what it answers then is as described here.
+ * refused (28, and 30 in writing). A call that accepts more than before keeps its name. If the meaning of a call changes in any other way under
+ * the same arguments, it gets a new name, so that an old program does not link with it.
  */
 #ifndef SIAMRUNG_H
 #define SIAMRUNG_H

@@ -1,9 +1,9 @@
--- Document 02, Ticket 2: by the row of type 42, computed, and by the code that every other row has. Assumes nothing.
+-- The laws of document 02, Ticket 2. The row of type 42 is computed; a row with another code has the rules that it had. Assumes nothing.
 use Prim.Native.Nat.{ℕ, zero, suc, _+_, _-_, _*_, _/_, _^_}
 use native.Mathlib.Nat.{add-zero}
 use native.Mathlib.Omega.{arith}
 use mathlib.Core.Path.{_≡_, refl, sym, ap, _∙_}
-use mathlib.Core.Bool.{Bool, true, false, not, cond, _&&_, _||_}
+use mathlib.Core.Bool.{Bool, true, false, not, cond, _&&_, _||_, and-true, and-false, or-true, or-false}
 use mathlib.Core.List.{List, [], _∷_, map}
 use mathlib.Core.Logic.{_⊎_, inl, inr, ⊎-elim}
 use lib.Dec.{eqb, ltb}
@@ -16,7 +16,7 @@ use Rattle.refusals.specs.declared.FieldRefusal.the-variants.{CountOutOfRange, 
 use Rattle.fields.specs.declared.Direction.{Direction}
 use Rattle.fields.specs.declared.Direction.the-variants.{ToSensor, FromSensor}
 use Rattle.fields.specs.declared.Field.{Field}
-use Rattle.fields.specs.declared.Field.the-variants.{ElmDownlink}
+use Rattle.fields.specs.declared.Field.the-variants.{ElmUplink, ElmDownlink}
 use Rattle.fields.specs.declared.Field.the-variants as F
 use Rattle.fields.specs.declared.Record.{Record}
 use Rattle.fields.specs.declared.Record.the-variants.{Single, Relay}
@@ -30,41 +30,20 @@ use Rattle.fields.specs.Lists.{anyUnused, listFits}
 use Rattle.fields.specs.Records.{fieldOf, fieldAt, numbersOf}
 use Rattle.fields.specs.Writing.{fieldIn, numbersIn, headBits, fitAll, textLengthBy, textLength, relaysAt, headFits, takesAt, takes, bitsIn, putIn, writtenOf, leftBy, leftOf}
 use Rattle.fields.specs.Reading.{fromSensor, sameWay, countOutOfRange, wrongByteCount, bitAfterCount, wrongBitCount, opens, startOf, recordIn, recordOf, answerOf, listedBy, listed, textIn, textPlace, textOf, typeOf, valuesAt, unknownType, typeNotCarried, wrongDirection, notRelayed, sizedBy, sized, spareBitSet, blockCount, blocksIn, valueNotInUse}
+use Rattle.fields.proofs.Puts.{both-true}
 use Rattle.fields.proofs.Rows.{found-code}
-use Rattle.claims.specs.OneSegment.{formerly, formerTable, formerRulesAt, formerSpareBitSet, formerValueNotInUse, formerAnswer, formerTakesAt, formerTakes, formerWritten, OnlyTheRule, zeroLength, oneSegmentAt, oneSegment, BareRead, RelayedRead, CountStays, SparesStay, UplinkRead, ValueLost, ReadAsBefore, ReadNow, zeroLengthIn, fits, BareWritten, RelayedWritten, UplinkWritten, TakenBefore, WrittenAsBefore, WrittenNow}
+use Rattle.claims.specs.OneSegment.{formerly, formerTable, formerRulesAt, formerSpareBitSet, formerValueNotInUse, formerAnswer, formerTakesAt, formerTakes, formerWritten, RowsAndWidthsStay, hasLength0, oneSegmentAt, oneSegment, BareRead, RelayedRead, CountStays, SparesStay, UplinkRead, NotInUseBefore, OthersReadAsBefore, OneSegmentRead, recordHasLength0, oneSegmentFits, sensorFits, oneSegmentIn, BareWritten, RelayedWritten, UplinkWritten, TakenBefore, OthersWrittenAsBefore, OneSegmentWritten}
 use Rattle.claims.proofs.Printed.{no-bits, spare-1, spare-2, value-1, value-2}
 
--- ---- tests
-
+-- a test is not both
 differ : {X : Type 0} → false ≡ true → X
 differ e = absurd (let z : _≡_ {A = ℕ} 0 1 = cc in omega arith)
 
-both : (a b : Bool) → (a && b) ≡ true → (a ≡ true) × (b ≡ true)
-both true true e = (refl, refl)
-both true false e = differ e
-both false b e = differ e
-
-and-true : (b : Bool) → (b && true) ≡ b
-and-true true = refl
-and-true false = refl
-
-and-false : (b : Bool) → (b && false) ≡ false
-and-false true = refl
-and-false false = refl
-
-or-true : (b : Bool) → (b || true) ≡ true
-or-true true = refl
-or-true false = refl
-
-or-false : (b : Bool) → (b || false) ≡ b
-or-false true = refl
-or-false false = refl
-
 -- ---- the other types
 
-pub only-the-rule : OnlyTheRule
+pub rows-and-widths-stay : RowsAndWidthsStay
 unfolding table rows widths formerTable
-only-the-rule = (refl, refl)
+rows-and-widths-stay = (refl, refl)
 
 -- a row with another code has the rules that it had
 same-rules : (ks : List Known) (i : ℕ) → eqb (getD (rowsOf ks) i noRow .code) 0x42 ≡ false → getD (partRules (map formerly ks)) i noParts ≡ getD (partRules ks) i noParts
@@ -157,21 +136,24 @@ of-42 s n a w = simp (add-zero, and-false, or-false, no-bits, spare-1, spare-2, 
 told-42 : (s : List ℕ) (n a : ℕ) (w : Direction) → eqb (typeOf s a) 0x42 ≡ true → told s n a w (typeOf s a) ≡ elm s n a w
 told-42 s n a w e = ap (told s n a w) (eqb-true (typeOf s a) 0x42 e) ∙ of-42 s n a w
 
-pub value-lost : ValueLost
-unfolding formerSpareBitSet formerValueNotInUse spareBitSet valueNotInUse zeroLength
-value-lost s a = go (eqb (typeOf s a) 0x42) refl
+pub not-in-use-before : NotInUseBefore
+unfolding formerSpareBitSet formerValueNotInUse spareBitSet valueNotInUse hasLength0
+not-in-use-before s a = go (eqb (typeOf s a) 0x42) refl
   where
     go : (b : Bool) → eqb (typeOf s a) 0x42 ≡ b
         → (formerSpareBitSet s a ≡ spareBitSet s a) × (formerValueNotInUse s a ≡ (valueNotInUse s a || (b && eqb (bits s (a + 37) (a + 40)) 0)))
+        × ((valueNotInUse s a && (b && eqb (bits s (a + 37) (a + 40)) 0)) ≡ false)
     go false e = (
       same-at false (λ i rs. hasFault 1 rs (valuesAt s a i)) (typeOf s a) e,
       same-at false (λ i rs. hasFault 2 rs (valuesAt s a i) || anyUnused (blocksIn s a i)) (typeOf s a) e ∙ sym (or-false (valueNotInUse s a)),
+      and-false (valueNotInUse s a),
     )
     go true e =
         let k = told-42 s 0 a ToSensor e in
         let unused : valueNotInUse s a ≡ false = ap (λ (x : Told). x .unused) k in (
           ap (λ (x : Told). x .spare-was-set) k ∙ sym (ap (λ (x : Told). x .spare-set) k),
           rw unused (ap (λ (x : Told). x .was-unused) k ∙ ap (λ (m : ℕ). eqb m 0) (length-is s a)),
+          rw unused refl,
         )
 
 -- ---- the reader
@@ -215,17 +197,17 @@ was-told s n w = refl
 abbrev zeroTold : List ℕ → ℕ → ℕ → Direction → Told
 zeroTold s n a w = elmBy (fromSensor w) (eqb n (a + 120)) (eqb (bits s (a + 33) (a + 36)) 0) true (ElmDownlink (bitsOf s (a + 8) 24) 0)
 
-zero-told : (s : List ℕ) (n a : ℕ) (w : Direction) → zeroLength s a ≡ true → told s n a w (typeOf s a) ≡ zeroTold s n a w
-unfolding zeroLength
+zero-told : (s : List ℕ) (n a : ℕ) (w : Direction) → hasLength0 s a ≡ true → told s n a w (typeOf s a) ≡ zeroTold s n a w
+unfolding hasLength0
 zero-told s n a w z =
-    let k = both (eqb (typeOf s a) 0x42) (eqb (bits s (a + 37) (a + 40)) 0) z in
+    let k = both-true (eqb (typeOf s a) 0x42) (eqb (bits s (a + 37) (a + 40)) 0) z in
     let nil : lengthIn s a ≡ 0 = length-is s a ∙ eqb-true _ 0 (k .1) in
     let spare = spares-are s a in
     told-42 s n a w (k .0)
     ∙ (λ i. elmBy (fromSensor w) (eqb n (a + (40 + 80 * (1 + nil i)))) (eqb (spare i) 0) (eqb (nil i) 0) (ElmDownlink (bitsOf s (a + 8) 24) (nil i)))
 
 -- so the answers, by their rows
-with-0 : (s : List ℕ) (n : ℕ) (w : Direction) → zeroLength s (startOf s n w) ≡ true
+with-0 : (s : List ℕ) (n : ℕ) (w : Direction) → hasLength0 s (startOf s n w) ≡ true
     → (formerAnswer s n w ≡ was (countOutOfRange n) (wrongByteCount s n) (bitAfterCount s n) (Accepted (recordOf s n w)) (zeroTold s n (startOf s n w) w))
     × (answerOf s n w ≡ now (countOutOfRange n) (wrongByteCount s n) (bitAfterCount s n) (Accepted (recordOf s n w)) (zeroTold s n (startOf s n w) w))
 with-0 s n w z =
@@ -262,23 +244,23 @@ counted s n w e = go (opens s n w) (eqb-true n _ e)
     go false q = rw q (refl, rw (no-bits s 120) refl)
 
 -- type and Length are not: no row moved
-reads-same : (s : List ℕ) (n : ℕ) (w : Direction) → zeroLength s (startOf s n w) ≡ false → answerOf s n w ≡ formerAnswer s n w
+reads-same : (s : List ℕ) (n : ℕ) (w : Direction) → hasLength0 s (startOf s n w) ≡ false → answerOf s n w ≡ formerAnswer s n w
 unfolding answerOf formerAnswer
 reads-same s n w e =
     let a = startOf s n w in
-    let v = value-lost s a in
+    let v = not-in-use-before s a in
     let u : formerValueNotInUse s a ≡ valueNotInUse s a = v .1 ∙ ap (λ (b : Bool). valueNotInUse s a || b) e ∙ or-false (valueNotInUse s a) in
     rw (v .0, u) refl
 
 -- they are: the last row did
 reads : (s : List ℕ) (n : ℕ) (w : Direction) → Split (oneSegment s n w) (formerAnswer s n w) (answerOf s n w) (Accepted (recordOf s n w))
 unfolding oneSegmentAt
-reads s n w = go (zeroLength s a) refl
+reads s n w = go (hasLength0 s a) refl
   where
     a : ℕ
     a = startOf s n w
 
-    go : (z : Bool) → zeroLength s a ≡ z
+    go : (z : Bool) → hasLength0 s a ≡ z
         → Split (z && (eqb n (a + 120) && (not (wrongByteCount s n) && (fromSensor w && eqb (bits s (a + 33) (a + 36)) 0)))) (formerAnswer s n w) (answerOf s n w) (Accepted (recordOf s n w))
     go false e = (λ q. reads-same s n w e, λ q. differ q)
     go true e =
@@ -287,11 +269,11 @@ reads s n w = go (zeroLength s a) refl
         (whole (countOutOfRange n) (wrongByteCount s n) (bitAfterCount s n) (fromSensor w) (eqb n (a + 120)) (eqb (bits s (a + 33) (a + 36)) 0)
         (ElmDownlink (bitsOf s (a + 8) 24) 0) (Accepted (recordOf s n w)) (counted s n w))
 
-pub read-as-before : ReadAsBefore
-read-as-before s n w = reads s n w .0
+pub others-read-as-before : OthersReadAsBefore
+others-read-as-before s n w = reads s n w .0
 
-pub read-now : ReadNow
-read-now s n w = reads s n w .1
+pub one-segment-read : OneSegmentRead
+one-segment-read s n w = reads s n w .1
 
 -- ---- as it is read
 
@@ -303,15 +285,15 @@ count-stays s n none z ne =
 
 pub spares-stay : SparesStay
 unfolding fromSensor
-spares-stay s n a is bytes z fits ne =
-    let here : eqb n (startOf s n FromSensor + 120) ≡ true = eq-eqb n _ (fits ∙ ap (λ (m : ℕ). m + 120) is) in
-    let k = counted s n FromSensor here in
-    with-0 s n FromSensor (rw (← is) z) .1 ∙ rw (k .0, bytes, k .1, here, ← is, ne-eqb (bits s (a + 33) (a + 36)) 0 ne) refl
+spares-stay s n none z count ne =
+    let a = startOf s n FromSensor in
+    with-0 s n FromSensor z .1
+    ∙ rw (none .0, none .1 .0, none .1 .1 .0, eq-eqb n (a + 120) count, ne-eqb (bits s (a + 33) (a + 36)) 0 ne) refl
 
 -- a field of type 42 with Length 0 that begins behind the first a bits is the case
 is-one : (s : List ℕ) (n a : ℕ) → startOf s n FromSensor ≡ a → n ≡ a + 120 → wrongByteCount s n ≡ false
     → typeOf s a ≡ 0x42 → bits s (a + 33) (a + 36) ≡ 0 → bits s (a + 37) (a + 40) ≡ 0 → oneSegment s n FromSensor ≡ true
-unfolding oneSegmentAt zeroLength fromSensor
+unfolding oneSegmentAt hasLength0 fromSensor
 is-one s n a at count bytes type spare nil = rw (at, type, nil, eq-eqb n (a + 120) count, bytes, spare) refl
 
 -- its record and the place of its text
@@ -329,7 +311,7 @@ bare-read s long type spare nil =
     let start : startOf s 120 FromSensor ≡ 0 = ap (λ (b : Bool). cond b 16 0) shut in
     let one = is-one s 120 0 start refl (rw long refl) type spare nil in
     let means : recordOf s 120 FromSensor ≡ Single (ElmDownlink (bits s 9 32) 0) = rw shut (ap Single (its-record s 0 type ∙ ap (ElmDownlink (bits s 9 32)) nil)) in
-    let answer = read-now s 120 FromSensor one .1 ∙ ap Accepted means in (
+    let answer = one-segment-read s 120 FromSensor one .1 ∙ ap Accepted means in (
       answer,
       ap (λ (x : Answer). drop (textPlace s x) s) answer ∙ ap (λ (k : ℕ). drop k s) (its-text s 0 type),
       omega (arith, long, length-drop 5 s),
@@ -342,7 +324,7 @@ relayed-read s long type inner spare nil =
     let start : startOf s 136 FromSensor ≡ 16 = ap (λ (b : Bool). cond b 16 0) opened in
     let one = is-one s 136 16 start refl (rw long refl) inner spare nil in
     let means : recordOf s 136 FromSensor ≡ Relay (bits s 9 16) (ElmDownlink (bits s 25 48) 0) = rw opened (ap (Relay (bits s 9 16)) (its-record s 16 inner ∙ ap (ElmDownlink (bits s 25 48)) nil)) in
-    let answer = read-now s 136 FromSensor one .1 ∙ ap Accepted means in (
+    let answer = one-segment-read s 136 FromSensor one .1 ∙ ap Accepted means in (
       answer,
       ap (λ (x : Answer). drop (textPlace s x) s) answer ∙ ap (λ (k : ℕ). drop k s) (its-text s 16 inner),
       omega (arith, long, length-drop 7 s),
@@ -413,10 +395,10 @@ taken-elm r l t a c e =
     (last (headFits 15 r) (fitAll (widthsAt 15) vs) (not (eqb c 0)) (listFits (rowAt 15 .step) (listed 15 vs) l && eqb (length t) (textLength 15 vs))))
 
 pub taken-before : TakenBefore
-unfolding zeroLengthIn formerTakes takes formerTakesAt takesAt
+unfolding recordHasLength0 formerTakes takes formerTakesAt takesAt
 taken-before r l t = ⊎-elim other elm-taken (of-field (fieldIn r))
   where
-    other : eqb (getD (numbersIn r) 0 0) 0x42 ≡ false → formerTakes r l t ≡ (takes r l t && not (zeroLengthIn r))
+    other : eqb (getD (numbersIn r) 0 0) 0x42 ≡ false → formerTakes r l t ≡ (takes r l t && not (recordHasLength0 r))
     other e =
         same-at false
         (λ i rs.
@@ -428,30 +410,18 @@ taken-before r l t = ⊎-elim other elm-taken (of-field (fieldIn r))
         e
         ∙ rw e (sym (and-true (takes r l t)))
 
-    elm-taken : (a : ℕ) × (c : ℕ) × (fieldIn r ≡ ElmDownlink a c) → formerTakes r l t ≡ (takes r l t && not (zeroLengthIn r))
+    elm-taken : (a : ℕ) × (c : ℕ) × (fieldIn r ≡ ElmDownlink a c) → formerTakes r l t ≡ (takes r l t && not (recordHasLength0 r))
     elm-taken k =
         taken-elm r l t (k .0) (k .1) (k .2)
         ∙ ap (λ (f : Field). takes r l t && not (eqb (getD (numbersOf f) 0 0) 0x42 && eqb (getD (numbersOf f) 3 0) 0)) (sym (k .2))
-
-pub written-as-before : WrittenAsBefore
-unfolding writtenOf leftOf formerWritten
-written-as-before r l t s e =
-    let same : takes r l t ≡ formerTakes r l t = sym (taken-before r l t ∙ go (takes r l t) (zeroLengthIn r) e) in
-    let answer : writtenOf r l t s ≡ formerWritten r l t s = rw same refl in
-    (answer, ap (λ (w : Written). leftBy w s (putIn r l t s)) answer)
-  where
-    go : (b z : Bool) → (z && b) ≡ false → (b && not z) ≡ b
-    go true true q = differ (sym q)
-    go true false q = refl
-    go false z q = refl
 
 -- its bits
 elm-bits : (r : Record) (a : ℕ) → fieldIn r ≡ ElmDownlink a 0 → bitsIn r ≡ headBits r + 120
 unfolding bitsIn table rows rowAt placeFrom countIn sizeIn
 elm-bits r a e = rw e refl
 
-zero-bits : (r : Record) → zeroLengthIn r ≡ true → bitsIn r ≡ headBits r + 120
-unfolding zeroLengthIn
+zero-bits : (r : Record) → recordHasLength0 r ≡ true → bitsIn r ≡ headBits r + 120
+unfolding recordHasLength0
 zero-bits r z = ⊎-elim (λ e. differ (rw e at z)) is-elm (of-field (fieldIn r))
   where
     is-elm : (a : ℕ) × (c : ℕ) × (fieldIn r ≡ ElmDownlink a c) → bitsIn r ≡ headBits r + 120
@@ -459,15 +429,8 @@ zero-bits r z = ⊎-elim (λ e. differ (rw e at z)) is-elm (of-field (fieldIn r)
         let c : k .1 ≡ 0 = eqb-true (k .1) 0 (rw (k .2) at z) in
         elm-bits r (k .0) (k .2 ∙ ap (ElmDownlink (k .0)) c)
 
-pub written-now : WrittenNow
-unfolding writtenOf formerWritten
-written-now r l t s e =
-    let k = both (zeroLengthIn r) (takes r l t) e in
-    let before : formerTakes r l t ≡ false = taken-before r l t ∙ rw (k .0, k .1) refl in
-    (rw before refl, rw (k .1, ← zero-bits r (k .0)) refl)
-
 -- what the writer takes of it
-bare-takes : (address : ℕ) (l : List ℤ) (t : List ℕ) → takes (Single (ElmDownlink address 0)) l t ≡ fits address l t
+bare-takes : (address : ℕ) (l : List ℤ) (t : List ℕ) → takes (Single (ElmDownlink address 0)) l t ≡ oneSegmentFits address l t
 unfolding takes takesAt headFits fitAll table rows rowAt placeFrom widths widthsAt rules rulesAt hasFault countIn listedBy textLengthBy
 bare-takes address l t = simp (and-true)
 
@@ -475,7 +438,7 @@ pub bare-written : BareWritten
 unfolding writtenOf
 bare-written address l t s = rw (bare-takes address l t, elm-bits (Single (ElmDownlink address 0)) address refl) refl
 
-relayed-takes : (sensor address : ℕ) (l : List ℤ) (t : List ℕ) → takes (Relay sensor (ElmDownlink address 0)) l t ≡ (ltb sensor (2 ^ 8) && fits address l t)
+relayed-takes : (sensor address : ℕ) (l : List ℤ) (t : List ℕ) → takes (Relay sensor (ElmDownlink address 0)) l t ≡ (ltb sensor (2 ^ 8) && oneSegmentFits address l t)
 unfolding takes takesAt headFits relaysAt fromSensor fitAll table rows rowAt placeFrom widths widthsAt rules rulesAt hasFault countIn listedBy textLengthBy
 relayed-takes sensor address l t = simp (and-true)
 
@@ -483,6 +446,55 @@ pub relayed-written : RelayedWritten
 unfolding writtenOf
 relayed-written sensor address l t s = rw (relayed-takes sensor address l t, elm-bits (Relay sensor (ElmDownlink address 0)) address refl) refl
 
+-- nothing of type 22 with Length 0
+uplink-unused : (address number priority exp : ℕ) → hasFault 2 (rulesAt 1) (numbersOf (ElmUplink address number priority exp 0)) ≡ true
+unfolding table rules rulesAt hasFault
+uplink-unused address number priority exp = simp (value-2, or-true)
+
+uplink-takes : (r : Record) (address number priority exp : ℕ) (l : List ℤ) (t : List ℕ) → fieldIn r ≡ ElmUplink address number priority exp 0 → takes r l t ≡ false
+unfolding takes takesAt table rows placeFrom
+uplink-takes r address number priority exp l t e =
+    let vs = numbersOf (ElmUplink address number priority exp 0) in
+    rw e (rw (uplink-unused address number priority exp) (ap (λ (b : Bool). headFits 1 r && b) (and-false (fitAll (widthsAt 1) vs)) ∙ and-false (headFits 1 r)))
+
 pub uplink-written : UplinkWritten
-unfolding writtenOf takes takesAt headFits table rows placeFrom rules rulesAt hasFault
-uplink-written address number priority exp l t s = simp (value-2, or-true, and-false)
+unfolding writtenOf
+uplink-written r address number priority exp l t s e = rw (uplink-takes r address number priority exp l t e) refl
+
+-- a record of type 42 with Length 0 is taken exactly where all of it fits
+zero-takes : (r : Record) (l : List ℤ) (t : List ℕ) → (recordHasLength0 r && takes r l t) ≡ oneSegmentIn r l t
+unfolding recordHasLength0
+zero-takes r l t = go (recordHasLength0 r) refl
+  where
+    taken : (r : Record) (a : ℕ) → fieldIn r ≡ ElmDownlink a 0 → takes r l t ≡ (sensorFits r && oneSegmentFits (getD (numbersIn r) 1 0) l t)
+    taken (Single f) a e = rw e (bare-takes a l t)
+    taken (Relay x f) a e = rw e (relayed-takes x a l t)
+
+    is-elm : recordHasLength0 r ≡ true → (a : ℕ) × (c : ℕ) × (fieldIn r ≡ ElmDownlink a c)
+        → takes r l t ≡ (sensorFits r && oneSegmentFits (getD (numbersIn r) 1 0) l t)
+    is-elm z k =
+        let c : k .1 ≡ 0 = eqb-true (k .1) 0 (rw (k .2) at z) in
+        taken r (k .0) (k .2 ∙ ap (ElmDownlink (k .0)) c)
+
+    go : (b : Bool) → recordHasLength0 r ≡ b → (b && takes r l t) ≡ (b && (sensorFits r && oneSegmentFits (getD (numbersIn r) 1 0) l t))
+    go false e = refl
+    go true e = ⊎-elim (λ q. differ (rw q at e)) (is-elm e) (of-field (fieldIn r))
+
+pub one-segment-written : OneSegmentWritten
+unfolding writtenOf formerWritten
+one-segment-written r l t s e =
+    let k = both-true (recordHasLength0 r) (takes r l t) (zero-takes r l t ∙ e) in
+    let before : formerTakes r l t ≡ false = taken-before r l t ∙ rw (k .0, k .1) refl in
+    (rw before refl, rw before refl, rw (k .1, ← zero-bits r (k .0)) refl)
+
+pub others-written-as-before : OthersWrittenAsBefore
+unfolding writtenOf leftOf formerWritten
+others-written-as-before r l t s e =
+    let same : takes r l t ≡ formerTakes r l t = sym (taken-before r l t ∙ go (takes r l t) (recordHasLength0 r) (zero-takes r l t ∙ e)) in
+    let answer : writtenOf r l t s ≡ formerWritten r l t s = rw same refl in
+    (answer, ap (λ (w : Written). leftBy w s (putIn r l t s)) answer)
+  where
+    go : (b z : Bool) → (z && b) ≡ false → (b && not z) ≡ b
+    go true true q = differ (sym q)
+    go true false q = refl
+    go false z q = refl

@@ -8,7 +8,7 @@ use Rattle.frames.proofs.Lent as lent
 use Rattle.frames.proofs.Lists as lists
 use Rattle.frames.proofs.Refused as refused
 use Rattle.frames.proofs.Zeros as zeros
-use Rattle.claims.specs.Requests.{ReadAndWriteThem, FlagsAndIdle, PlacesAnswered, TheWriter, TheirOwnRoundTrip, FrameRefusals, Ticket1, OneSegmentAccepted, UplinkKeepsItsMinimum, LoseThisCase, Requests}
+use Rattle.claims.specs.Requests.{ReadAndWriteThem, FlagsAndIdle, PlacesAnswered, TheWriter, TheirOwnRoundTrip, FrameRefusals, Ticket1, OneSegmentAccepted, UplinkKeepsItsMinimum, RefusalsLoseThisCase, Requests}
 use Rattle.claims.proofs.Numbers.{numbers-differ, no-number-is-zero}
 use Rattle.claims.proofs.OneSegment as segment
 
@@ -77,17 +77,17 @@ accepted = record {
 uplink : UplinkKeepsItsMinimum
 uplink = record { read = segment.uplink-read; written = segment.uplink-written }
 
-lost : LoseThisCase
+lost : RefusalsLoseThisCase
 lost = record {
-  rule = segment.only-the-rule;
-  value = segment.value-lost;
-  read-as-before = segment.read-as-before;
-  read-now = segment.read-now;
-  count-stays = segment.count-stays;
-  spares-stay = segment.spares-stay;
+  value = segment.not-in-use-before;
+  one-segment-read = segment.one-segment-read;
+  others-read = segment.others-read-as-before;
+  count = segment.count-stays;
+  spares = segment.spares-stay;
   taken = segment.taken-before;
-  written-as-before = segment.written-as-before;
-  written-now = segment.written-now;
+  one-segment-written = segment.one-segment-written;
+  others-written = segment.others-written-as-before;
+  table = segment.rows-and-widths-stay;
 }
 
 -- ---- all of them

@@ -122,8 +122,8 @@ rule c xs bs = record { code = c; spares = xs; unused = bs }
 abbrev isZero : ℕ → Bool
 isZero x = eqb x 0
 
--- "Not in use: number, referenced number, EXP, state, SSTAT, ELM Length of 0; MSRC but 1; QUAL 5-7; DEL 6-7; advisory bits 9-11 of 111"; and of
--- document 02, Ticket 2, "For type 42, Length 0 is one segment and accepted". What is not in use in an altimeter block is said in
+-- "Not in use: number, referenced number, EXP, state, SSTAT, ELM Length of 0; MSRC but 1; QUAL 5-7; DEL 6-7; advisory bits 9-11 of 111". Document
+-- 02, Ticket 2, takes one away: "For type 42, Length 0 is one segment and accepted". What is not in use in an altimeter block is said in
 -- fields/specs/Lists.antt
 abbrev pub ruled : (ℕ → ℕ → ℕ) → List Rule
 ruled at =
@@ -155,7 +155,7 @@ ruled at =
     ∷ rule 0x32 (at 38 40 ∷ []) (isZero (at 33 36) ∷ [])
     -- 41
     ∷ rule 0x41 [] []
-    -- 42: spare 33-36; Length 0 is one segment
+    -- 42: spare 33-36 (Length 0 is in use: one segment)
     ∷ rule 0x42 (at 33 36 ∷ []) []
     -- 43: spare 33-34
     ∷ rule 0x43 (at 33 34 ∷ []) []

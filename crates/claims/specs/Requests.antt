@@ -85,7 +85,8 @@ pub record Ticket1 : Type 0 where
 
 -- "A sensor sends downlink ELMs of 120 bits and we refuse them. The figure ends its first text at 120; the two-segment minimum stands among the
 -- ground-to-air blocks. For type 42, Length 0 is one segment and accepted, bare or relayed, read or written." The rule is the row of type 42 in
--- fields/specs/Table.antt, which asks nothing of its Length. That what is written is read again is demand 2, which speaks of these fields too
+-- fields/specs/Table.antt: it asks nothing of Length. Demand 2 says that a field that is written is read again; it is about these fields too. The
+-- C calls of field_host are promised by the same definitions
 pub record OneSegmentAccepted : Type 0 where
   pub bare-read : segment.BareRead
   pub relayed-read : segment.RelayedRead
@@ -97,23 +98,25 @@ pub record UplinkKeepsItsMinimum : Type 0 where
   pub read : segment.UplinkRead
   pub written : segment.UplinkWritten
 
--- "Refusals: 28 and 30 lose this case." Exactly this: 28 in reading (value), 30 in writing (taken), and with them the answers (read, written). Every
--- other rule of the table stays (rule); another count is still 26, a spare bit 27
-pub record LoseThisCase : Type 0 where
-  pub rule : segment.OnlyTheRule
-  pub value : segment.ValueLost
-  pub read-as-before : segment.ReadAsBefore
-  pub read-now : segment.ReadNow
-  pub count-stays : segment.CountStays
-  pub spares-stay : segment.SparesStay
+-- "Refusals: 28 and 30 lose this case." 28 loses exactly this case in reading (value), and 30 in writing (taken). One segment, which was refused, is
+-- now accepted (one-segment-read) and written (one-segment-written). Every other field is answered as before (others-read), and every other record is
+-- written as before (others-written). Another count is still 26 (count), and a spare bit is still 27 (spares). The table keeps its rows and widths
+-- (table)
+pub record RefusalsLoseThisCase : Type 0 where
+  pub value : segment.NotInUseBefore
+  pub one-segment-read : segment.OneSegmentRead
+  pub others-read : segment.OthersReadAsBefore
+  pub count : segment.CountStays
+  pub spares : segment.SparesStay
   pub taken : segment.TakenBefore
-  pub written-as-before : segment.WrittenAsBefore
-  pub written-now : segment.WrittenNow
+  pub one-segment-written : segment.OneSegmentWritten
+  pub others-written : segment.OthersWrittenAsBefore
+  pub table : segment.RowsAndWidthsStay
 
 pub record Ticket2 : Type 0 where
   pub accepted : OneSegmentAccepted
   pub uplink : UplinkKeepsItsMinimum
-  pub refusals : LoseThisCase
+  pub refusals : RefusalsLoseThisCase
 
 -- ---- all of them
 

@@ -73,7 +73,7 @@ unfoldable pub table : List Known
 table =
     -- tactical: address 9-32, number 33-36, P 37, EXP 38-40, text 41-96; 96
     known 0x21 ToSensor 96 0 0 none none none (any 24 ∷ notZero 4 ∷ any 1 ∷ notZero 3 ∷ any 56 ∷ [])
-    -- ELM: the same to 40, spare 41-44, Length 45-48, text, of two segments at least; 48+80(L+1)
+    -- ELM: the same to 40, spare 41-44, Length 45-48 (0 is not in use: at least two segments), text; 48+80(L+1)
     ∷ known 0x22 ToSensor 48 80 1 6 none none (any 24 ∷ notZero 4 ∷ any 1 ∷ notZero 3 ∷ spare 4 ∷ notZero 4 ∷ [])
     -- request: to 40, MSRC 41-44, spare; 48
     ∷ known 0x23 ToSensor 48 0 0 none none none (any 24 ∷ notZero 4 ∷ any 1 ∷ notZero 3 ∷ one 4 ∷ spare 4 ∷ [])
@@ -100,7 +100,7 @@ table =
     ∷ known 0x32 FromSensor 40 0 0 none none none (any 24 ∷ notZero 4 ∷ any 1 ∷ spare 3 ∷ [])
     -- tactical: address 9-32, text; 88
     ∷ known 0x41 FromSensor 88 0 0 none none none (any 24 ∷ any 56 ∷ [])
-    -- ELM: address, spare 33-36, Length 37-40, text, of one segment at least (document 02, Ticket 2); 40+80(L+1)
+    -- ELM: address, spare 33-36, Length 37-40 (0 is in use: document 02, Ticket 2), text; 40+80(L+1)
     ∷ known 0x42 FromSensor 40 80 1 3 none none (any 24 ∷ spare 4 ∷ any 4 ∷ [])
     -- address, spare 33-34, UM; 40
     ∷ known 0x43 FromSensor 40 0 0 none none none (any 24 ∷ spare 2 ∷ any 6 ∷ [])

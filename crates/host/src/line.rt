@@ -27,10 +27,10 @@ const END: u32 = 121;
 
 // ---- the version of these calls
 
-// It grows with each change of a call and with each new one.
+// It grows with each new call, and whenever a call is changed or accepts more than before.
 const VERSION: u32 = 4;
 
-// Numbers keep their meaning. A call whose meaning would change under the same arguments gets a new name instead.
+// Numbers keep their meaning. A call that accepts more than before keeps its name; any other change of its meaning gives it a new name.
 #[no_mangle]
 pub extern "C" fn siamrung_version() -> u32
     ensures { λ r. ⌜ r ≡ version ⌝ }
