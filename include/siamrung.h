@@ -264,8 +264,8 @@ extern "C" {
 #define SIAMRUNG_FIELD_ITEM_EXP 204
 /* text of a tactical message, 56 bits; siamrung_field_text_place answers where an ELM's text is */
 #define SIAMRUNG_FIELD_ITEM_TEXT 205
-/* Length of an ELM, 4 bits; the ELM's text has 10 (LENGTH + 1) bytes. In ELM_DOWNLINK every value is in use: 0 is one segment, a text of 10 bytes.
- * In ELM_UPLINK 0 is not in use: its text has at least two segments, 20 bytes. */
+/* Length of an ELM, 4 bits; the ELM's text has 10 (LENGTH + 1) bytes. In ELM_DOWNLINK every value is in use; 0 means one segment of 10 bytes. In
+ * ELM_UPLINK 0 is not in use; the text has at least two segments. */
 #define SIAMRUNG_FIELD_ITEM_LENGTH 206
 #define SIAMRUNG_FIELD_ITEM_MSRC 207
 /* referenced number */

@@ -85,7 +85,7 @@ fn entry(bits: &str) -> String {
     }
 }
 
-// An ELM has as many segments of 80 bits as its Length, the last part, says and one.
+// An ELM has one segment of 80 bits more than its Length, the last part, says.
 fn elm_has_its_count(code: u8, bits: &str) -> bool {
     let text = match code {
         0x22 => 48,
@@ -197,7 +197,7 @@ fn damaged() -> String {
     cut + &filling
 }
 
-// ELMs with flags between them, of texts that make a whole number of bytes.
+// ELMs with a flag between each two. Their texts make the stream a whole number of bytes.
 fn elms() -> String {
     let downlink = |spare: u64, length: u64, bytes: usize| field(0x42, &[0xA1B2C3, spare, length]) + &"01000001".repeat(bytes);
     let uplink = |length: u64, bytes: usize| field(0x22, &[0xA1B2C3, 4, 1, 2, 0, length]) + &"01000001".repeat(bytes);

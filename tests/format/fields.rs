@@ -135,11 +135,12 @@ fn rule_of(name: &str) -> (&'static str, u32) {
 
 // What a cell says of a type: all that it says, or of "0 in 22, none in 42" the words before that type.
 fn of_type(cell: &str, code: u32) -> &str {
-    let by_type = |text| words(text).last().map_or(false, |last| last.len() == 2 && u32::from_str_radix(last, 16).is_ok()) && str::contains(text, " in ");
-    if !cell.split(", ").all(by_type) {
-        return cell;
+    let is_type = |text: &str| text.len() == 2 && u32::from_str_radix(text, 16).is_ok();
+    let said: Option<Vec<(&str, &str)>> = cell.split(", ").map(|text| text.rsplit_once(" in ").filter(|said| is_type(said.1))).collect();
+    match said {
+        Some(said) => said.iter().find(|said| said.1 == format!("{code:02X}")).map_or("nothing", |said| said.0),
+        None => cell,
     }
-    cell.split(", ").find_map(|text| text.strip_suffix(&format!(" in {code:02X}"))).unwrap_or("nothing")
 }
 
 pub fn link_fields(page: &[Table], specs: &[File], header: &Numbers, found: &mut Findings) {

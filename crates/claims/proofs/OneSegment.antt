@@ -97,17 +97,17 @@ spares s a = bitsOf s (a + 8 + 24) 4
 abbrev lengthIn : List ℕ → ℕ → ℕ
 lengthIn s a = bitsOf s (a + 8 + 24 + 4) 4
 
-spares-are : (s : List ℕ) (a : ℕ) → spares s a ≡ bits s (a + 33) (a + 36)
-spares-are s a =
-    let p : a + 8 + 24 ≡ a + 33 - 1 = omega arith in
-    let q : 4 ≡ a + 36 + 1 - (a + 33) = omega arith in
+part-is : (s : List ℕ) (a b k w : ℕ) → b ≡ a + k → bitsOf s b w ≡ bits s (a + suc k) (a + (k + w))
+part-is s a b k w e =
+    let p : b ≡ a + suc k - 1 = omega arith in
+    let q : w ≡ a + (k + w) + 1 - (a + suc k) = omega arith in
     λ i. bitsOf s (p i) (q i)
 
+spares-are : (s : List ℕ) (a : ℕ) → spares s a ≡ bits s (a + 33) (a + 36)
+spares-are s a = part-is s a (a + 8 + 24) 32 4 (omega arith)
+
 length-is : (s : List ℕ) (a : ℕ) → lengthIn s a ≡ bits s (a + 37) (a + 40)
-length-is s a =
-    let p : a + 8 + 24 + 4 ≡ a + 37 - 1 = omega arith in
-    let q : 4 ≡ a + 40 + 1 - (a + 37) = omega arith in
-    λ i. bitsOf s (p i) (q i)
+length-is s a = part-is s a (a + 8 + 24 + 4) 36 4 (omega arith)
 
 -- what is told of an ELM from the aircraft, by these tests: it comes from the sensor, its count fits, its spare bits are zero, its Length is 0
 abbrev elmBy : Bool → Bool → Bool → Bool → Field → Told
@@ -304,31 +304,31 @@ its-text : (s : List ℕ) (a : ℕ) → typeOf s a ≡ 0x42 → textIn s a ≡ (
 unfolding textIn table rows rowAt placeFrom
 its-text s a e = ap (λ (c : ℕ). byPlace (length s) (λ i. cond (eqb (rowAt i .step) 80) ((a + rowAt i .base) / 8) (length s)) (placeOf c)) e
 
+-- it is accepted, as the record that its bits make, and its text stands behind its first 40 bits
+one-read : (s : List ℕ) (n a : ℕ) (r : Record) → oneSegment s n FromSensor ≡ true → typeOf s a ≡ 0x42 → recordOf s n FromSensor ≡ r
+    → textPlace s (Accepted r) ≡ textIn s a → (answerOf s n FromSensor ≡ Accepted r) × (textOf s n FromSensor ≡ drop ((a + 40) / 8) s)
+unfolding textOf
+one-read s n a r one type means place =
+    let answer = one-segment-read s n FromSensor one .1 ∙ ap Accepted means in
+    (answer, ap (λ (x : Answer). drop (textPlace s x) s) answer ∙ ap (λ (k : ℕ). drop k s) (place ∙ its-text s a type))
+
 pub bare-read : BareRead
-unfolding opens wrongByteCount textOf
+unfolding opens wrongByteCount
 bare-read s long type spare nil =
     let shut : opens s 120 FromSensor ≡ false = rw type refl in
-    let start : startOf s 120 FromSensor ≡ 0 = ap (λ (b : Bool). cond b 16 0) shut in
-    let one = is-one s 120 0 start refl (rw long refl) type spare nil in
-    let means : recordOf s 120 FromSensor ≡ Single (ElmDownlink (bits s 9 32) 0) = rw shut (ap Single (its-record s 0 type ∙ ap (ElmDownlink (bits s 9 32)) nil)) in
-    let answer = one-segment-read s 120 FromSensor one .1 ∙ ap Accepted means in (
-      answer,
-      ap (λ (x : Answer). drop (textPlace s x) s) answer ∙ ap (λ (k : ℕ). drop k s) (its-text s 0 type),
-      omega (arith, long, length-drop 5 s),
-    )
+    let one = is-one s 120 0 (ap (λ (b : Bool). cond b 16 0) shut) refl (rw long refl) type spare nil in
+    let means = ap Single (its-record s 0 type ∙ ap (ElmDownlink (bits s 9 32)) nil) in
+    let k = one-read s 120 0 (Single (ElmDownlink (bits s 9 32) 0)) one type (rw shut means) refl in
+    (k .0, k .1, omega (arith, long, length-drop 5 s))
 
 pub relayed-read : RelayedRead
-unfolding opens fromSensor wrongByteCount textOf
+unfolding opens fromSensor wrongByteCount
 relayed-read s long type inner spare nil =
     let opened : opens s 136 FromSensor ≡ true = rw type refl in
-    let start : startOf s 136 FromSensor ≡ 16 = ap (λ (b : Bool). cond b 16 0) opened in
-    let one = is-one s 136 16 start refl (rw long refl) inner spare nil in
-    let means : recordOf s 136 FromSensor ≡ Relay (bits s 9 16) (ElmDownlink (bits s 25 48) 0) = rw opened (ap (Relay (bits s 9 16)) (its-record s 16 inner ∙ ap (ElmDownlink (bits s 25 48)) nil)) in
-    let answer = one-segment-read s 136 FromSensor one .1 ∙ ap Accepted means in (
-      answer,
-      ap (λ (x : Answer). drop (textPlace s x) s) answer ∙ ap (λ (k : ℕ). drop k s) (its-text s 16 inner),
-      omega (arith, long, length-drop 7 s),
-    )
+    let one = is-one s 136 16 (ap (λ (b : Bool). cond b 16 0) opened) refl (rw long refl) inner spare nil in
+    let means = ap (Relay (bits s 9 16)) (its-record s 16 inner ∙ ap (ElmDownlink (bits s 25 48)) nil) in
+    let k = one-read s 136 16 (Relay (bits s 9 16) (ElmDownlink (bits s 25 48) 0)) one inner (rw opened means) refl in
+    (k .0, k .1, omega (arith, long, length-drop 7 s))
 
 -- ---- type 22
 
@@ -415,36 +415,42 @@ taken-before r l t = ⊎-elim other elm-taken (of-field (fieldIn r))
         taken-elm r l t (k .0) (k .1) (k .2)
         ∙ ap (λ (f : Field). takes r l t && not (eqb (getD (numbersOf f) 0 0) 0x42 && eqb (getD (numbersOf f) 3 0) 0)) (sym (k .2))
 
+-- a record of type 42 with Length 0
+zero-elm : (r : Record) → recordHasLength0 r ≡ true → (a : ℕ) × (fieldIn r ≡ ElmDownlink a 0)
+unfolding recordHasLength0
+zero-elm r z = ⊎-elim (λ e. differ (rw e at z)) is-elm (of-field (fieldIn r))
+  where
+    is-elm : (a : ℕ) × (c : ℕ) × (fieldIn r ≡ ElmDownlink a c) → (a : ℕ) × (fieldIn r ≡ ElmDownlink a 0)
+    is-elm k = (k .0, k .2 ∙ ap (ElmDownlink (k .0)) (eqb-true (k .1) 0 (rw (k .2) at z)))
+
 -- its bits
 elm-bits : (r : Record) (a : ℕ) → fieldIn r ≡ ElmDownlink a 0 → bitsIn r ≡ headBits r + 120
 unfolding bitsIn table rows rowAt placeFrom countIn sizeIn
 elm-bits r a e = rw e refl
 
-zero-bits : (r : Record) → recordHasLength0 r ≡ true → bitsIn r ≡ headBits r + 120
-unfolding recordHasLength0
-zero-bits r z = ⊎-elim (λ e. differ (rw e at z)) is-elm (of-field (fieldIn r))
-  where
-    is-elm : (a : ℕ) × (c : ℕ) × (fieldIn r ≡ ElmDownlink a c) → bitsIn r ≡ headBits r + 120
-    is-elm k =
-        let c : k .1 ≡ 0 = eqb-true (k .1) 0 (rw (k .2) at z) in
-        elm-bits r (k .0) (k .2 ∙ ap (ElmDownlink (k .0)) c)
-
 -- what the writer takes of it
-bare-takes : (address : ℕ) (l : List ℤ) (t : List ℕ) → takes (Single (ElmDownlink address 0)) l t ≡ oneSegmentFits address l t
-unfolding takes takesAt headFits fitAll table rows rowAt placeFrom widths widthsAt rules rulesAt hasFault countIn listedBy textLengthBy
-bare-takes address l t = simp (and-true)
+head-fits : (r : Record) → headFits 15 r ≡ sensorFits r
+unfolding headFits relaysAt fromSensor table rows rowAt
+head-fits (Single f) = refl
+head-fits (Relay sensor f) = and-true (ltb sensor (2 ^ 8))
+
+elm-takes : (r : Record) (address : ℕ) (l : List ℤ) (t : List ℕ) → fieldIn r ≡ ElmDownlink address 0 → takes r l t ≡ (sensorFits r && oneSegmentFits address l t)
+unfolding takes takesAt fitAll table rows rowAt placeFrom widths widthsAt rules rulesAt hasFault countIn listedBy textLengthBy
+elm-takes r address l t e =
+    rw e (ap (λ (b : Bool). headFits 15 r && (b && (listFits 80 0 l && eqb (length t) 10))) (and-true (ltb address (2 ^ 24)))
+    ∙ ap (λ (b : Bool). b && oneSegmentFits address l t) (head-fits r))
 
 pub bare-written : BareWritten
 unfolding writtenOf
-bare-written address l t s = rw (bare-takes address l t, elm-bits (Single (ElmDownlink address 0)) address refl) refl
-
-relayed-takes : (sensor address : ℕ) (l : List ℤ) (t : List ℕ) → takes (Relay sensor (ElmDownlink address 0)) l t ≡ (ltb sensor (2 ^ 8) && oneSegmentFits address l t)
-unfolding takes takesAt headFits relaysAt fromSensor fitAll table rows rowAt placeFrom widths widthsAt rules rulesAt hasFault countIn listedBy textLengthBy
-relayed-takes sensor address l t = simp (and-true)
+bare-written address l t s =
+    let r = Single (ElmDownlink address 0) in
+    rw (elm-takes r address l t refl, elm-bits r address refl) refl
 
 pub relayed-written : RelayedWritten
 unfolding writtenOf
-relayed-written sensor address l t s = rw (relayed-takes sensor address l t, elm-bits (Relay sensor (ElmDownlink address 0)) address refl) refl
+relayed-written sensor address l t s =
+    let r = Relay sensor (ElmDownlink address 0) in
+    rw (elm-takes r address l t refl, elm-bits r address refl) refl
 
 -- nothing of type 22 with Length 0
 uplink-unused : (address number priority exp : ℕ) → hasFault 2 (rulesAt 1) (numbersOf (ElmUplink address number priority exp 0)) ≡ true
@@ -461,31 +467,23 @@ pub uplink-written : UplinkWritten
 unfolding writtenOf
 uplink-written r address number priority exp l t s e = rw (uplink-takes r address number priority exp l t e) refl
 
--- a record of type 42 with Length 0 is taken exactly where all of it fits
+-- such a record is taken exactly where all of it fits
 zero-takes : (r : Record) (l : List ℤ) (t : List ℕ) → (recordHasLength0 r && takes r l t) ≡ oneSegmentIn r l t
-unfolding recordHasLength0
 zero-takes r l t = go (recordHasLength0 r) refl
   where
-    taken : (r : Record) (a : ℕ) → fieldIn r ≡ ElmDownlink a 0 → takes r l t ≡ (sensorFits r && oneSegmentFits (getD (numbersIn r) 1 0) l t)
-    taken (Single f) a e = rw e (bare-takes a l t)
-    taken (Relay x f) a e = rw e (relayed-takes x a l t)
-
-    is-elm : recordHasLength0 r ≡ true → (a : ℕ) × (c : ℕ) × (fieldIn r ≡ ElmDownlink a c)
-        → takes r l t ≡ (sensorFits r && oneSegmentFits (getD (numbersIn r) 1 0) l t)
-    is-elm z k =
-        let c : k .1 ≡ 0 = eqb-true (k .1) 0 (rw (k .2) at z) in
-        taken r (k .0) (k .2 ∙ ap (ElmDownlink (k .0)) c)
-
     go : (b : Bool) → recordHasLength0 r ≡ b → (b && takes r l t) ≡ (b && (sensorFits r && oneSegmentFits (getD (numbersIn r) 1 0) l t))
     go false e = refl
-    go true e = ⊎-elim (λ q. differ (rw q at e)) (is-elm e) (of-field (fieldIn r))
+    go true e =
+        let k = zero-elm r e in
+        elm-takes r (k .0) l t (k .1) ∙ ap (λ (f : Field). sensorFits r && oneSegmentFits (getD (numbersOf f) 1 0) l t) (sym (k .1))
 
 pub one-segment-written : OneSegmentWritten
 unfolding writtenOf formerWritten
 one-segment-written r l t s e =
     let k = both-true (recordHasLength0 r) (takes r l t) (zero-takes r l t ∙ e) in
     let before : formerTakes r l t ≡ false = taken-before r l t ∙ rw (k .0, k .1) refl in
-    (rw before refl, rw before refl, rw (k .1, ← zero-bits r (k .0)) refl)
+    let f = zero-elm r (k .0) in
+    (rw before refl, rw before refl, rw (k .1, ← elm-bits r (f .0) (f .1)) refl)
 
 pub others-written-as-before : OthersWrittenAsBefore
 unfolding writtenOf leftOf formerWritten

@@ -92,8 +92,8 @@ formerLeft r l t s = leftBy (formerWritten r l t s) s (putIn r l t s)
 unfoldable pub hasLength0 : List ℕ → ℕ → Bool
 hasLength0 s a = eqb (typeOf s a) 0x42 && eqb (bits s (a + 37) (a + 40)) 0
 
--- and it is one segment, with nothing wrong: it has 120 bits (else 26), its bytes are those of the count (else 21), it comes from the sensor
--- (else 25), and its spare bits 33-36 are zero (else 27)
+-- and it is one segment, with nothing wrong. Behind the first a bits it has 120 (26 asks this), the bytes are those of the count (21), it comes from
+-- the sensor (25), and its spare bits 33-36 are zero (27)
 unfoldable pub oneSegmentAt : List ℕ → ℕ → ℕ → Direction → Bool
 oneSegmentAt s n a w = hasLength0 s a && (eqb n (a + 120) && (not (wrongByteCount s n) && (fromSensor w && eqb (bits s (a + 33) (a + 36)) 0)))
 
@@ -132,7 +132,7 @@ abbrev pub UplinkRead : Type 0
 UplinkRead =
     (s : List ℕ) → length s ≡ 16 → bits s 1 8 ≡ 0x22 → bits s 41 44 ≡ 0 → bits s 45 48 ≡ 0 → answerOf s 128 ToSensor ≡ Refused ValueNotInUse
 
--- 27 is what it was. 28 was given for what it is given for now, and for type 42 with Length 0, for which it is not given now
+-- the condition of 27 is what it was. That of 28 was today's, or type 42 with Length 0; for these today's does not hold
 abbrev pub NotInUseBefore : Type 0
 NotInUseBefore =
     (s : List ℕ) (a : ℕ) → (formerSpareBitSet s a ≡ spareBitSet s a)
@@ -190,7 +190,7 @@ UplinkWritten =
     (r : Record) (address number priority exp : ℕ) (l : List ℤ) (t s : List ℕ) → fieldIn r ≡ ElmUplink address number priority exp 0
     → writtenOf r l t s ≡ W.Refused NotWritable
 
--- the writer took what it takes now, except records of type 42 with Length 0
+-- the writer took what it takes now, but no record of type 42 with Length 0
 abbrev pub TakenBefore : Type 0
 TakenBefore = (r : Record) (l : List ℤ) (t : List ℕ) → formerTakes r l t ≡ (takes r l t && not (recordHasLength0 r))
 
