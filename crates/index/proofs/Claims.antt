@@ -1,0 +1,219 @@
+-- The claims of specs/Claims.antt: the refusals by the rows, the table after calls by Calls.antt, what is found by Afresh.antt, and a line by the law
+-- of lines that each run gets one outcome. Assumes nothing.
+use Prim.Native.Nat.{ℕ, _≤_}
+use mathlib.Core.Bool.{Bool, true, false, not, cond, _||_}
+use mathlib.Core.List.{List, [], _∷_, _++_, map}
+use mathlib.Core.Logic.{_↔_}
+use mathlib.Core.Path.{_≡_, refl, sym, ap, _∙_}
+use native.Mathlib.Omega.{arith}
+use lib.Dec.{eqb}
+use lib.ListN.{length, drop, length-append, take-append-drop}
+use lib.Seq.{drop-at}
+use borrow.Author.Tests.{eqb-false, eq-eqb, ne-eqb, ltb-false}
+use Rattle.rows.specs.Rows.{Row, firstOf}
+use Rattle.rows.proofs.Claims as law
+use Rattle.words.proofs.Tests.{picked, passed, by-test}
+use Rattle.reports.specs.declared.RunAnswer.{RunAnswer}
+use Rattle.lines.specs.declared.Outcome.{Outcome}
+use Rattle.lines.specs.Line.{most as mostWords, endOf, outcomes}
+use Rattle.lines.specs.Stretches.{Run, runs}
+use Rattle.lines.specs.Claims.{alone}
+use Rattle.lines.proofs.Runs.{All, all-runs}
+use Rattle.lines.proofs.Outcomes.{alone-free, one-each}
+use Rattle.index.specs.declared.Entry.{Entry}
+use Rattle.index.specs.declared.Indexed.{Indexed}
+use Rattle.index.specs.declared.Indexed.the-variants as I
+use Rattle.index.specs.declared.Found.{Found}
+use Rattle.index.specs.declared.Found.the-variants as F
+use Rattle.index.specs.declared.IndexRefusal.the-variants.{TableBroken, TableFull}
+use Rattle.index.specs.Entries.{uncorrelated, entryOf}
+use Rattle.index.specs.Table.{most, numbersOf, holds, placeOf, usedIn, brokenRows, isBroken}
+use Rattle.index.specs.Indexing.{enterRows, taken, indexed, leftBy, findRows, found}
+use Rattle.index.specs.Afresh.{afresh, after, notRefused, broughtBy, reportsOf}
+use Rattle.index.specs.Claims.{EnterRefuses, FindRefuses, BrokenExactly, FullExactly, RefusedStays, NotEntered, HoldsIndex, FromUnused, GoesOn, NeverBroken, RoomForAll, FoundIsLatest, OverALine}
+use Rattle.index.proofs.Afresh.{firstWith, afresh-own, latest-first}
+use Rattle.index.proofs.Sound.{first-front, sound, used-in-front, none-broken, behind, answerBy, answered, zero-stays, found-first}
+use Rattle.index.proofs.History.{Stands, stays-sound, calls-stand, room}
+
+-- ---- the refusals
+
+-- an answer that is no refusal
+abbrev enters : Indexed → Bool
+enters (I.Entered i) = true
+enters (I.Replaced i) = true
+enters I.Left = true
+enters (I.Refused q) = false
+
+taken-enters : (held : Bool) (i j : ℕ) → enters (cond held (I.Replaced i) (I.Entered j)) ≡ true
+taken-enters true i j = refl
+taken-enters false i j = refl
+
+pub enter-refuses : EnterRefuses
+unfolding indexed
+enter-refuses table x q =
+    let ns = numbersOf table in
+    law.refused-exactly Indexed enters (enterRows table x) (taken ns x) (I.Refused q) (taken-enters (holds x ns) (placeOf x ns) (placeOf uncorrelated ns)) refl
+
+abbrev finds : Found → Bool
+finds (F.At i) = true
+finds F.Missing = true
+finds (F.Refused q) = false
+
+pub find-refuses : FindRefuses
+unfolding found
+find-refuses table x q = law.refused-exactly Found finds (findRows table x) (F.At (placeOf x (numbersOf table))) (F.Refused q) refl refl
+
+-- where no row behind those of 50 answers as they do, which is said as 0 ≡ 1, their answer is given exactly for a broken table
+exactly : {A : Type 0} (broken : A) (table : List Entry) (more : List (Row A)) (other : A) → (firstOf more other ≡ broken → _≡_ {A = ℕ} 0 1)
+    → (firstOf (brokenRows broken table ++ more) other ≡ broken) ↔ (isBroken table ≡ true)
+exactly broken table more other never =
+    let k = behind broken table more other in (
+      λ e. by-test (isBroken table) (λ t. t) (λ t. let z = never (sym (k ∙ passed _ _ t) ∙ e) in absurd (omega arith)),
+      λ t. k ∙ picked _ _ t,
+    )
+
+enter-other : (a b c : Bool) (i j : ℕ)
+    → cond a I.Left (cond b (I.Refused TableFull) (cond c (I.Replaced i) (I.Entered j))) ≡ I.Refused TableBroken → _≡_ {A = ℕ} 0 1
+enter-other true b c i j e = cc
+enter-other false true c i j e = cc
+enter-other false false true i j e = cc
+enter-other false false false i j e = cc
+
+find-other : (a b : Bool) (i : ℕ) → cond a F.Missing (cond b F.Missing (F.At i)) ≡ F.Refused TableBroken → _≡_ {A = ℕ} 0 1
+find-other true b i e = cc
+find-other false true i e = cc
+find-other false false i e = cc
+
+pub broken-exactly : BrokenExactly
+unfolding indexed found
+broken-exactly table x =
+    let ns = numbersOf table in (
+      exactly (I.Refused TableBroken) table (drop 3 (enterRows table x)) (taken ns x)
+          (enter-other (eqb x uncorrelated) (not (holds x ns || holds uncorrelated ns)) (holds x ns) (placeOf x ns) (placeOf uncorrelated ns)),
+      exactly (F.Refused TableBroken) table (drop 3 (findRows table x)) (F.At (placeOf x ns))
+          (find-other (eqb x uncorrelated) (not (holds x ns)) (placeOf x ns)),
+    )
+
+-- 51 is given only where none of the tests before it holds
+full-when : (broken zero′ held room : Bool) (ns : List ℕ) (x : ℕ) → answerBy broken zero′ held room ns x ≡ I.Refused TableFull
+    → (broken ≡ false) × (zero′ ≡ false) × (held ≡ false) × (room ≡ false)
+full-when true z h r ns x e = (cc, cc, cc, cc)
+full-when false true h r ns x e = (cc, cc, cc, cc)
+full-when false false true r ns x e = (cc, cc, cc, cc)
+full-when false false false true ns x e = (cc, cc, cc, cc)
+full-when false false false false ns x e = (refl, refl, refl, refl)
+
+pub full-exactly : FullExactly
+full-exactly table x =
+    let ns = numbersOf table in
+    let a = answered table x in (
+      λ e.
+          let k = full-when (isBroken table) (eqb x uncorrelated) (holds x ns) (holds uncorrelated ns) ns x (sym a ∙ e) in
+          (k .0, eqb-false x uncorrelated (k .1), k .2, k .3),
+      λ k. a ∙ rw (k .0, ne-eqb x uncorrelated (k .1), k .2, k .3),
+    )
+
+pub refused-stays : RefusedStays
+refused-stays table e q h = rw h
+
+pub not-entered : NotEntered
+not-entered table e h z = (answered table (e .number) ∙ rw (h, eq-eqb (e .number) uncorrelated z), zero-stays table e z)
+
+-- ---- the table after calls
+
+holds-index : (seen first now : List Entry) → Stands (afresh seen) first now → HoldsIndex seen first now
+holds-index seen first now s =
+    let there : drop (length (afresh seen)) first ≡ s .rest = rw (s .was) (drop-at (s .old) (s .rest) (length (afresh seen)) (s .many)) in
+    let n = ap length (s .was) in
+    let m = s .many in
+    record {
+      is = rw there (s .is);
+      fits = omega (arith, length-append (s .old) (s .rest));
+      rest = rw there (s .unused);
+    }
+
+-- a table that is not broken is that of the reports in its used entries
+own : (table : List Entry) → isBroken table ≡ false → Stands (afresh (usedIn table)) table table
+own table h =
+    let k = used-in-front table h in
+    let both = sym (take-append-drop (placeOf uncorrelated (numbersOf table)) table) in
+    rw (afresh-own (usedIn table) (k .0))
+    (record { old = usedIn table; rest = drop (placeOf uncorrelated (numbersOf table)) table; was = both; many = refl; is = both; unused = k .1 })
+
+fits-most : (table : List Entry) → isBroken table ≡ false → length table ≤ most
+fits-most table h = ltb-false most (length table) (none-broken table h .0)
+
+went-on : (table es : List Entry) → isBroken table ≡ false → Stands (afresh (usedIn table ++ notRefused table es)) table (after table es)
+went-on table es h = calls-stand table (fits-most table h) es (usedIn table) table (own table h)
+
+pub goes-on : GoesOn
+goes-on table es h = holds-index (usedIn table ++ notRefused table es) table (after table es) (went-on table es h)
+
+-- a broken table stays so, and every call is refused
+broken-stays : (table es : List Entry) → isBroken table ≡ true → (after table es ≡ table) × (notRefused table es ≡ [])
+unfolding after notRefused
+broken-stays table [] h = (refl, refl)
+broken-stays table (e ∷ es) h = rw (broken-exactly table (e .number) .0 .1 h) (broken-stays table es h)
+
+pub from-unused : FromUnused
+unfolding afresh
+from-unused table es u =
+    let start : Stands [] table table = record { old = []; rest = table; was = refl; many = refl; is = refl; unused = u } in
+    by-test (isBroken table)
+    (λ b. let k = broken-stays table es b in rw (k .0, k .1) (holds-index [] table table start))
+    (λ b. holds-index (notRefused table es) table (after table es) (calls-stand table (fits-most table b) es [] table start))
+
+pub never-broken : NeverBroken
+never-broken = (
+  λ table s u. sound [] table tt u s,
+  λ table es h. stays-sound table (fits-most table h) (usedIn table ++ notRefused table es) (after table es) (went-on table es h),
+)
+
+pub room-for-all : RoomForAll
+room-for-all table es h fits = room table (fits-most table h) es (usedIn table) table (own table h) fits
+
+pub found-is-latest : FoundIsLatest
+found-is-latest table es x h z =
+    let seen = usedIn table ++ notRefused table es in
+    let s = went-on table es h in
+    let other = ne-eqb x uncorrelated z in
+    found-first (after table es) x (never-broken .1 table es h) other
+    ∙ ap (firstWith x) (s .is)
+    ∙ first-front x other (afresh seen) (s .rest) (s .unused)
+    ∙ sym (latest-first x seen other)
+
+-- ---- a line
+
+-- a call with number 0 behind the others changes nothing
+zero-behind : (table es : List Entry) (e : Entry) → e .number ≡ uncorrelated → after table (es ++ (e ∷ [])) ≡ after table es
+unfolding after
+zero-behind table [] e z = zero-stays table e z
+zero-behind table (x ∷ es) e z = zero-behind (leftBy (indexed table (x .number)) table x) es e z
+
+module _ (answer : List ℕ → RunAnswer) (scan : ℕ) where
+  abbrev brings : Outcome → Entry
+  brings o = entryOf o scan
+
+  -- a run's outcome brings what its words do
+  abbrev Same : Run → Type 0
+  Same r = brings (alone answer r) ≡ broughtBy answer scan r
+
+  all-bring : (n : ℕ) (rs : List Run) → All Same rs
+      → map brings (map (alone answer) rs ++ (endOf n ∷ [])) ≡ map (broughtBy answer scan) rs ++ (brings (endOf n) ∷ [])
+  all-bring n [] h = refl
+  all-bring n (r ∷ rs) h = λ i. h .0 i ∷ all-bring n rs (h .1) i
+
+  -- so do the outcomes of a line; the end brings number 0
+  line-brings : (line : List ℕ) → length line ≤ mostWords
+      → map brings (outcomes answer line) ≡ reportsOf answer scan line ++ (brings (endOf (length line)) ∷ [])
+  line-brings line m =
+      ap (map brings) (one-each answer line m)
+      ∙ all-bring (length line) (runs line)
+      (all-runs Same 0 (length line) (λ p w ws f a b. ap brings (alone-free answer p w ws (omega arith) f)) 0 [] line tt (omega arith) (omega arith))
+
+pub over-a-line : OverALine
+over-a-line answer line scan table m h =
+    let reports = reportsOf answer scan line in
+    let same : after table (map (λ o. entryOf o scan) (outcomes answer line)) ≡ after table reports =
+    ap (after table) (line-brings answer scan line m) ∙ zero-behind table reports (entryOf (endOf (length line)) scan) refl in
+    rw same (goes-on table reports h)

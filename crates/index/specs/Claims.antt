@@ -1,0 +1,102 @@
+-- What is claimed of the index (document 02, Ticket 3). Statements only, with what they need to be said; proofs/Afresh.antt and
+-- proofs/Claims.antt prove them.
+use Prim.Native.Nat.{ℕ, _+_, _≤_, _<_}
+use mathlib.Core.Logic.{_↔_}
+use mathlib.Core.Bool.{Bool, true, false}
+use mathlib.Core.List.{List, [], _∷_, _++_, map}
+use mathlib.Core.Path.{_≡_}
+use lib.ListN.{length, drop}
+use Rattle.rows.specs.Claims.{FirstIs}
+use Rattle.reports.specs.declared.RunAnswer.{RunAnswer}
+use Rattle.lines.specs.declared.Outcome.{Outcome}
+use Rattle.lines.specs.Line.{most as mostWords, outcomes}
+use Rattle.index.specs.declared.Entry.{Entry}
+use Rattle.index.specs.declared.Indexed.{Indexed}
+use Rattle.index.specs.declared.Indexed.the-variants as I
+use Rattle.index.specs.declared.Found.the-variants as F
+use Rattle.index.specs.declared.IndexRefusal.{IndexRefusal}
+use Rattle.index.specs.declared.IndexRefusal.the-variants.{TableBroken, TableFull}
+use Rattle.index.specs.Entries.{uncorrelated, entryOf}
+use Rattle.index.specs.Table.{most, numbersOf, anyUsed, holds, usedIn, isBroken}
+use Rattle.index.specs.Indexing.{enterRows, indexed, leftBy, findRows, found}
+use Rattle.index.specs.Afresh.{afresh, over, latest, after, notRefused, shown, reportsOf}
+
+-- ---- the refusals
+
+-- each of 50 and 51 is given exactly where its row is the first that holds
+abbrev pub EnterRefuses : Type 0
+EnterRefuses = (table : List Entry) (x : ℕ) (q : IndexRefusal) → (indexed table x ≡ I.Refused q) ↔ FirstIs (enterRows table x) (I.Refused q)
+
+abbrev pub FindRefuses : Type 0
+FindRefuses = (table : List Entry) (x : ℕ) (q : IndexRefusal) → (found table x ≡ F.Refused q) ↔ FirstIs (findRows table x) (F.Refused q)
+
+-- 50 is given exactly for a broken table, whatever the number is
+abbrev pub BrokenExactly : Type 0
+BrokenExactly =
+    (table : List Entry) (x : ℕ) →
+    ((indexed table x ≡ I.Refused TableBroken) ↔ (isBroken table ≡ true)) × ((found table x ≡ F.Refused TableBroken) ↔ (isBroken table ≡ true))
+
+-- 51 is given exactly for a table that is not broken and has no unused entry, and a number other than 0 that is not in it
+abbrev pub FullExactly : Type 0
+FullExactly =
+    (table : List Entry) (x : ℕ) →
+    (indexed table x ≡ I.Refused TableFull)
+    ↔ ((isBroken table ≡ false) × (x ≡ uncorrelated → ⊥) × (holds x (numbersOf table) ≡ false) × (holds uncorrelated (numbersOf table) ≡ false))
+
+-- both leave the table as it was
+abbrev pub RefusedStays : Type 0
+RefusedStays = (table : List Entry) (e : Entry) (q : IndexRefusal) → indexed table (e .number) ≡ I.Refused q → leftBy (indexed table (e .number)) table e ≡ table
+
+-- so does number 0: in a table that is not broken it is no refusal
+abbrev pub NotEntered : Type 0
+NotEntered =
+    (table : List Entry) (e : Entry) → isBroken table ≡ false → e .number ≡ uncorrelated →
+    (indexed table (e .number) ≡ I.Left) × (leftBy (indexed table (e .number)) table e ≡ table)
+
+-- ---- the table after calls
+
+-- no entry is used
+abbrev pub Unused : List Entry → Type 0
+Unused table = anyUsed (numbersOf table) ≡ false
+
+-- a table holds the index of the reports seen: they stand in front, the rest is as it was in the first table, and unused
+pub record HoldsIndex (seen first now : List Entry) : Type 0 where
+  pub is : now ≡ over seen first
+  pub fits : length (afresh seen) ≤ length first
+  pub rest : Unused (drop (length (afresh seen)) first)
+
+-- from a table of unused entries, after any history of calls: the index of the reports seen and not refused
+abbrev pub FromUnused : Type 0
+FromUnused = (table es : List Entry) → Unused table → HoldsIndex (notRefused table es) table (after table es)
+
+-- from any table that is not broken, which stands for the reports in its used entries
+abbrev pub GoesOn : Type 0
+GoesOn = (table es : List Entry) → isBroken table ≡ false → HoldsIndex (usedIn table ++ notRefused table es) table (after table es)
+
+-- 50 is never given for a table that calls made
+abbrev pub NeverBroken : Type 0
+NeverBroken =
+    ((table : List Entry) → length table ≤ most → Unused table → isBroken table ≡ false)
+    × ((table es : List Entry) → isBroken table ≡ false → isBroken (after table es) ≡ false)
+
+-- where the numbers of all reports fit into the table, no call is refused: the index is that of all reports
+abbrev pub RoomForAll : Type 0
+RoomForAll = (table es : List Entry) → isBroken table ≡ false → length (afresh (usedIn table ++ es)) ≤ length table → notRefused table es ≡ es
+
+-- what is found is the number's last report, among those seen and not refused
+abbrev pub FoundIsLatest : Type 0
+FoundIsLatest =
+    (table es : List Entry) (x : ℕ) → isBroken table ≡ false → (x ≡ uncorrelated → ⊥) →
+    shown (found (after table es) x) (after table es) ≡ latest x (usedIn table ++ notRefused table es)
+
+-- ---- a line
+
+-- the calls on all outcomes of a line, in order, leave what is worked out afresh from its reports: of those that are not refused, which are all where
+-- they fit (RoomForAll). The reports are said by the line's runs, without the reader
+abbrev pub OverALine : Type 0
+OverALine =
+    (answer : List ℕ → RunAnswer) (line : List ℕ) (scan : ℕ) (table : List Entry) → length line ≤ mostWords → isBroken table ≡ false →
+    HoldsIndex
+    (usedIn table ++ notRefused table (reportsOf answer scan line))
+    table
+    (after table (map (λ o. entryOf o scan) (outcomes answer line)))
