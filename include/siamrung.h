@@ -1,15 +1,15 @@
 /*
  * siamrung.h: the calls of the Siamrung converter for C and C++ programs. They read a line of words, write a report into a line, read a link
- * data field and write one, and read a frame of the communications channel and write one.
+ * data field and write one, read a frame of the communications channel and write one, and keep an index of the last report of each file number.
  *
  * Lines. A line is a slice of bytes: a pointer and the number of bytes. Two bytes are a word, high byte first. A line has at most 65,536
  * bytes, which are 32,768 words. An empty slice may be NULL with the length 0. A place is a number of words from the start of the line,
  * counted from 0. Every slice and every place gets an answer. What cannot be read gets a refusal; it is never passed over.
  *
  * Reading. A call that reads a line answers one number about the run of words at the place. It skips the idle words from the place on. From a
- * place inside a run, the run begins at that place. A call that reads writes nothing (but siamrung_frame_field, which copies). No call keeps anything, so any thread may call at any
- * time. A call reads its own run and no more of the line. So a program that goes from run to run by siamrung_after does work in proportion to
- * the line.
+ * place inside a run, the run begins at that place. A call that reads writes nothing (but siamrung_frame_field, which copies, and
+ * siamrung_index_enter, which writes into its table). No call keeps anything, so any thread may call at any time. A call reads its own run and no
+ * more of the line. So a program that goes from run to run by siamrung_after does work in proportion to the line.
  *
  * Writing. The program passes items: a slice of bytes, sixteen bytes an item. The first eight bytes are the item's number, the last eight are
  * its value, high byte first. A negative value is in two's complement. The items stand in any order. The program passes all items of that
@@ -18,9 +18,11 @@
  *
  * Frames. A stream of frames is counted in bits: see "calls that read a frame" below.
  *
+ * The index. The program keeps a table of entries and lends it to each call: see "calls of the index" below.
+ *
  * Versions. The numbers below keep their meaning: none is ever used for something else. siamrung_version grows with each change of the calls,
  * and of what they accept. Version 3 added the calls of frames. Version 4 accepts an ELM_DOWNLINK with LENGTH 0, alone and relayed, which was
- * refused (28, and 30 in writing). A call that accepts more than before keeps its name. If the meaning of a call changes in any other way under
+ * refused (28, and 30 in writing). Version 5 added the calls of the index. A call that accepts more than before keeps its name. If the meaning of a call changes in any other way under
  * the same arguments, it gets a new name, so that an old program does not link with it.
  */
 #ifndef SIAMRUNG_H
@@ -230,6 +232,27 @@ extern "C" {
 /* writing: the frame does not fit between the place and the count */
 #define SIAMRUNG_FRAME_REFUSAL_NO_ROOM 46
 
+/* ---- the index: what was done, as siamrung_index_done takes it out of an answer. The refusals of the index below are such numbers too */
+
+/* the report's number was not in the table: it took the first unused entry */
+#define SIAMRUNG_INDEX_ENTERED 123
+/* the report's number was in the table: this report has replaced the earlier one in its entry */
+#define SIAMRUNG_INDEX_REPLACED 124
+/* no number is entered for what stands at the place: the table is as it was */
+#define SIAMRUNG_INDEX_LEFT 125
+/* the number's entry was found */
+#define SIAMRUNG_INDEX_FOUND 126
+/* no entry has the number */
+#define SIAMRUNG_INDEX_MISSING 127
+
+/* ---- refusals of the index: the table is as it was */
+
+/* the table has more than 512 entries; or an entry with a number other than 0 stands after one with number 0; or two entries have the same number
+ * other than 0 */
+#define SIAMRUNG_INDEX_REFUSAL_TABLE_BROKEN 50
+/* entering: the report's number is not 0 and not in the table, and the table has no unused entry */
+#define SIAMRUNG_INDEX_REFUSAL_TABLE_FULL 51
+
 /*
  * ---- items of link data fields, for siamrung_field_has, siamrung_field_item and siamrung_field_write. Each has the bits that the document
  * gives it.
@@ -306,7 +329,7 @@ extern "C" {
 
 /* ---- calls that read a line */
 
-/* Answers the version of these calls: 4. It grows with each change of the calls, and of what they accept. */
+/* Answers the version of these calls: 5. It grows with each change of the calls, and of what they accept. */
 uint32_t siamrung_version(void);
 
 /* Answers what stands at the place: a kind of report, SIAMRUNG_KIND_REFUSED or SIAMRUNG_KIND_END. */
@@ -490,6 +513,57 @@ size_t siamrung_frame_write(uint8_t *bytes, size_t length, size_t count, size_t 
  */
 uint32_t siamrung_frame_write_refusal(const uint8_t *bytes, size_t length, size_t count, size_t place, uint32_t from_sensor, uint8_t control,
                                       const uint8_t *field, size_t field_length, size_t field_count);
+
+/*
+ * ---- calls of the index: the last report of each file number
+ *
+ * A table is an array of entries that the program declares, and the number of its entries, at most 512. An empty table may be NULL with 0 entries.
+ * An entry is used if its number is not 0; of an unused entry nothing else is looked at. So a new table is all zeros. The used entries stand first.
+ *
+ * ATCRBS, ATCRBS_CD, ATCRBS_MTD, ATCRBS_RDAS, MTD and RDAS reports have a file number (SIAMRUNG_ITEM_FILE). File number 0 means uncorrelated; it is
+ * never entered. A report with another number takes the first unused entry if its number is not in the table; else it replaces the earlier report in
+ * its number's entry, whatever the two scan numbers are. So the table has the numbers in the order in which they were first entered, each with its
+ * last report. Every other outcome (a report of another kind, a refusal of the line, the place or the run, the end) leaves the table as it is.
+ *
+ * An answer of a call has two parts: what was done, and the entry where it was done. siamrung_index_done and siamrung_index_entry take them out.
+ */
+
+/* An entry has sixteen bytes, with no gap. */
+typedef struct siamrung_entry {
+    /* the file number; 0 marks an unused entry */
+    uint16_t number;
+    /* the report's kind: SIAMRUNG_KIND_ATCRBS, SIAMRUNG_KIND_MTD and so on */
+    uint16_t kind;
+    /* the scan number that the program passed */
+    uint32_t scan;
+    /* the place of the run's first word on its line */
+    size_t place;
+} siamrung_entry;
+
+/* Takes out of an answer what was done: a SIAMRUNG_INDEX_ number, or the refusal 50 or 51. */
+static inline uint32_t siamrung_index_done(uint32_t answer)
+{
+    return answer % 256;
+}
+
+/* Takes out of an answer the entry, counted from 0, after ENTERED, REPLACED and FOUND. After any other answer it is 0 and means nothing. */
+static inline size_t siamrung_index_entry(uint32_t answer)
+{
+    return answer / 256;
+}
+
+/*
+ * Enters the report at the place, or behind the idle words there, with a scan number that the program chooses. siamrung_index_done takes out of the
+ * answer: 50 if the table is broken, whatever stands at the place; else LEFT if no number is entered for what stands there; else ENTERED or
+ * REPLACED, and siamrung_index_entry takes out which entry has the report; else 51. Only that entry is written. The table must not overlap the line.
+ */
+uint32_t siamrung_index_enter(siamrung_entry *table, size_t entries, const uint8_t *bytes, size_t length, size_t place, uint32_t scan);
+
+/*
+ * Looks for a number's entry, and writes nothing. siamrung_index_done takes out of the answer: 50 if the table is broken; else FOUND, and
+ * siamrung_index_entry takes out which entry it is; else MISSING. Number 0 and numbers above 65,535 are in no entry.
+ */
+uint32_t siamrung_index_find(const siamrung_entry *table, size_t entries, uint32_t number);
 
 #ifdef __cplusplus
 }
