@@ -59,16 +59,21 @@ pub fn numbered<'a>(from: impl Iterator<Item = &'a File>, head: &str) -> Vec<(St
     found
 }
 
+// The number of the lines "NAME = NUMBER": there is one at least, and all say the same.
+pub fn single(specs: &[File], name: &str) -> u32 {
+    let lines = specs.iter().flat_map(|file| file.2.lines()).filter_map(|line| line.split_once(" = "));
+    let mut numbers: Vec<u32> = lines.filter(|(left, _)| *left == name).map(|(_, right)| number(right).unwrap()).collect();
+    numbers.dedup();
+    assert_eq!(numbers.len(), 1, "the numbers of '{name} = ' are {numbers:?}");
+    numbers[0]
+}
+
 // The numbers of the kinds by the header's names: each report's, a frame's, and the two that are neither's. These stand in the crate of the
 // lines' calls and in that of the frames', and are the same in both.
 pub fn kinds(specs: &[File]) -> Vec<(String, u32)> {
     let mut found = numbered(specs.iter(), "kindNumber K.");
-    for (name, definition) in [("Refused", "refusedKind = "), ("End", "endKind = "), ("Frame", "frameKind = ")] {
-        let lines = specs.iter().flat_map(|file| file.2.lines()).filter_map(|line| line.strip_prefix(definition));
-        let mut numbers: Vec<u32> = lines.map(|line| number(line).unwrap()).collect();
-        numbers.dedup();
-        assert_eq!(numbers.len(), 1, "the numbers of '{definition}' are {numbers:?}");
-        found.push((name.into(), numbers[0]));
+    for (name, definition) in [("Refused", "refusedKind"), ("End", "endKind"), ("Frame", "frameKind")] {
+        found.push((name.into(), single(specs, definition)));
     }
     found
 }

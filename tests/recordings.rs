@@ -1,9 +1,14 @@
-// Makes the sample recordings of examples/recordings from fixed seeds, and what C programs must print of them, by tests/document.rs:
-// `recordings NAME` writes the bytes, `recordings NAME printed` what examples/recorder.c prints, `recordings NAME heights` what README.md's lines do.
+// Makes the sample recordings of examples/recordings, those of chance from fixed seeds, and what C programs must print of them, by
+// tests/document.rs: `recordings NAME` writes the bytes, `recordings NAME printed` what examples/recorder.c prints, `recordings NAME heights` what
+// README.md's lines do. `recordings track NUMBER FILE..` and `recordings refused FILE..` print what examples/track.c must say (tests/tracks.rs).
 //   story    a sensor that sends ATCRBS and Search reports, and then begins to send DABS reports in place of ATCRBS
 //   morning  every form, with idle words between
 //   damaged  the morning with bits turned over here and there
+//   scan1    some tracks, reports that belong to no track, and reports that have no file number
+//   scan2    the next scan: tracks that go on, that are lost, that are new, and a damaged report
+//   crowd    more tracks than a table has entries; it is made for the test only
 mod document;
+mod tracks;
 use document::*;
 use std::io::Write;
 
@@ -26,7 +31,7 @@ fn named<'a>(name: &str, nth: usize) -> &'a Form {
     all_forms().iter().filter(|f| f.name == name).nth(nth).unwrap()
 }
 
-fn recording(name: &str) -> Vec<u16> {
+fn random_line(name: &str) -> Vec<u16> {
     let mut random = Random(1980);
     let mut line = vec![IDLE; 3];
     for k in 0..60 {
@@ -49,22 +54,51 @@ fn recording(name: &str) -> Vec<u16> {
     line
 }
 
+fn recording(name: &str) -> Vec<u16> {
+    match name {
+        "scan1" => tracks::line(&tracks::SCAN1),
+        "scan2" => tracks::line(&tracks::SCAN2),
+        "crowd" => tracks::crowd(),
+        _ => random_line(name),
+    }
+}
+
+// Each run of a line: its place, and what stands there.
+fn runs(line: &[u16]) -> Vec<(usize, Read)> {
+    let (mut found, mut at) = (Vec::new(), 0);
+    for run in line.split(|w| *w == IDLE) {
+        if !run.is_empty() {
+            found.push((at, read(all_forms(), run)));
+        }
+        at += run.len() + 1;
+    }
+    found
+}
+
 // The value of a field in what `read` says of a report.
 fn value(said: &str, field: &str) -> Option<i64> {
     let words: Vec<&str> = said.split(' ').collect();
     words[1..].chunks(2).find(|pair| pair[0] == field).map(|pair| pair[1].parse().unwrap())
 }
 
-fn print_report(said: &str, at: usize, out: &mut String) {
-    let name = said.split(' ').next().unwrap();
-    *out += &format!("{at} {name}");
-    let four = ["SEARCH", "STROBE", "MAP", "STATUS", "RTQC"].contains(&name);
-    if let Some(azimuth) = value(said, "azimuth") {
+fn name_of(said: &str) -> &str {
+    said.split(' ').next().unwrap()
+}
+
+// Range, azimuth and time in their units; a Status has none.
+fn measures(said: &str) -> String {
+    let four = ["SEARCH", "STROBE", "MAP", "STATUS", "RTQC"].contains(&name_of(said));
+    value(said, "azimuth").map_or(String::new(), |azimuth| {
         let range = value(said, "range").or(value(said, "start")).unwrap() as f64;
         let circle = if four { 4096.0 } else { 8192.0 };
         let time = value(said, "time").unwrap_or(0) as f64;
-        *out += &format!(" {:.4} nmi {:.4} deg {:.3} s", range / if four { 8.0 } else { 128.0 }, azimuth as f64 * 360.0 / circle, time / 8.0);
-    }
+        format!(" {:.4} nmi {:.4} deg {:.3} s", range / if four { 8.0 } else { 128.0 }, azimuth as f64 * 360.0 / circle, time / 8.0)
+    })
+}
+
+fn print_report(said: &str, at: usize, out: &mut String) {
+    let name = name_of(said);
+    *out += &format!("{at} {name}{}", measures(said));
     // a Search report's own code is the AIMS code, which is another item
     for (field, shown, scale, unit) in [("altitude", "altitude", 100, " ft"), ("address", "address", 1, ""), ("code", "code", 1, ""), ("file", "file", 1, ""), ("run", "run length", 4, " ACP"), ("quality", "quality", 1, "")] {
         if let (Some(count), false) = (value(said, field), field == "code" && name == "SEARCH") {
@@ -76,35 +110,35 @@ fn print_report(said: &str, at: usize, out: &mut String) {
 
 fn reason(number: u8) -> &'static str {
     match number {
+        2 => "the recording has more than 65,536 bytes",
+        14 => "the recording has an odd number of bytes",
         3 => "a word has more than thirteen bits",
         4 => "a word has an even number of ones",
         5 => "the first word is of no known form",
         6 => "the run has not as many words as its first word says",
         7 => "bits 88 to 90 are not assigned",
         8 => "a zero or spare bit is one",
-        _ => "the altitude is minus zero",
+        9 => "the altitude is minus zero",
+        51 => "the table has no unused entry",
+        _ => panic!("no reason is known for {number}"),
     }
 }
 
 fn printed(line: &[u16]) -> String {
     let names = ["SEARCH", "STROBE", "MAP", "STATUS", "RTQC", "DABS", "DABS-CD", "DABS-MTD", "DABS-RDAS", "ATCRBS", "ATCRBS-CD", "ATCRBS-MTD", "ATCRBS-RDAS", "MTD", "RDAS"];
     let (mut out, mut counts, mut refused, mut heights) = (String::new(), [0; 15], 0, 0);
-    let mut at = 0;
-    for run in line.split(|w| *w == IDLE) {
-        if !run.is_empty() {
-            match read(all_forms(), run) {
-                Read::Report(said) => {
-                    print_report(&said, at, &mut out);
-                    counts[names.iter().position(|n| said.split(' ').next() == Some(n)).unwrap()] += 1;
-                    heights += value(&said, "altitude").iter().count();
-                }
-                Read::Refused(number, offset) => {
-                    refused += 1;
-                    out += &format!("{at} REFUSED {number} at {}: {}\n", at + offset, reason(number));
-                }
+    for (at, run) in runs(line) {
+        match run {
+            Read::Report(said) => {
+                print_report(&said, at, &mut out);
+                counts[names.iter().position(|n| name_of(&said) == *n).unwrap()] += 1;
+                heights += value(&said, "altitude").iter().count();
+            }
+            Read::Refused(number, offset) => {
+                refused += 1;
+                out += &format!("{at} REFUSED {number} at {}: {}\n", at + offset, reason(number));
             }
         }
-        at += run.len() + 1;
     }
     let reports: usize = counts.iter().sum();
     for (count, name) in counts.iter().zip(names).filter(|(count, _)| **count > 0) {
@@ -115,31 +149,30 @@ fn printed(line: &[u16]) -> String {
 
 // Each refusal, and each height in feet.
 fn heights(line: &[u16]) -> String {
-    let (mut out, mut at) = (String::new(), 0);
-    for run in line.split(|w| *w == IDLE) {
-        if !run.is_empty() {
-            match read(all_forms(), run) {
-                Read::Report(said) => {
-                    if let Some(height) = value(&said, "altitude") {
-                        out += &format!("{at} {} ft\n", 100 * height);
-                    }
+    let mut out = String::new();
+    for (at, run) in runs(line) {
+        match run {
+            Read::Report(said) => {
+                if let Some(height) = value(&said, "altitude") {
+                    out += &format!("{at} {} ft\n", 100 * height);
                 }
-                Read::Refused(number, _) => out += &format!("{at} refused {number}\n"),
             }
+            Read::Refused(number, _) => out += &format!("{at} refused {number}\n"),
         }
-        at += run.len() + 1;
     }
     out
 }
 
 fn main() {
     let words: Vec<String> = std::env::args().collect();
-    let line = recording(&words[1]);
-    let bytes = match words.get(2).map(String::as_str) {
-        None => line.iter().flat_map(|w| w.to_be_bytes()).collect(),
-        Some("printed") => printed(&line).into_bytes(),
-        Some("heights") => heights(&line).into_bytes(),
-        Some(other) => panic!("no such text: {other}"),
+    let files = |from: usize| words[from..].iter().map(|name| std::fs::read(name).unwrap()).collect::<Vec<Vec<u8>>>();
+    let bytes = match (&words[1][..], words.get(2).map(String::as_str)) {
+        ("track", Some(number)) => tracks::last(number.parse().unwrap(), &files(3)).into_bytes(),
+        ("refused", _) => tracks::refused(&files(2)).into_bytes(),
+        (name, None) => recording(name).iter().flat_map(|w| w.to_be_bytes()).collect(),
+        (name, Some("printed")) => printed(&recording(name)).into_bytes(),
+        (name, Some("heights")) => heights(&recording(name)).into_bytes(),
+        (_, Some(other)) => panic!("no such text: {other}"),
     };
     std::io::stdout().write_all(&bytes).unwrap();
 }
