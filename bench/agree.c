@@ -1,6 +1,6 @@
 /*
  * agree.c: both libraries answer the same, on every input that is measured and on many more: broken lines, every place, cut and turned
- * fields, damaged frames. A difference is printed and ends the program.
+ * fields, damaged frames, broken tables. A difference is printed and ends the program.
  */
 #include <stdio.h>
 #include <stdlib.h>
@@ -359,5 +359,117 @@ unsigned long agree_frames(unsigned rounds)
         same_frame_written(rnd() % 4096, rnd() % 64, bits);
         same_frame_written(rnd() % 64, rnd() % 2 ? rnd() % 70 : (size_t)-1, bits);
     }
+    return compared - before;
+}
+
+/* ---- the index */
+
+/* As many entries as a table may have, and some more. */
+#define TABLE 520
+
+/* A table, twice: the library enters into the one, plain C into the other. */
+struct twice {
+    siamrung_entry ours[TABLE], plain[TABLE];
+    size_t entries;
+};
+
+static void same_entered(struct twice *t, const uint8_t *b, size_t length, size_t at)
+{
+    uint32_t scan = (uint32_t)rnd();
+
+    same("index_enter", ours.index_enter(t->ours, t->entries, b, length, at, scan), plain.index_enter(t->plain, t->entries, b, length, at, scan),
+         b, length, at);
+    same("table", memcmp(t->ours, t->plain, sizeof t->ours), 0, b, length, at);
+}
+
+static void same_found(const struct twice *t, uint32_t number)
+{
+    same("index_find", ours.index_find(t->ours, t->entries, number), plain.index_find(t->plain, t->entries, number), NULL, 0, number);
+}
+
+/* Every run of a line entered, and places inside some; then numbers looked for. */
+static void whole_index(struct twice *t, const uint8_t *b, size_t length)
+{
+    size_t at = 0, next;
+    uint32_t track;
+
+    for (;; at = next) {
+        same_entered(t, b, length, at);
+        if (rnd() % 8 == 0)
+            same_entered(t, b, length, at + rnd() % 8);
+        next = plain.after(b, length, at);
+        if (next == at)
+            break;
+    }
+    same_entered(t, b, length, at + 1);
+    same_entered(t, b, length, (size_t)-1);
+    for (track = 0; track < 40; track += 1 + (uint32_t)rnd() % 4)
+        same_found(t, track_number(track));
+    same_found(t, 0);
+    same_found(t, 65536 + track_number(0));
+    same_found(t, (uint32_t)rnd());
+    same_found(t, t->entries == 0 ? 65535 : t->ours[rnd() % t->entries].number);
+}
+
+/* A table of that many entries: mostly sound, else with a gap, with a number once more, or with any number somewhere. What else stands in an
+ * unused entry is random. */
+static void random_table(struct twice *t, size_t entries)
+{
+    size_t i, used = rnd() % 4 ? rnd() % (entries + 1) : entries, from = rnd() % 32, at = rnd() % TABLE;
+
+    for (i = 0; i < TABLE; i++)
+        t->ours[i] = (siamrung_entry){i < used ? track_number(from + i) : 0, (uint16_t)rnd(), (uint32_t)rnd(), rnd()};
+    switch (rnd() % 8) {
+    case 0:
+        t->ours[at % (used + 1)].number = 0;
+        break;
+    case 1:
+        t->ours[at % (used + 1)].number = t->ours[rnd() % (used + 1)].number;
+        break;
+    case 2:
+        t->ours[at].number = (uint16_t)rnd();
+        break;
+    default:
+        break;
+    }
+    memcpy(t->plain, t->ours, sizeof t->ours);
+    t->entries = entries;
+}
+
+/* The lines that are measured, into an empty table of that many entries, and again into what that made. */
+static void measured_tables(struct twice *t, size_t entries)
+{
+    static uint8_t b[2 * 8192];
+
+    memset(t, 0, sizeof *t);
+    t->entries = entries;
+    tracks_16(b, sizeof b / 2);
+    whole_index(t, b, sizeof b);
+    tracks_512(b, sizeof b / 2);
+    whole_index(t, b, sizeof b);
+    whole_index(t, b, sizeof b);
+}
+
+unsigned long agree_index(unsigned rounds)
+{
+    static struct twice t;
+    static uint8_t b[MOST_BYTES + 2];
+    unsigned long before = compared;
+    unsigned i;
+
+    measured_tables(&t, 512);
+    measured_tables(&t, 16);
+    for (i = 0; i < 32 * rounds; i++) {
+        size_t n = 1 + rnd() % 200;
+        random_table(&t, rnd() % 2 ? rnd() % 40 : rnd() % 8 ? 500 + rnd() % 13 : 513 + rnd() % 7);
+        mixed_tracks(b, n);
+        turn(b, 2 * n, rnd() % 2 ? 0 : (unsigned)(rnd() % 8));
+        whole_index(&t, b, 2 * n - (rnd() % 16 == 0));
+    }
+    mixed_tracks(b, MOST_BYTES / 2 + 1);
+    whole_index(&t, b, MOST_BYTES + 1);
+    whole_index(&t, b, MOST_BYTES + 2);
+    same("index_enter without a table", ours.index_enter(NULL, 0, b, 64, 0, 1), plain.index_enter(NULL, 0, b, 64, 0, 1), b, 64, 0);
+    same("index_find without a table", ours.index_find(NULL, 0, 1), plain.index_find(NULL, 0, 1), NULL, 0, 1);
     return compared - before;
 }

@@ -1,7 +1,7 @@
 /*
  * bench.c: what the proved library costs beside plain C. It first compares the answers of both on all inputs (agree.c), then runs both
- * alternately on the same inputs and prints, of each job, how many words, fields or frames a second each does and the ratio: below 1 the
- * library is the slower one. Plain C reads and writes frames in two ways, and each has its rows.
+ * alternately on the same inputs and prints, of each job, how many words, fields, frames or reports a second each does and the ratio: below 1
+ * the library is the slower one. Plain C reads and writes frames in two ways, and each has its rows.
  *
  * bench [--small] [--emulated]   compare and measure; --small: once, on little; --emulated: each ratio is marked so, and decides nothing
  * bench --passes                 each job once by each library, through `pass`, for a tool that counts instructions
@@ -21,7 +21,7 @@
     {p##kind, p##refusal, p##has_values, p##first, p##after, p##named, p##nmi, p##degrees, p##seconds, p##has, p##item, p##write,           \
      p##write_refusal, p##field_refusal, p##field_type, p##field_inner_type, p##field_entries, p##field_text_place, p##field_text_length,   \
      p##field_has, p##field_item, p##field_entry, p##field_write, p##field_write_refusal, f##kind, f##refusal, f##from_sensor, f##control,  \
-     f##place, f##field_count, f##field, f##write, f##write_refusal}
+     f##place, f##field_count, f##field, f##write, f##write_refusal, p##index_enter, p##index_find}
 
 const struct calls ours = SIDE(siamrung_, siamrung_frame_), plain = SIDE(plain_, plain_frame_), plain_bytes = SIDE(plain_, plain_bytes_frame_);
 
@@ -34,6 +34,8 @@ struct input {
     uint8_t items[MOST_ITEMS];
     size_t items_length;
     uint8_t list[240];
+    siamrung_entry *table;
+    size_t entries;
 };
 
 typedef uint64_t job(const struct calls *c, struct input *in);
@@ -157,6 +159,39 @@ static uint64_t write_frame(const struct calls *c, struct input *in)
     return end + to[end / 8 - 1] + to[2];
 }
 
+#define SCAN 7
+
+/* From run to run, each place handed to the index. */
+static uint64_t index_on(const struct calls *c, struct input *in)
+{
+    size_t at = 0;
+    uint64_t sum = 0;
+
+    do {
+        sum = sum * 31 + c->index_enter(in->table, in->entries, in->bytes, in->length, at, SCAN);
+        at = c->after(in->bytes, in->length, at);
+    } while (at < in->length / 2);
+    return sum + in->table[in->entries / 2].place;
+}
+
+/* The same into an empty table. */
+static uint64_t index_afresh(const struct calls *c, struct input *in)
+{
+    memset(in->table, 0, in->entries * sizeof *in->table);
+    return index_on(c, in);
+}
+
+/* Each track of a full table looked for. */
+static uint64_t find_each(const struct calls *c, struct input *in)
+{
+    uint64_t sum = 0;
+    size_t track;
+
+    for (track = 0; track < in->entries; track++)
+        sum = sum * 31 + c->index_find(in->table, in->entries, track_number(track));
+    return sum;
+}
+
 /* ---- the table of jobs */
 
 struct row {
@@ -174,6 +209,18 @@ static unsigned rounds = 15;
 static double least = 4e-3;
 static const char *mark = "";
 
+/* A row beside plain C; the caller gives it its name. */
+static struct row *new_row(job *run, struct input *large, double units)
+{
+    struct row *r = &rows[row_count++];
+
+    r->run = run;
+    r->beside = &plain;
+    r->large = large;
+    r->units = units;
+    return r;
+}
+
 static struct input *line_of(fill_line *make, size_t n)
 {
     struct input *in = calloc(1, sizeof *in);
@@ -184,15 +231,13 @@ static struct input *line_of(fill_line *make, size_t n)
     return in;
 }
 
-static void add_line(const char *name, job *run, fill_line *make, size_t small, size_t large)
+/* Short lines that have as many words together as the long one. */
+static void add_short(struct row *r, fill_line *make, size_t small, size_t large)
 {
-    struct row *r = &rows[row_count++];
     struct input *one;
     unsigned i;
 
-    snprintf(r->name, sizeof r->name, "%s", name);
-    r->run = run;
-    r->beside = &plain;
+    r->small_units = r->units;
     r->pieces = (unsigned)(large / small);
     r->small = calloc(r->pieces, sizeof *r->small);
     for (i = 0; i < r->pieces; i++) {
@@ -200,8 +245,15 @@ static void add_line(const char *name, job *run, fill_line *make, size_t small, 
         r->small[i] = *one;
         free(one);
     }
+}
+
+static void add_line(const char *name, job *run, fill_line *make, size_t small, size_t large)
+{
+    struct row *r = new_row(run, NULL, (double)large);
+
+    snprintf(r->name, sizeof r->name, "%s", name);
+    add_short(r, make, small, large);
     r->large = line_of(make, large);
-    r->units = r->small_units = (double)large;
 }
 
 static void add_field(const char *name, unsigned type, int relayed)
@@ -225,25 +277,17 @@ static void add_field(const char *name, unsigned type, int relayed)
     for (k = 0; k < 30; k++)
         put_be64(in->list + 8 * k, (uint64_t)plain.field_entry(in->bytes, in->length, in->bits, in->way, k));
     for (k = 0; k < 2; k++) {
-        struct row *r = &rows[row_count++];
+        struct row *r = new_row(runs[k], in, 1);
         snprintf(r->name, sizeof r->name, "%s field %02X%s", k ? "write" : "read", type, name);
-            r->run = runs[k];
-        r->beside = &plain;
-        r->large = in;
-        r->units = 1;
     }
 }
 
 /* A row of frames, beside plain C by bits; add_by_bytes adds the other. */
 static struct row *frame_row(const char *what, const char *name, job *run, struct input *large, double units)
 {
-    struct row *r = &rows[row_count++];
+    struct row *r = new_row(run, large, units);
 
     snprintf(r->name, sizeof r->name, "%s%s: by bits", what, name);
-    r->run = run;
-    r->beside = &plain;
-    r->large = large;
-    r->units = units;
     return r;
 }
 
@@ -299,6 +343,48 @@ static void add_by_bytes(unsigned first)
     }
 }
 
+/* A table with a track in each entry, in another order than that in which the tracks come. */
+static void give_table(struct input *in, size_t entries)
+{
+    size_t i;
+
+    in->entries = entries;
+    in->table = calloc(entries, sizeof *in->table);
+    for (i = 0; i < entries; i++)
+        in->table[i].number = track_number((i * 5 + 3) % entries);
+}
+
+/* A line of n words, eight a report, and a table of that many entries. */
+static struct row *index_row(const char *state, job *run, fill_line *make, size_t entries, size_t n)
+{
+    struct row *r = new_row(run, line_of(make, n), (double)n / 8);
+
+    snprintf(r->name, sizeof r->name, "index of %u, %s: enter, after", (unsigned)entries, state);
+    give_table(r->large, entries);
+    return r;
+}
+
+/* A line of so many reports that all entries of the empty table are used at its end; and lines that are entered into a full table. */
+static void add_index(fill_line *make, size_t entries, size_t small, size_t large)
+{
+    struct row *r;
+    unsigned i;
+
+    index_row("begun empty", index_afresh, make, entries, 8 * (entries + entries / 7 + 1));
+    r = index_row("full", index_on, make, entries, large);
+    add_short(r, make, small, large);
+    for (i = 0; i < r->pieces; i++)
+        give_table(&r->small[i], entries);
+}
+
+static void add_find(size_t entries)
+{
+    struct row *r = new_row(find_each, calloc(1, sizeof *r->large), (double)entries);
+
+    snprintf(r->name, sizeof r->name, "index of %u, full: find", (unsigned)entries);
+    give_table(r->large, entries);
+}
+
 #define SHORT_LINE 1024
 
 static void make_rows(size_t large)
@@ -321,6 +407,9 @@ static void make_rows(size_t large)
     add_frame("2008 bits", 2008);
     add_stream(SHORT_LINE, large);
     add_by_bytes(frames);
+    add_index(tracks_512, 512, SHORT_LINE, large);
+    add_index(tracks_16, 16, SHORT_LINE, large);
+    add_find(512);
 }
 
 /* ---- the clock */
@@ -429,9 +518,10 @@ int main(int n, char **words)
     printf("same answers: %lu about lines, ", agree_lines(times));
     printf("%lu about writing, ", agree_writing(times));
     printf("%lu about fields, ", agree_fields(times));
-    printf("%lu about frames\n", agree_frames(times));
-    printf("millions of words (or fields, frames, bits of a stream) a second, their ratio, and the cost of a word on a line of %.0f words to that\n"
-           "on lines of %d (or of a bit on streams as long)\n%-40s %10s %10s %7s %9s %9s\n",
+    printf("%lu about frames, ", agree_frames(times));
+    printf("%lu about the index\n", agree_index(times));
+    printf("millions of words (or fields, frames, bits of a stream, reports entered, numbers found) a second, their ratio, and the cost of a\n"
+           "word (or report) on a line of %.0f words to that on lines of %d (or of a bit on streams as long)\n%-40s %10s %10s %7s %9s %9s\n",
            rows[0].units, SHORT_LINE, "", "siamrung", "plain C", "ratio", "siamrung", "plain C");
     for (i = 0; i < row_count; i++)
         print_row(&rows[i]);

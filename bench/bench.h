@@ -35,6 +35,8 @@ struct calls {
     size_t (*frame_field)(const uint8_t *, size_t, size_t, size_t, uint8_t *, size_t);
     size_t (*frame_write)(uint8_t *, size_t, size_t, size_t, uint32_t, uint8_t, const uint8_t *, size_t, size_t);
     uint32_t (*frame_write_refusal)(const uint8_t *, size_t, size_t, size_t, uint32_t, uint8_t, const uint8_t *, size_t, size_t);
+    uint32_t (*index_enter)(siamrung_entry *, size_t, const uint8_t *, size_t, size_t, uint32_t);
+    uint32_t (*index_find)(const siamrung_entry *, size_t, uint32_t);
 };
 
 /* plain goes through a frame bit by bit; plain_bytes by bytes and words, and is the same elsewhere. */
@@ -56,6 +58,16 @@ size_t report_items(uint32_t kind, uint8_t *items);
 typedef void fill_line(uint8_t *b, size_t n);
 fill_line full_line, idle_line, long_run, bad_words, bad_run;
 
+/* A line of n words full of ATCRBS reports of 512 or 16 tracks. Each eighth report is of a track that has come before; once all tracks have come,
+ * every report is. */
+fill_line tracks_512, tracks_16;
+
+/* A line of reports of every kind, of few tracks and of none. */
+fill_line mixed_tracks;
+
+/* The file number of a track, counted from 0: no two of the first 4,095 tracks have the same. */
+uint16_t track_number(size_t track);
+
 /* A random field of a type, relayed or not, its counts largest or random; answers its bits. bytes has room for 256. */
 size_t random_field(unsigned type, int relayed, int largest, uint8_t *bytes);
 
@@ -74,5 +86,6 @@ unsigned long agree_lines(unsigned rounds);
 unsigned long agree_writing(unsigned rounds);
 unsigned long agree_fields(unsigned rounds);
 unsigned long agree_frames(unsigned rounds);
+unsigned long agree_index(unsigned rounds);
 
 #endif

@@ -124,6 +124,58 @@ void bad_run(uint8_t *b, size_t n)
         put_word(b, i, i % 2 ? bad_word(i) : good_word());
 }
 
+/* ---- tracks */
+
+uint16_t track_number(size_t track)
+{
+    return (uint16_t)(1 + track * 1571 % 4095);
+}
+
+/* A report of that kind with that file number, if the kind has one. */
+static size_t put_track(uint8_t *b, size_t n, size_t place, uint32_t kind, uint16_t number)
+{
+    uint8_t items[MOST_ITEMS];
+    size_t length = report_items(kind, items), i;
+
+    for (i = 0; i < length; i += 16)
+        if (items[i + 7] == SIAMRUNG_ITEM_FILE)
+            put_be64(items + i + 8, number);
+    return plain_write(b, 2 * n, place, kind, items, length);
+}
+
+static void tracks_of(uint8_t *b, size_t n, size_t most)
+{
+    size_t place = 0, come = 0, i, track;
+
+    idle(b, n);
+    for (i = 0; place + 8 <= n; i++) {
+        track = come == most || i % 8 == 7 ? rnd() % come : come++;
+        place = put_track(b, n, place, SIAMRUNG_KIND_ATCRBS, track_number(track));
+    }
+}
+
+void tracks_512(uint8_t *b, size_t n)
+{
+    tracks_of(b, n, 512);
+}
+
+void tracks_16(uint8_t *b, size_t n)
+{
+    tracks_of(b, n, 16);
+}
+
+void mixed_tracks(uint8_t *b, size_t n)
+{
+    size_t place = 0;
+
+    idle(b, n);
+    while (place + 8 <= n) {
+        uint32_t kind = SIAMRUNG_KIND_SEARCH + (uint32_t)(rnd() % 15);
+        uint16_t number = rnd() % 8 ? track_number(rnd() % 24) : 0;
+        place = put_track(b, n, place, kind, number) + rnd() % 2;
+    }
+}
+
 /* ---- fields: random bytes, then what is spare or not in use mended */
 
 const unsigned types[21] = {

@@ -7,7 +7,7 @@
 
 #include <siamrung.h>
 
-/* ---- what a read finds, for plain_line.c and plain_lister.c: one decode of the run, an item at its number */
+/* ---- what a read finds, for plain_line.c, plain_index.c and plain_lister.c: one decode of the run, an item at its number */
 
 #define PLAIN_ITEMS 37
 
@@ -57,6 +57,9 @@ size_t plain_field_write(uint8_t *bytes, size_t length, uint32_t type, const uin
                          size_t list_length, const uint8_t *text, size_t text_length);
 uint32_t plain_field_write_refusal(const uint8_t *bytes, size_t length, uint32_t type, const uint8_t *items, size_t items_length,
                                    const uint8_t *list, size_t list_length, const uint8_t *text, size_t text_length);
+
+uint32_t plain_index_enter(siamrung_entry *table, size_t entries, const uint8_t *bytes, size_t length, size_t place, uint32_t scan);
+uint32_t plain_index_find(const siamrung_entry *table, size_t entries, uint32_t number);
 
 /* ---- shared by the two writers: items as siamrung.h gives them */
 
