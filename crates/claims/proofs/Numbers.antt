@@ -8,10 +8,11 @@ use lib.ListN.{getD}
 use Rattle.refusals.specs.declared.LineRefusal.the-variants as L
 use Rattle.refusals.specs.declared.FieldRefusal.the-variants as F
 use Rattle.frames.specs.declared.FrameRefusal.the-variants as R
+use Rattle.index.specs.declared.IndexRefusal.the-variants as X
 use Rattle.reports.specs.declared.kinds.Kind.the-variants as K
-use Rattle.claims.specs.Numbers.{Named, line, field, frame, kind, numberOf, NumbersDiffer, NoNumberIsZero}
+use Rattle.claims.specs.Numbers.{Named, line, field, frame, index, kind, numberOf, NumbersDiffer, NoNumberIsZero}
 
--- 1 to 11 and 14; 20 to 31; 40 to 46; 101 to 115
+-- 1 to 11 and 14; 20 to 31; 40 to 46; 50 and 51; 101 to 115
 abbrev named : ℕ → Named
 named n =
     cond (ltb n 20)
@@ -48,12 +49,14 @@ named n =
     ∷ [])
     (n - 20)
     F.NoRoom))
-    (cond (ltb n 100)
+    (cond (ltb n 50)
     (frame
     (getD
     (R.WrongLength ∷ R.ZeroMissing ∷ R.UnknownAddress ∷ R.WrongCheck ∷ R.CountOrFlag ∷ R.NoClosingFlag ∷ [])
     (n - 40)
     R.NoRoom))
+    (cond (ltb n 100)
+    (index (getD (X.TableBroken ∷ []) (n - 50) X.TableFull))
     (kind
     (getD
     (K.Search
@@ -72,7 +75,7 @@ named n =
     ∷ K.Mtd
     ∷ [])
     (n - 101)
-    K.Rdas))))
+    K.Rdas)))))
 
 back : (a : Named) → (named (numberOf a) ≡ a) × T (ltb 0 (numberOf a))
 back (line L.LineTooLong) = (refl, tt)
@@ -106,6 +109,8 @@ back (frame R.WrongLength) = (refl, tt)
 back (frame R.WrongCheck) = (refl, tt)
 back (frame R.UnknownAddress) = (refl, tt)
 back (frame R.NoRoom) = (refl, tt)
+back (index X.TableBroken) = (refl, tt)
+back (index X.TableFull) = (refl, tt)
 back (kind K.Search) = (refl, tt)
 back (kind K.Strobe) = (refl, tt)
 back (kind K.Map) = (refl, tt)

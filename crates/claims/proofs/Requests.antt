@@ -8,7 +8,8 @@ use Rattle.frames.proofs.Lent as lent
 use Rattle.frames.proofs.Lists as lists
 use Rattle.frames.proofs.Refused as refused
 use Rattle.frames.proofs.Zeros as zeros
-use Rattle.claims.specs.Requests.{ReadAndWriteThem, FlagsAndIdle, PlacesAnswered, TheWriter, TheirOwnRoundTrip, FrameRefusals, Ticket1, OneSegmentAccepted, UplinkKeepsItsMinimum, RefusalsLoseThisCase, Requests}
+use Rattle.index.proofs.Claims as index
+use Rattle.claims.specs.Requests.{ReadAndWriteThem, FlagsAndIdle, PlacesAnswered, TheWriter, TheirOwnRoundTrip, FrameRefusals, Ticket1, OneSegmentAccepted, UplinkKeepsItsMinimum, RefusalsLoseThisCase, TakesReportsWithANumber, EntersAndReplaces, EqualsTheOneWorkedOutAfresh, IndexRefusals, Requests}
 use Rattle.claims.proofs.Numbers.{numbers-differ, no-number-is-zero}
 use Rattle.claims.proofs.OneSegment as segment
 
@@ -90,6 +91,40 @@ lost = record {
   table = segment.rows-and-widths-stay;
 }
 
+-- ---- Ticket 3
+
+takes : TakesReportsWithANumber
+takes = record { number = index.number-as-printed; refused = λ q. refl; end = refl; left = index.not-entered }
+
+enters : EntersAndReplaces
+enters = record {
+  new = index.entered-exactly;
+  later-report = index.replaced-exactly;
+  kept = index.never-broken;
+  found = index.found-exactly;
+}
+
+afresh : EqualsTheOneWorkedOutAfresh
+afresh = record {
+  from-unused = index.from-unused;
+  goes-on = index.goes-on;
+  onward = index.onward;
+  all-fit = index.room-for-all;
+  line = index.over-a-line;
+  clicked = index.found-is-latest;
+}
+
+index-refusals : IndexRefusals
+index-refusals = record {
+  entering = index.enter-refuses;
+  finding = index.find-refuses;
+  broken = index.broken-exactly;
+  full = index.full-exactly;
+  stays = index.refused-stays;
+  numbers = numbers-differ;
+  none-is-0 = no-number-is-zero;
+}
+
 -- ---- all of them
 
 pub requests : Requests
@@ -103,4 +138,11 @@ requests = record {
     refusals = refusals;
   };
   ticket-2 = record { accepted = accepted; uplink = uplink; refusals = lost };
+  ticket-3 = record {
+    index-kept = λ table e. (_, _, record { answers = refl; leaves = refl }, λ b left w. (w .answers, w .leaves));
+    takes = takes;
+    enters = enters;
+    afresh = afresh;
+    refusals = index-refusals;
+  };
 }

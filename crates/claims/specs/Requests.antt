@@ -8,6 +8,13 @@ use Rattle.fields.specs.declared.Direction.{Direction}
 use Rattle.frames.specs.Frame.{frameOf, Fits}
 use Rattle.frames.specs.Writing.{Writes}
 use Rattle.frames.specs.Claims as frames
+use Rattle.refusals.specs.declared.LineRefusal.{LineRefusal}
+use Rattle.lines.specs.declared.What.the-variants as W
+use Rattle.index.specs.declared.Entry.{Entry}
+use Rattle.index.specs.declared.Indexed.{Indexed}
+use Rattle.index.specs.Entries.{uncorrelated, numberIn}
+use Rattle.index.specs.Indexing.{Indexes}
+use Rattle.index.specs.Claims as index
 use Rattle.claims.specs.Demands.{AllowsOne}
 use Rattle.claims.specs.Numbers.{NumbersDiffer, NoNumberIsZero}
 use Rattle.claims.specs.OneSegment as segment
@@ -118,8 +125,65 @@ pub record Ticket2 : Type 0 where
   pub uplink : UplinkKeepsItsMinimum
   pub refusals : RefusalsLoseThisCase
 
+-- ---- Ticket 3: last report per file number
+
+-- "Keep an index beside the line: a lent table of at most 512 entries, each with file number, kind, place of the run and scan number given by the
+-- caller." index/specs/Entries.antt has the entry of an outcome. Any table and any entry get one answer, and leave one table
+abbrev pub OneAnswerOneTable : Type 0
+OneAnswerOneTable =
+    (table : List Entry) (e : Entry) →
+    (a : Indexed) × (exit : List Entry) × Indexes table e a exit × ((b : Indexed) (left : List Entry) → Indexes table e b left → (b ≡ a) × (left ≡ exit))
+
+-- "It takes accepted ATCRBS, MTD and RDAS reports, substitution included; any other outcome leaves it as it is. File number 0 means uncorrelated and is
+-- never entered; it marks an unused entry." The number of an accepted run is said by the printed bits (number); a refused run and the end have
+-- none (refused, end); and without a number other than 0 the table is left (left)
+pub record TakesReportsWithANumber : Type 0 where
+  pub number : index.NumberAsPrinted
+  pub refused : (q : LineRefusal) → numberIn (W.Refused q) ≡ uncorrelated
+  pub end : numberIn W.End ≡ uncorrelated
+  pub left : index.NotEntered
+
+-- "Used entries stand first, and a new number takes the first unused one. A later report replaces the earlier in its entry." The calls keep such a
+-- table (kept); and a number's entry is found where it stands (found)
+pub record EntersAndReplaces : Type 0 where
+  pub new : index.EnteredExactly
+  pub later-report : index.ReplacedExactly
+  pub kept : index.NeverBroken
+  pub found : index.FoundExactly
+
+-- "The index must equal the one worked out afresh from the reports seen." Of the calls that were not refused: from a table of unused entries
+-- (from-unused), from any table that is not broken (goes-on), and on from there (onward). Where all numbers fit, no call is refused (all-fit). Over a
+-- line it is worked out from the line's runs (line). "Display users click a track and want its latest report": what is found is the last one seen
+-- (clicked)
+pub record EqualsTheOneWorkedOutAfresh : Type 0 where
+  pub from-unused : index.FromUnused
+  pub goes-on : index.GoesOn
+  pub onward : index.Onward
+  pub all-fit : index.RoomForAll
+  pub line : index.OverALine
+  pub clicked : index.FoundIsLatest
+
+-- "Refusals, in order: 50 table over 512, a used entry after an unused one, or a number held twice; 51 table full and a number other than 0 not in it.
+-- Both leave the table as it was."
+pub record IndexRefusals : Type 0 where
+  pub entering : index.EnterRefuses
+  pub finding : index.FindRefuses
+  pub broken : index.BrokenExactly
+  pub full : index.FullExactly
+  pub stays : index.RefusedStays
+  pub numbers : NumbersDiffer
+  pub none-is-0 : NoNumberIsZero
+
+pub record Ticket3 : Type 0 where
+  pub index-kept : OneAnswerOneTable
+  pub takes : TakesReportsWithANumber
+  pub enters : EntersAndReplaces
+  pub afresh : EqualsTheOneWorkedOutAfresh
+  pub refusals : IndexRefusals
+
 -- ---- all of them
 
 pub record Requests : Type 0 where
   pub ticket-1 : Ticket1
   pub ticket-2 : Ticket2
+  pub ticket-3 : Ticket3

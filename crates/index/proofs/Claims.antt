@@ -1,5 +1,5 @@
--- The claims of specs/Claims.antt: the refusals by the rows, the table after calls by Calls.antt, what is found by Afresh.antt, and a line by the law
--- of lines that each run gets one outcome. Assumes nothing.
+-- The claims of specs/Claims.antt: what is answered and refused by the rows, the table after calls by History.antt, what is found by Afresh.antt, and a
+-- line by the law of lines that each run gets one outcome. Assumes nothing.
 use Prim.Native.Nat.{ℕ, _≤_}
 use mathlib.Core.Bool.{Bool, true, false, not, cond, _||_}
 use mathlib.Core.List.{List, [], _∷_, _++_, map}
@@ -7,13 +7,23 @@ use mathlib.Core.Logic.{_↔_}
 use mathlib.Core.Path.{_≡_, refl, sym, ap, _∙_}
 use native.Mathlib.Omega.{arith}
 use lib.Dec.{eqb}
-use lib.ListN.{length, drop, length-append, take-append-drop}
-use lib.Seq.{drop-at}
+use lib.ListN.{length, take, drop, length-append, take-append-drop}
+use lib.Seq.{drop-at, length-take-le}
 use borrow.Author.Tests.{eqb-false, eq-eqb, ne-eqb, ltb-false}
 use Rattle.rows.specs.Rows.{Row, firstOf}
 use Rattle.rows.proofs.Claims as law
 use Rattle.words.proofs.Tests.{picked, passed, by-test}
+use Rattle.words.specs.Tests.{all}
+use Rattle.words.specs.Word.{bits, bit}
+use Rattle.reports.specs.declared.Height.{Height}
+use Rattle.reports.specs.declared.Report.{Report}
+use Rattle.reports.specs.declared.Report.the-variants as R
 use Rattle.reports.specs.declared.RunAnswer.{RunAnswer}
+use Rattle.reports.specs.declared.RunAnswer.the-variants as A
+use Rattle.reports.specs.Altitude.{AltitudeForm}
+use Rattle.reports.specs.Forms.{isSeven, isSearch, isStrobe, isStatus, isMap, isDabs, isMtdSearch, isRdasSearch}
+use Rattle.reports.specs.Records.{searchOf, strobeOf, statusOf, mapOf, rtqcOf, dabsOf, mtdOf, rdasOf, atcrbsOf, heightOf, fourOf, sevenOf, reportOf}
+use Rattle.reports.specs.Runs.{tableOf, isAccepted}
 use Rattle.lines.specs.declared.Outcome.{Outcome}
 use Rattle.lines.specs.Line.{most as mostWords, endOf, outcomes}
 use Rattle.lines.specs.Stretches.{Run, runs}
@@ -26,14 +36,68 @@ use Rattle.index.specs.declared.Indexed.the-variants as I
 use Rattle.index.specs.declared.Found.{Found}
 use Rattle.index.specs.declared.Found.the-variants as F
 use Rattle.index.specs.declared.IndexRefusal.the-variants.{TableBroken, TableFull}
-use Rattle.index.specs.Entries.{uncorrelated, entryOf}
+use Rattle.index.specs.Entries.{uncorrelated, fileOf, entryOf}
 use Rattle.index.specs.Table.{most, numbersOf, holds, placeOf, usedIn, brokenRows, isBroken}
 use Rattle.index.specs.Indexing.{enterRows, taken, indexed, leftBy, findRows, found}
 use Rattle.index.specs.Afresh.{afresh, after, notRefused, broughtBy, reportsOf}
-use Rattle.index.specs.Claims.{EnterRefuses, FindRefuses, BrokenExactly, FullExactly, RefusedStays, NotEntered, HoldsIndex, FromUnused, GoesOn, NeverBroken, RoomForAll, FoundIsLatest, OverALine}
+use Rattle.index.specs.Claims.{printedNumber, NumberAsPrinted, EnteredExactly, ReplacedExactly, FoundExactly, EnterRefuses, FindRefuses, BrokenExactly, FullExactly, RefusedStays, NotEntered, HoldsIndex, FromUnused, GoesOn, Onward, NeverBroken, RoomForAll, FoundIsLatest, OverALine}
 use Rattle.index.proofs.Afresh.{firstWith, afresh-own, latest-first}
 use Rattle.index.proofs.Sound.{first-front, sound, used-in-front, none-broken, behind, answerBy, answered, zero-stays, found-first}
 use Rattle.index.proofs.History.{Stands, stays-sound, calls-stand, room}
+
+-- ---- what is entered
+
+-- of a report by cases, the numbers by cases
+either : (b : Bool) (x y : Report) → fileOf (cond b x y) ≡ cond b (fileOf x) (fileOf y)
+either true x y = refl
+either false x y = refl
+
+-- four words have no file number
+four : (ws : List ℕ) → fileOf (fourOf ws) ≡ uncorrelated
+unfolding fourOf
+four ws = go (isSearch ws) (isStrobe ws) (isStatus ws) (isMap ws)
+  where
+    go : (a b c d : Bool)
+        → fileOf (cond a (R.Search (searchOf ws)) (cond b (R.Strobe (strobeOf ws)) (cond c (R.Status (statusOf ws)) (cond d (R.Map (mapOf ws)) (R.Rtqc (rtqcOf ws))))))
+        ≡ uncorrelated
+    go true b c d = refl
+    go false true c d = refl
+    go false false true d = refl
+    go false false false true = refl
+    go false false false false = refl
+
+-- seven words have it, but not a DABS
+seven : (form : AltitudeForm) (ws : List ℕ) → fileOf (sevenOf form ws) ≡ cond (isDabs ws) uncorrelated (bits ws 66 77)
+unfolding sevenOf
+seven form ws = go (isDabs ws) (isMtdSearch ws) (isRdasSearch ws) (heightOf form ws)
+  where
+    go : (a b c : Bool) (h : Height)
+        → fileOf (cond a (R.Dabs (dabsOf ws h)) (cond b (R.Mtd (mtdOf ws)) (cond c (R.Rdas (rdasOf ws)) (R.Atcrbs (atcrbsOf ws h)))))
+        ≡ cond a uncorrelated (bits ws 66 77)
+    go true b c h = refl
+    go false true c h = refl
+    go false false true h = refl
+    go false false false h = refl
+
+by-bits : (b c : Bool) (n : ℕ) → cond b (cond (all (b ∷ c ∷ [])) uncorrelated n) uncorrelated ≡ cond b (cond c uncorrelated n) uncorrelated
+by-bits true true n = refl
+by-bits true false n = refl
+by-bits false c n = refl
+
+by-form : (form : AltitudeForm) (ws : List ℕ) → fileOf (reportOf form ws) ≡ printedNumber ws
+unfolding reportOf
+by-form form ws =
+    either (isSeven ws) (sevenOf form ws) (fourOf ws)
+    ∙ ap (λ (n : ℕ). cond (isSeven ws) n (fileOf (fourOf ws))) (seven form ws)
+    ∙ ap (λ (n : ℕ). cond (isSeven ws) (cond (isDabs ws) uncorrelated (bits ws 66 77)) n) (four ws)
+    ∙ by-bits (isSeven ws) (bit ws 4) (bits ws 66 77)
+
+-- an accepted run is the report of its words
+pub number-as-printed : NumberAsPrinted
+number-as-printed form ws r e =
+    let is = law.accepted-exactly RunAnswer isAccepted (tableOf form ws) (A.Accepted (reportOf form ws)) (A.Accepted r) (refl, (refl, (refl, (refl, (refl, (refl, (refl, tt))))))) refl .0 e in
+    let same : reportOf form ws ≡ r = (let k = is .1 in cc) in
+    ap fileOf (sym same) ∙ by-form form ws
 
 -- ---- the refusals
 
@@ -113,6 +177,59 @@ full-exactly table x =
       λ k. a ∙ rw (k .0, ne-eqb x uncorrelated (k .1), k .2, k .3),
     )
 
+entered-when : (b z h r : Bool) (ns : List ℕ) (x i : ℕ) → answerBy b z h r ns x ≡ I.Entered i
+    → (b ≡ false) × (z ≡ false) × (h ≡ false) × (r ≡ true) × (placeOf uncorrelated ns ≡ i)
+entered-when true z h r ns x i e = (cc, cc, cc, cc, cc)
+entered-when false true h r ns x i e = (cc, cc, cc, cc, cc)
+entered-when false false true r ns x i e = (cc, cc, cc, cc, cc)
+entered-when false false false true ns x i e = (cc, cc, cc, cc, cc)
+entered-when false false false false ns x i e = (cc, cc, cc, cc, cc)
+
+pub entered-exactly : EnteredExactly
+entered-exactly table x i =
+    let ns = numbersOf table in
+    let a = answered table x in (
+      λ e.
+          let k = entered-when (isBroken table) (eqb x uncorrelated) (holds x ns) (holds uncorrelated ns) ns x i (sym a ∙ e) in
+          (k .0, eqb-false x uncorrelated (k .1), k .2, k .3, k .4),
+      λ k. a ∙ rw (k .0, ne-eqb x uncorrelated (k .1), k .2, k .3, k .4),
+    )
+
+replaced-when : (b z h r : Bool) (ns : List ℕ) (x i : ℕ) → answerBy b z h r ns x ≡ I.Replaced i → (b ≡ false) × (z ≡ false) × (h ≡ true) × (placeOf x ns ≡ i)
+replaced-when true z h r ns x i e = (cc, cc, cc, cc)
+replaced-when false true h r ns x i e = (cc, cc, cc, cc)
+replaced-when false false true r ns x i e = (cc, cc, cc, cc)
+replaced-when false false false true ns x i e = (cc, cc, cc, cc)
+replaced-when false false false false ns x i e = (cc, cc, cc, cc)
+
+pub replaced-exactly : ReplacedExactly
+replaced-exactly table x i =
+    let ns = numbersOf table in
+    let a = answered table x in (
+      λ e.
+          let k = replaced-when (isBroken table) (eqb x uncorrelated) (holds x ns) (holds uncorrelated ns) ns x i (sym a ∙ e) in
+          (k .0, eqb-false x uncorrelated (k .1), k .2, k .3),
+      λ k. a ∙ rw (k .0, ne-eqb x uncorrelated (k .1), k .2, k .3),
+    )
+
+found-when : (b z h : Bool) (p i : ℕ) → cond b (F.Refused TableBroken) (cond z F.Missing (cond (not h) F.Missing (F.At p))) ≡ F.At i
+    → (b ≡ false) × (z ≡ false) × (h ≡ true) × (p ≡ i)
+found-when true z h p i e = (cc, cc, cc, cc)
+found-when false true h p i e = (cc, cc, cc, cc)
+found-when false false true p i e = (cc, cc, cc, cc)
+found-when false false false p i e = (cc, cc, cc, cc)
+
+pub found-exactly : FoundExactly
+unfolding found
+found-exactly table x i =
+    let ns = numbersOf table in
+    let a = behind (F.Refused TableBroken) table (drop 3 (findRows table x)) (F.At (placeOf x ns)) in (
+      λ e.
+          let k = found-when (isBroken table) (eqb x uncorrelated) (holds x ns) (placeOf x ns) i (sym a ∙ e) in
+          (k .0, eqb-false x uncorrelated (k .1), k .2, k .3),
+      λ k. a ∙ rw (k .0, ne-eqb x uncorrelated (k .1), k .2, k .3),
+    )
+
 pub refused-stays : RefusedStays
 refused-stays table e q h = rw h
 
@@ -150,6 +267,19 @@ pub goes-on : GoesOn
 goes-on table es h = holds-index (usedIn table ++ notRefused table es) table (after table es) (went-on table es h)
 
 -- a broken table stays so, and every call is refused
+pub onward : Onward
+onward seen first now es m h =
+    holds-index (seen ++ notRefused now es) first (after now es)
+    (calls-stand first m es seen now
+    (record {
+      old = take (length (afresh seen)) first;
+      rest = drop (length (afresh seen)) first;
+      was = sym (take-append-drop (length (afresh seen)) first);
+      many = length-take-le (length (afresh seen)) first (h .fits);
+      is = h .is;
+      unused = h .rest;
+    }))
+
 broken-stays : (table es : List Entry) → isBroken table ≡ true → (after table es ≡ table) × (notRefused table es ≡ [])
 unfolding after notRefused
 broken-stays table [] h = (refl, refl)

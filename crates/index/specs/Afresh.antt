@@ -6,7 +6,6 @@ use mathlib.Core.List.{List, [], _∷_, _++_, map}
 use lib.Dec.{eqb}
 use lib.ListN.{length, take, drop}
 use Rattle.reports.specs.declared.RunAnswer.{RunAnswer}
-use Rattle.lines.specs.declared.Outcome.{Outcome}
 use Rattle.lines.specs.Line.{whatOf}
 use Rattle.lines.specs.Stretches.{Run, runs}
 use Rattle.index.specs.declared.Entry.{Entry}
@@ -76,6 +75,6 @@ broughtBy answer scan r =
     let what = whatOf (answer (r .words)) in
     record { number = numberIn what; kind = kindIn what; scan = scan; place = r .place }
 
--- the reports of a line, in order
+-- what the runs of a line bring, in order
 abbrev pub reportsOf : (List ℕ → RunAnswer) → ℕ → List ℕ → List Entry
 reportsOf answer scan line = map (broughtBy answer scan) (runs line)

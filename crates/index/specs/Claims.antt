@@ -1,25 +1,64 @@
--- What is claimed of the index (document 02, Ticket 3). Statements only, with what they need to be said; proofs/Afresh.antt and
--- proofs/Claims.antt prove them.
-use Prim.Native.Nat.{ℕ, _+_, _≤_, _<_}
+-- What is claimed of the index (document 02, Ticket 3). Statements only, with what they need to be said; proofs/Claims.antt proves them.
+use Prim.Native.Nat.{ℕ, _≤_}
 use mathlib.Core.Logic.{_↔_}
-use mathlib.Core.Bool.{Bool, true, false}
-use mathlib.Core.List.{List, [], _∷_, _++_, map}
+use mathlib.Core.Bool.{true, false, cond}
+use mathlib.Core.List.{List, _++_, map}
 use mathlib.Core.Path.{_≡_}
 use lib.ListN.{length, drop}
 use Rattle.rows.specs.Claims.{FirstIs}
+use Rattle.words.specs.Word.{bits, bit}
+use Rattle.reports.specs.declared.Report.{Report}
 use Rattle.reports.specs.declared.RunAnswer.{RunAnswer}
-use Rattle.lines.specs.declared.Outcome.{Outcome}
+use Rattle.reports.specs.declared.RunAnswer.the-variants as A
+use Rattle.reports.specs.Altitude.{AltitudeForm}
+use Rattle.reports.specs.Forms.{isSeven}
+use Rattle.reports.specs.Runs.{readRun}
 use Rattle.lines.specs.Line.{most as mostWords, outcomes}
 use Rattle.index.specs.declared.Entry.{Entry}
-use Rattle.index.specs.declared.Indexed.{Indexed}
 use Rattle.index.specs.declared.Indexed.the-variants as I
 use Rattle.index.specs.declared.Found.the-variants as F
 use Rattle.index.specs.declared.IndexRefusal.{IndexRefusal}
 use Rattle.index.specs.declared.IndexRefusal.the-variants.{TableBroken, TableFull}
-use Rattle.index.specs.Entries.{uncorrelated, entryOf}
-use Rattle.index.specs.Table.{most, numbersOf, anyUsed, holds, usedIn, isBroken}
+use Rattle.index.specs.Entries.{uncorrelated, fileOf, entryOf}
+use Rattle.index.specs.Table.{most, numbersOf, anyUsed, holds, placeOf, usedIn, isBroken}
 use Rattle.index.specs.Indexing.{enterRows, indexed, leftBy, findRows, found}
 use Rattle.index.specs.Afresh.{afresh, over, latest, after, notRefused, shown, reportsOf}
+
+-- ---- what is entered
+
+-- the file number by the printed bits: seven words (bits 2-3 are 11) with bit 4 zero are ATCRBS, MTD or RDAS and have it in bits 66-77
+abbrev pub printedNumber : List ℕ → ℕ
+printedNumber ws = cond (isSeven ws) (cond (bit ws 4) uncorrelated (bits ws 66 77)) uncorrelated
+
+-- the number that an accepted run brings is that one
+abbrev pub NumberAsPrinted : Type 0
+NumberAsPrinted = (form : AltitudeForm) (ws : List ℕ) (r : Report) → readRun form ws ≡ A.Accepted r → fileOf r ≡ printedNumber ws
+
+-- "Used entries stand first, and a new number takes the first unused one": entered at i exactly where the table is not broken, the number is neither 0
+-- nor in it, and i is the first unused entry
+abbrev pub EnteredExactly : Type 0
+EnteredExactly =
+    (table : List Entry) (x i : ℕ) →
+    (indexed table x ≡ I.Entered i)
+    ↔ ((isBroken table ≡ false)
+    × (x ≡ uncorrelated → ⊥)
+    × (holds x (numbersOf table) ≡ false)
+    × (holds uncorrelated (numbersOf table) ≡ true)
+    × (placeOf uncorrelated (numbersOf table) ≡ i))
+
+-- "A later report replaces the earlier in its entry": replaced at i exactly where the number is in the table, at i
+abbrev pub ReplacedExactly : Type 0
+ReplacedExactly =
+    (table : List Entry) (x i : ℕ) →
+    (indexed table x ≡ I.Replaced i)
+    ↔ ((isBroken table ≡ false) × (x ≡ uncorrelated → ⊥) × (holds x (numbersOf table) ≡ true) × (placeOf x (numbersOf table) ≡ i))
+
+-- found at i exactly where the number is in the table, at i
+abbrev pub FoundExactly : Type 0
+FoundExactly =
+    (table : List Entry) (x i : ℕ) →
+    (found table x ≡ F.At i)
+    ↔ ((isBroken table ≡ false) × (x ≡ uncorrelated → ⊥) × (holds x (numbersOf table) ≡ true) × (placeOf x (numbersOf table) ≡ i))
 
 -- ---- the refusals
 
@@ -72,6 +111,12 @@ FromUnused = (table es : List Entry) → Unused table → HoldsIndex (notRefused
 -- from any table that is not broken, which stands for the reports in its used entries
 abbrev pub GoesOn : Type 0
 GoesOn = (table es : List Entry) → isBroken table ≡ false → HoldsIndex (usedIn table ++ notRefused table es) table (after table es)
+
+-- a table that holds the index of what was seen holds, after more calls, the index of that and what they bring: so over many lines and scans
+abbrev pub Onward : Type 0
+Onward =
+    (seen first now es : List Entry) → length first ≤ most → HoldsIndex seen first now →
+    HoldsIndex (seen ++ notRefused now es) first (after now es)
 
 -- 50 is never given for a table that calls made
 abbrev pub NeverBroken : Type 0
