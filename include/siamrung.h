@@ -22,8 +22,8 @@
  *
  * Versions. The numbers below keep their meaning: none is ever used for something else. siamrung_version grows with each change of the calls,
  * and of what they accept. Version 3 added the calls of frames. Version 4 accepts an ELM_DOWNLINK with LENGTH 0, alone and relayed, which was
- * refused (28, and 30 in writing). Version 5 added the calls of the index. A call that accepts more than before keeps its name. If the meaning of a call changes in any other way under
- * the same arguments, it gets a new name, so that an old program does not link with it.
+ * refused (28, and 30 in writing). Version 5 added the calls of the index. A call that accepts more than before keeps its name. If the meaning of
+ * a call changes in any other way under the same arguments, it gets a new name, so that an old program does not link with it.
  */
 #ifndef SIAMRUNG_H
 #define SIAMRUNG_H
@@ -518,12 +518,14 @@ uint32_t siamrung_frame_write_refusal(const uint8_t *bytes, size_t length, size_
  * ---- calls of the index: the last report of each file number
  *
  * A table is an array of entries that the program declares, and the number of its entries, at most 512. An empty table may be NULL with 0 entries.
- * An entry is used if its number is not 0; of an unused entry nothing else is looked at. So a new table is all zeros. The used entries stand first.
+ * An entry is used if its number is not 0, also if the number is above 4,095; of an unused entry nothing else is looked at. So a new table is all
+ * zeros. The used entries stand first.
  *
  * ATCRBS, ATCRBS_CD, ATCRBS_MTD, ATCRBS_RDAS, MTD and RDAS reports have a file number (SIAMRUNG_ITEM_FILE). File number 0 means uncorrelated; it is
  * never entered. A report with another number takes the first unused entry if its number is not in the table; else it replaces the earlier report in
- * its number's entry, whatever the two scan numbers are. So the table has the numbers in the order in which they were first entered, each with its
- * last report. Every other outcome (a report of another kind, a refusal of the line, the place or the run, the end) leaves the table as it is.
+ * its number's entry. Earlier and later are the order of the calls, whatever the scan numbers and places are. So the table has the numbers in the
+ * order in which they were first entered, each with its last report. Every other outcome (a report of another kind, a refusal of the line, the
+ * place or the run, the end) leaves the table as it is.
  *
  * An answer of a call has two parts: what was done, and the entry where it was done. siamrung_index_done and siamrung_index_entry take them out.
  */
@@ -532,7 +534,7 @@ uint32_t siamrung_frame_write_refusal(const uint8_t *bytes, size_t length, size_
 typedef struct siamrung_entry {
     /* the file number; 0 marks an unused entry */
     uint16_t number;
-    /* the report's kind: SIAMRUNG_KIND_ATCRBS, SIAMRUNG_KIND_MTD and so on */
+    /* the report's kind: SIAMRUNG_KIND_ATCRBS, SIAMRUNG_KIND_MTD and so on; with substitution SIAMRUNG_KIND_ATCRBS_CD and so on */
     uint16_t kind;
     /* the scan number that the program passed */
     uint32_t scan;

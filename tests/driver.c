@@ -1,6 +1,6 @@
 /*
  * driver.c: answers cases with the Siamrung library, so that a program in another language can compare every answer with its own
- * (tests/independent). It relies on siamrung.h alone and knows nothing of reports, fields or frames: it asks and passes on.
+ * (tests/independent). It relies on siamrung.h alone and knows nothing of reports, fields, frames or indexes: it asks and passes on.
  *
  * Input: cases, one behind the other, until the end. Every number has its high byte first. "bytes" is a length of four bytes and as many
  * bytes; "numbers" is a count of four bytes and as many numbers of eight.
@@ -11,14 +11,22 @@
  *   'S' stream, numbers: a stream to walk; the counts and places, in turn, to look at beside the walk
  *   'T' stream, count (4), count times: count (8), place (8), from_sensor (4), control (1), field (bytes), length (8), count (8): a stream,
  *       the frames to write into it with the length and the count to pass with each field; then the walk
+ *   'I' table, count (4), count times: bytes; count (4), count times a step: a table, the lines, and the calls in turn, each of them
+ *       'e' line (4), place (8), scan (4): to enter what stands there, the line by its number among the lines
+ *       'w' line (4), place (8), scan (4): to enter every outcome of the line from the place on
+ *       'f' number (4): to look for a number
+ * "table" is front (4), entries (8), count (4), count times: number (2), kind (2), scan (4), place (8): the entries that are there. The
+ * table begins behind as many of them as front says, and is passed with that number of entries; the others stand around it. A number of
+ * entries over those that are there is only said, and more than 512 are there then. Where no entry is there, NULL is passed.
  * "stream" is bytes, length (8), count (8), place (8), numbers: a stream of frames, the length and the count to pass with it, the place
  * from which to walk it, and the sizes of the buffers that each field is asked with. A length is that of the bytes, or is only said to be
  * greater; no bit is counted that is not there, and other bytes stand behind. A size above 256 is only said too: 256 bytes are there, and no
  * field needs more. A buffer holds 165, 172, 179 .. (modulo 256) before the call.
  * Output: answers, each with its length (4) before it. The first is a head: the version (4) and the size of a size_t (4). Then follows one
  * for each case: the numbers that the calls gave, four bytes for a uint32_t, eight for the others, one for siamrung_has and
- * siamrung_field_has (255 for any number but 0 and 1), and the bytes after each writing, a field buffer's too. It ends with one byte: 1 if
- * nothing that is only read was changed.
+ * siamrung_field_has (255 for any number but 0 and 1), and the bytes after each writing, a field buffer's too. Behind each call of the
+ * index stand the entries that it changed: how many (4), and each with its number among all that are there (4); in a walk also
+ * siamrung_after. At the end of the case stand all entries. An answer ends with one byte: 1 if nothing that is only read was changed.
  *
  * Every slice is malloc'ed to its exact length, so that valgrind sees an access outside; an empty slice is passed as NULL.
  */
@@ -455,6 +463,155 @@ static void answer_frame_writes(void)
     drop_stream(&stream);
 }
 
+/* ---- the index */
+
+/* sixteen bytes, with no gap: an entry's four numbers are all of its bytes */
+typedef char no_gap[sizeof(siamrung_entry) == 16 && offsetof(siamrung_entry, place) == 8 ? 1 : -1];
+
+struct table {
+    /* all that are there */
+    siamrung_entry *whole;
+    siamrung_entry *copy;
+    size_t there;
+    /* what is passed */
+    siamrung_entry *lent;
+    size_t entries;
+};
+
+static siamrung_entry get_entry(void)
+{
+    siamrung_entry entry;
+    entry.number = (uint16_t)get_number(2);
+    entry.kind = (uint16_t)get_number(2);
+    entry.scan = (uint32_t)get_number(4);
+    entry.place = (size_t)get_number(8);
+    return entry;
+}
+
+static void put_entry(const siamrung_entry *entry)
+{
+    put_number(entry->number, 2);
+    put_number(entry->kind, 2);
+    put_number(entry->scan, 4);
+    put_number(entry->place, 8);
+}
+
+static struct table get_table(void)
+{
+    struct table table = {NULL, NULL, 0, NULL, 0};
+    size_t front = (size_t)get_number(4);
+    size_t i;
+    table.entries = (size_t)get_number(8);
+    table.there = (size_t)get_number(4);
+    if (front > table.there) {
+        fail("a table behind its entries");
+    }
+    if (table.there > 0) {
+        table.whole = take(table.there * sizeof(siamrung_entry));
+        table.copy = take(table.there * sizeof(siamrung_entry));
+        for (i = 0; i < table.there; i++) {
+            table.whole[i] = get_entry();
+            table.copy[i] = table.whole[i];
+        }
+        table.lent = table.whole + front;
+    }
+    return table;
+}
+
+/* The entries that are not as they were before the call. */
+static void put_changes(struct table *table)
+{
+    size_t changes = 0;
+    size_t i;
+    for (i = 0; i < table->there; i++) {
+        changes += memcmp(&table->whole[i], &table->copy[i], sizeof(siamrung_entry)) != 0;
+    }
+    put_number(changes, 4);
+    for (i = 0; changes > 0 && i < table->there; i++) {
+        if (memcmp(&table->whole[i], &table->copy[i], sizeof(siamrung_entry)) != 0) {
+            put_number(i, 4);
+            put_entry(&table->whole[i]);
+            table->copy[i] = table->whole[i];
+        }
+    }
+}
+
+static void put_done(struct table *table, uint32_t number)
+{
+    put_number(number, 4);
+    put_number(siamrung_index_done(number), 4);
+    put_number(siamrung_index_entry(number), 8);
+    put_changes(table);
+}
+
+static void enter(struct table *table, const struct slice *line, size_t place, uint32_t scan)
+{
+    put_done(table, siamrung_index_enter(table->lent, table->entries, line->bytes, line->length, place, scan));
+}
+
+static void enter_all(struct table *table, const struct slice *line, size_t place, uint32_t scan)
+{
+    size_t turn = 0;
+    int end = 0;
+    /* a library that never ends is stopped here: no line has more places to look at */
+    while (!end && turn <= line->length / 2 + 1) {
+        uint32_t kind = siamrung_kind(line->bytes, line->length, place);
+        size_t after = siamrung_after(line->bytes, line->length, place);
+        enter(table, line, place, scan);
+        put_number(after, 8);
+        end = kind == SIAMRUNG_KIND_END || after == place;
+        place = after;
+        turn++;
+    }
+}
+
+static void answer_step(struct table *table, const struct slice *lines, size_t lines_count)
+{
+    uint64_t tag = get_number(1);
+    if (tag == 'f') {
+        put_done(table, siamrung_index_find(table->lent, table->entries, (uint32_t)get_number(4)));
+    } else {
+        size_t line = (size_t)get_number(4);
+        size_t place = (size_t)get_number(8);
+        uint32_t scan = (uint32_t)get_number(4);
+        if (line >= lines_count || (tag != 'e' && tag != 'w')) {
+            fail("no such step");
+        }
+        if (tag == 'w') {
+            enter_all(table, &lines[line], place, scan);
+        } else {
+            enter(table, &lines[line], place, scan);
+        }
+    }
+}
+
+static void answer_index(void)
+{
+    struct table table = get_table();
+    size_t lines_count = (size_t)get_number(4);
+    struct slice *lines = take((lines_count + 1) * sizeof(struct slice));
+    uint64_t steps;
+    int unchanged = 1;
+    size_t i;
+    for (i = 0; i < lines_count; i++) {
+        lines[i] = get_slice();
+    }
+    for (steps = get_number(4); steps > 0; steps--) {
+        answer_step(&table, lines, lines_count);
+    }
+    for (i = 0; i < table.there; i++) {
+        put_entry(&table.whole[i]);
+    }
+    for (i = 0; i < lines_count; i++) {
+        unchanged = same(&lines[i]) && unchanged;
+        drop(&lines[i]);
+    }
+    put_number(unchanged ? 1 : 0, 1);
+    free(lines);
+    free(table.whole);
+    free(table.copy);
+}
+
 /* ---- the whole */
 
 static void answer_case(int tag)
@@ -477,6 +634,9 @@ static void answer_case(int tag)
         break;
     case 'T':
         answer_frame_writes();
+        break;
+    case 'I':
+        answer_index();
         break;
     default:
         fail("no such case");

@@ -5,6 +5,7 @@
 use crate::answer::{hex, Answer};
 use crate::field::{self, Field, Given};
 use crate::frame_case::{Reading, Writing};
+use crate::index_case::Indexing;
 use crate::layout::Layout;
 use crate::line::{self, Look};
 use crate::report;
@@ -41,6 +42,8 @@ pub enum Case {
     Frames(Reading),
     /// Frames are written.
     FrameWrites(Writing),
+    /// A table is lent to the calls of the index.
+    Index(Indexing),
 }
 
 const ITEMS: std::ops::RangeInclusive<u32> = 0..=40;
@@ -98,6 +101,7 @@ impl Case {
             }
             Case::Frames(reading) => reading.put(&mut message),
             Case::FrameWrites(writing) => writing.put(&mut message),
+            Case::Index(indexing) => indexing.put(&mut message),
         }
         message
     }
@@ -110,6 +114,7 @@ impl Case {
             Case::FieldWrite { .. } => b'G',
             Case::Frames(_) => b'S',
             Case::FrameWrites(_) => b'T',
+            Case::Index(_) => b'I',
         }
     }
 
@@ -131,6 +136,7 @@ impl Case {
             }
             Case::Frames(reading) => reading.expect(&mut answer, &mut totals.frames),
             Case::FrameWrites(writing) => writing.expect(&mut answer, &mut totals.frames),
+            Case::Index(indexing) => indexing.expect(tables, &mut answer, &mut totals.index),
         }
         answer.u8("bytes that are only read stay (1)", 0, 0, 1);
         answer
@@ -168,6 +174,7 @@ impl Case {
             }
             Case::Frames(reading) => reading.shown(),
             Case::FrameWrites(writing) => writing.shown(),
+            Case::Index(indexing) => indexing.shown(),
         }
     }
 }

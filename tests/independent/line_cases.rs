@@ -67,7 +67,7 @@ fn valid(rng: &mut Rng, tables: &Tables) -> Vec<u16> {
 // ---- damage
 
 /// A report with one thing wrong, sometimes two, so that the order of the refusals shows.
-fn damaged(rng: &mut Rng, tables: &Tables) -> Vec<u16> {
+pub fn damaged(rng: &mut Rng, tables: &Tables) -> Vec<u16> {
     let layout = rng.pick(&tables.reports);
     let text = valid_text(rng, layout);
     let text = if rng.once_in(10) { text } else { damage_data(rng, tables, layout, &text) };
@@ -109,7 +109,7 @@ pub fn random_bits(rng: &mut Rng, width: usize) -> String {
 }
 
 /// Seven words with bit 12 one and any three bits at 88-90.
-fn unassigned_radar(rng: &mut Rng, tables: &Tables) -> String {
+pub fn unassigned_radar(rng: &mut Rng, tables: &Tables) -> String {
     let seven: Vec<&Layout> = tables.reports.iter().filter(|layout| layout.bits == 7 * WORD_BITS).collect();
     let layout = *rng.pick(&seven);
     let mut text = valid_text(rng, layout);
@@ -119,7 +119,7 @@ fn unassigned_radar(rng: &mut Rng, tables: &Tables) -> String {
 }
 
 /// Altitude with sign 1 and magnitude 0; sometimes with a spare bit, which comes first.
-fn minus_zero(rng: &mut Rng, tables: &Tables) -> String {
+pub fn minus_zero(rng: &mut Rng, tables: &Tables) -> String {
     let signed = |layout: &&Layout| layout.pieces.iter().any(|piece| matches!(piece.role, Role::Item(_, Rule::Signed)));
     let with_altitude: Vec<&Layout> = tables.reports.iter().filter(signed).collect();
     let layout = *rng.pick(&with_altitude);
@@ -147,13 +147,13 @@ fn damage_words(rng: &mut Rng, tables: &Tables, words: &mut Vec<u16>) {
 }
 
 /// A word of 13 bits with an odd number of ones.
-fn odd_word(rng: &mut Rng) -> u16 {
+pub fn odd_word(rng: &mut Rng) -> u16 {
     let data = random_bits(rng, WORD_BITS);
     report::to_words(&report::with_parity(&data))[0]
 }
 
 /// Words that are no report on purpose.
-fn noise(rng: &mut Rng, most: usize) -> Vec<u16> {
+pub fn noise(rng: &mut Rng, most: usize) -> Vec<u16> {
     let length = rng.between(1, most as u64);
     let sort = rng.below(4);
     let near: &[u16] = &[1022, 1023, 1024, 9215, 0, 1, 8191, 8192, 65535, 577, 511, 2047];

@@ -3,13 +3,15 @@
 //! It was written from documents 01 and 02, document 004 (FAA-RD-80-14) and siamrung.h alone, and reads bits as text from tables in the
 //! document's own bit numbers. It needs the driver (driver.c linked with the library), which it starts as a child process.
 //!
-//!   independent SEED LINES FIELDS FRAMES COMMAND..   compares LINES lines, FIELDS fields and FRAMES streams of frames, and half as many
-//!                                                    writings of each; then half as many ELMs of one segment as fields, read and
-//!                                                    written; from 20,000 lines and 50,000 fields on (ELMs: 50,000 fields), and from
-//!                                                    20,000 streams on, the quotas have to be met; 0 leaves a part out
-//!   independent chosen COMMAND..                     compares nmi, degrees and seconds for every count of every field, and the cases of
-//!                                                    chosen.rs, segment_chosen.rs and frame_chosen.rs
-//!   independent chosen-frames COMMAND..              compares the cases of frame_chosen.rs alone
+//!   independent SEED LINES FIELDS FRAMES TABLES COMMAND..   compares LINES lines, FIELDS fields and FRAMES streams of frames, and half as
+//!                                                           many writings of each; then half as many ELMs of one segment as fields, read
+//!                                                           and written; then the calls of the index on TABLES tables; from 20,000 lines
+//!                                                           and 50,000 fields on (ELMs: 50,000 fields), from 20,000 streams on, and from
+//!                                                           20,000 tables on, the quotas have to be met; 0 leaves a part out
+//!   independent chosen COMMAND..                            compares nmi, degrees and seconds for every count of every field, and the
+//!                                                           cases of chosen.rs, segment_chosen.rs, frame_chosen.rs and index_chosen.rs
+//!   independent chosen-frames COMMAND..                     compares the cases of frame_chosen.rs alone
+//!   independent chosen-index COMMAND..                      compares the cases of index_chosen.rs alone, those that take long left out
 //!
 //! A difference is printed with its case, and the program then ends with 1.
 
@@ -26,6 +28,12 @@ mod frame_case;
 mod frame_cases;
 mod frame_chosen;
 mod frame_totals;
+mod index;
+mod index_case;
+mod index_cases;
+mod index_chosen;
+mod index_plain;
+mod index_totals;
 mod layout;
 mod line;
 mod line_cases;
@@ -83,9 +91,16 @@ fn cases_of_frames(seed: u64, frames: u64) -> impl Iterator<Item = Named> {
     (0..frames).map(stream).chain((0..frames / 2).map(write))
 }
 
-fn compare(seed: u64, [lines, fields, frames]: [u64; 3], command: &[String]) -> Result<(), String> {
+/// The cases of the index, in order, behind those of frames.
+fn cases_of_index(seed: u64, count: u64) -> impl Iterator<Item = Named> {
+    let tables = Tables::new();
+    (0..count).map(move |number| (format!("seed {}, table {}", seed, number), index_cases::table(&tables, seed, number)))
+}
+
+fn compare(seed: u64, [lines, fields, frames, tables]: [u64; 4], command: &[String]) -> Result<(), String> {
     println!("seed {}", seed);
-    let totals = run::run(command, move || cases(seed, lines, fields).chain(cases_of_frames(seed, frames)))?;
+    let all = move || cases(seed, lines, fields).chain(cases_of_frames(seed, frames)).chain(cases_of_index(seed, tables));
+    let totals = run::run(command, all)?;
     let mut short = Vec::new();
     if lines + fields > 0 {
         let below = totals.report(&Tables::new());
@@ -99,6 +114,10 @@ fn compare(seed: u64, [lines, fields, frames]: [u64; 3], command: &[String]) -> 
     if frames > 0 {
         let below = totals.frames.report();
         short.extend(below.into_iter().filter(|_| frames >= 20_000));
+    }
+    if tables > 0 {
+        let below = totals.index.report();
+        short.extend(below.into_iter().filter(|_| tables >= 20_000));
     }
     if !short.is_empty() {
         return Err(format!("below the quota: {}", short.join("; ")));
@@ -114,7 +133,8 @@ fn chosen(command: &[String]) -> Result<(), String> {
     let totals = run::run(command, || chosen::cases().chain(segment_chosen::cases()))?;
     let (reads, writes) = (totals.runs + totals.fields, totals.writes + totals.field_writes);
     println!("chosen cases: {} runs and fields read, {} written, no difference", reads, writes);
-    chosen_frames(command)
+    chosen_frames(command)?;
+    chosen_index(command, true)
 }
 
 fn chosen_frames(command: &[String]) -> Result<(), String> {
@@ -124,17 +144,25 @@ fn chosen_frames(command: &[String]) -> Result<(), String> {
     Ok(())
 }
 
+fn chosen_index(command: &[String], long: bool) -> Result<(), String> {
+    let totals = run::run(command, move || index_chosen::cases(long))?;
+    let (enters, finds) = totals.index.both();
+    println!("chosen cases of the index: {} calls that enter, {} that find, no difference", enters, finds);
+    Ok(())
+}
+
 fn start(arguments: &[String]) -> Result<(), String> {
     worked::check(&Tables::new());
-    let usage = "usage: independent SEED LINES FIELDS FRAMES COMMAND.. | chosen COMMAND.. | chosen-frames COMMAND..";
+    let usage = "usage: independent SEED LINES FIELDS FRAMES TABLES COMMAND.. | (chosen | chosen-frames | chosen-index) COMMAND..";
     match arguments.first().map(|first| first.as_str()) {
         Some("chosen") if arguments.len() >= 2 => return chosen(&arguments[1..]),
         Some("chosen-frames") if arguments.len() >= 2 => return chosen_frames(&arguments[1..]),
-        _ if arguments.len() < 5 => return Err(usage.to_string()),
+        Some("chosen-index") if arguments.len() >= 2 => return chosen_index(&arguments[1..], false),
+        _ if arguments.len() < 6 => return Err(usage.to_string()),
         _ => (),
     }
     let number = |index: usize| arguments[index].parse::<u64>().map_err(|_| usage.to_string());
-    compare(number(0)?, [number(1)?, number(2)?, number(3)?], &arguments[4..])
+    compare(number(0)?, [number(1)?, number(2)?, number(3)?, number(4)?], &arguments[5..])
 }
 
 fn main() {

@@ -2,6 +2,7 @@
 
 use crate::field::{Record, RELAY};
 use crate::frame_totals::FrameTotals;
+use crate::index_totals::IndexTotals;
 use crate::line::{self, Look, MOST_BYTES};
 use crate::segment_totals::SegmentTotals;
 use std::collections::BTreeMap;
@@ -25,6 +26,7 @@ pub struct Totals {
     pub writes: u64,
     pub field_writes: u64,
     pub frames: FrameTotals,
+    pub index: IndexTotals,
     pub segments: SegmentTotals,
     /// reports by place in the list of layouts
     layouts: Tally,

@@ -1,11 +1,13 @@
-//! The worked cases of document 01 (C1 to C12, the lister's example, the flipped bit of "Three easy errors"), an ELM of one segment and known
-//! frames, run on this program itself: before it judges the library it has to agree with the paper.
+//! The worked cases of document 01 (C1 to C12, the lister's example, the flipped bit of "Three easy errors"), an ELM of one segment, known
+//! frames and a small index, run on this program itself: before it judges the library it has to agree with the paper.
 
 use crate::bits;
 use crate::case::Tables;
 use crate::field::{self, Given};
 use crate::frame::{self, Frame, Stream};
 use crate::frame_chosen::KNOWN;
+use crate::index::{self, Entry, Index};
+use crate::index_plain;
 use crate::line;
 use crate::line_cases::{item_bytes, valid_items};
 use crate::report;
@@ -115,6 +117,21 @@ fn frames() {
     }
 }
 
+/// Document 01's ATCRBS report has file number 1024, and the line of its lister's example has no report to enter (Ticket 3 of document 02).
+fn index(tables: &Tables) {
+    index_plain::check();
+    let report = [3333, 1281, 1022, 868, 1281, 2048, 647];
+    let entry = Entry { number: 1024, kind: 110, scan: 5, place: 0 };
+    assert_eq!(index::entry_of(&look(tables, &report, 0), 5), Some(entry));
+    let line = [1023, 868, 1281, 2048, 647, 1023, 1023, 3973, 1281, 256, 7, 5175, 1414, 4096];
+    assert!([0, 5, 14].iter().all(|&place| index::entry_of(&look(tables, &line, place), 5).is_none()));
+    let mut index = Index::of(&[Entry::default()], 1);
+    let dones = [index.find(1024), index.enter(Some(entry)), index.find(1024), index.enter(None), index.enter(Some(entry))];
+    assert_eq!(dones, [(127, 0), (123, 0), (126, 0), (125, 0), (124, 0)]);
+    assert_eq!((index.enter(Some(Entry { number: 1, ..entry })), index.table()), ((51, 0), vec![entry]));
+    assert_eq!([(123, 511), (50, 0)].map(index::answer), [123 + 256 * 511, 50]);
+}
+
 /// Stops the program where it disagrees with document 01.
 pub fn check(tables: &Tables) {
     assert_eq!((tables.reports.len(), tables.fields.len()), (17, 21));
@@ -123,5 +140,6 @@ pub fn check(tables: &Tables) {
     fields(tables);
     segments(tables);
     frames();
+    index(tables);
     both_ways(tables);
 }
