@@ -17,6 +17,7 @@ pub const PRINTED: &str = "crates/claims/specs/Printed.antt";
 pub const FIELDS: &str = "crates/fields/src/lib.rt";
 pub const FRAMES: &str = "crates/frames/src/lib.rt";
 pub const FRAME: &str = "crates/frames/specs/Frame.antt";
+pub const INDEX: &str = "crates/index/src/lib.rt";
 
 // A file without the lines that are comments.
 pub fn code(path: &str) -> String {

@@ -3,7 +3,6 @@
 use Prim.Native.Nat.{ℕ, zero, suc, _<_, _≤_, _+_, _^_}
 use mathlib.Core.Bool.{Bool, true, false, not, cond, _||_, true≢false}
 use mathlib.Core.List.{List, [], _∷_, _++_}
-use mathlib.Core.Logic.{⊎-elim}
 use mathlib.Core.Path.{_≡_, refl, sym, ap, _∙_}
 use native.Mathlib.Numerals.{add-one}
 use native.Mathlib.Omega.{arith}
@@ -11,6 +10,7 @@ use borrow.Author.Tests.{lt-ltb, le-ltb, ltb-true, ltb-false}
 use lib.Dec.{T as Holds, ltb, T-not, lt→ltb}
 use lib.ListN.{length, set, take, getD, replicate, length-replicate}
 use lib.Seq.{set-out, take-length}
+use Rattle.words.proofs.Tests.{by-test}
 use Rattle.index.specs.declared.Entry.{Entry}
 use Rattle.index.specs.declared.Indexed.{Indexed}
 use Rattle.index.specs.declared.Indexed.the-variants as I
@@ -21,7 +21,7 @@ use Rattle.index.specs.declared.judging.Looked.the-variants as L
 use Rattle.index.specs.Table.{most, numbersOf, holds, placeOf, usedAfterUnused, heldTwice}
 use Rattle.index.specs.Indexing.{indexed, leftBy, found}
 use Rattle.index.specs.Steps.{blank, onto, least, lookedIn, indexedBy, judged, spotOf, nowhere, foundBy, sought}
-use Rattle.index.proofs.Looks.{view, held-place}
+use Rattle.index.proofs.Looks.{held-place}
 
 -- ---- a store
 
@@ -71,14 +71,15 @@ numbers-none ns = refl
 -- n entries of a table, or 512
 pub least-fits : (n : ℕ) → (least n ≤ n) × (least n ≤ 512)
 least-fits n =
-    ⊎-elim
-    (λ (l : ltb n 512 ≡ true). rw l (omega arith, omega (arith, ltb-true n 512 l)))
-    (λ (g : ltb n 512 ≡ false). rw g (ltb-false n 512 g, omega arith))
-    (view (ltb n 512))
+    by-test (ltb n 512)
+    (λ l. rw l (omega arith, omega (arith, ltb-true n 512 l)))
+    (λ g. rw g (ltb-false n 512 g, omega arith))
 
 least-all : (n : ℕ) → n ≤ 512 → least n ≡ n
 least-all n h =
-    ⊎-elim (λ (l : ltb n 512 ≡ true). rw l) (λ (g : ltb n 512 ≡ false). rw g (omega (arith, ltb-false n 512 g))) (view (ltb n 512))
+    by-test (ltb n 512)
+    (λ l. rw l)
+    (λ g. rw g (omega (arith, ltb-false n 512 g)))
 
 pub numbers-length : (ys : List Entry) → length (numbersOf ys) ≡ length ys
 unfolding numbersOf
@@ -101,10 +102,9 @@ front-is ys h =
 -- a number has a place in front of the end exactly where it is held
 held-is : (x : ℕ) (ns : List ℕ) → ltb (placeOf x ns) (length ns) ≡ holds x ns
 held-is x ns =
-    ⊎-elim
-    (λ (h : holds x ns ≡ true). lt-ltb (placeOf x ns) (length ns) (held-place x ns .0 h) ∙ sym h)
-    (λ (h : holds x ns ≡ false). le-ltb (placeOf x ns) (length ns) (omega (arith, held-place x ns .1 h)) ∙ sym h)
-    (view (holds x ns))
+    by-test (holds x ns)
+    (λ h. lt-ltb (placeOf x ns) (length ns) (held-place x ns .0 h) ∙ sym h)
+    (λ h. le-ltb (placeOf x ns) (length ns) (omega (arith, held-place x ns .1 h)) ∙ sym h)
 
 -- three answers by two truth values, in the order of the code and in that of the rows
 reordered : {A : Type 0} (held free : Bool) (replaced entered full : A)
@@ -133,10 +133,9 @@ of-table : {A : Type 0} (broken : A) (f : Looked → ℕ → A) (ys : List Entry
     → cond (ltb most (length ys)) broken (f (lookedIn (take (length ys) (onto (numbersOf (take (least (length ys)) ys)) (replicate 512 0))) x) (length ys))
     ≡ cond (ltb most (length ys)) broken (f (lookedIn (numbersOf ys) x) (length (numbersOf ys)))
 of-table broken f ys x =
-    ⊎-elim
-    (λ (l : ltb most (length ys) ≡ true). rw l)
-    (λ (g : ltb most (length ys) ≡ false). rw g (rw (front-is ys (ltb-false most (length ys) g), numbers-length ys)))
-    (view (ltb most (length ys)))
+    by-test (ltb most (length ys))
+    (λ l. rw l)
+    (λ g. rw g (rw (front-is ys (ltb-false most (length ys) g), numbers-length ys)))
 
 module _ (ys : List Entry) (x : ℕ) where
   pub answered : judged (onto (numbersOf (take (least (length ys)) ys)) (replicate 512 0)) (length ys) x ≡ indexed ys x

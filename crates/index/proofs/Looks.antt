@@ -3,7 +3,6 @@
 use Prim.Native.Nat.{ℕ, zero, suc, _+_, _<_, _≤_}
 use mathlib.Core.Bool.{Bool, true, false, not, _&&_, _||_, true≢false}
 use mathlib.Core.List.{List, [], _∷_}
-use mathlib.Core.Logic.{_⊎_, inl, inr, ⊎-elim}
 use mathlib.Core.Path.{_≡_, refl, sym, ap, _∙_}
 use native.Mathlib.Numerals.{add-one}
 use native.Mathlib.Omega.{arith}
@@ -11,14 +10,10 @@ use borrow.Author.Tests.{eq-eqb, ne-eqb, eqb-true, eqb-false}
 use lib.Dec.{eqb}
 use lib.ListN.{length, take, drop, getD}
 use lib.Seq.{drop-cons}
+use Rattle.words.proofs.Tests.{by-test}
 use Rattle.index.specs.declared.judging.Looked.the-variants as L
 use Rattle.index.specs.Steps.{lookedIn}
 use Rattle.index.specs.Table.{isUsed, anyUsed, holds, placeOf, usedAfterUnused, heldTwice}
-
--- a truth value is one of two
-pub view : (b : Bool) → (b ≡ true) ⊎ (b ≡ false)
-view true = inl refl
-view false = inr refl
 
 -- ---- at a place
 
@@ -46,17 +41,18 @@ pub place-most : (x : ℕ) (s : List ℕ) → placeOf x s ≤ length s
 unfolding placeOf
 place-most x [] = omega arith
 place-most x (n ∷ s) =
-    ⊎-elim (λ (e : eqb n x ≡ true). rw e (omega arith)) (λ (e : eqb n x ≡ false). rw e (omega (arith, place-most x s))) (view (eqb n x))
+    by-test (eqb n x)
+    (λ e. rw e (omega arith))
+    (λ e. rw e (omega (arith, place-most x s)))
 
 -- a number stands at a place exactly where it is held
 pub held-place : (x : ℕ) (s : List ℕ) → (holds x s ≡ true → placeOf x s < length s) × (holds x s ≡ false → placeOf x s ≡ length s)
 unfolding placeOf holds
 held-place x [] = (λ h. absurd (true≢false (sym h)), λ h. refl)
 held-place x (n ∷ s) =
-    ⊎-elim
-    (λ (e : eqb n x ≡ true). rw e (λ h. omega arith, λ h. absurd (true≢false h)))
-    (λ (e : eqb n x ≡ false). rw e (λ h. omega (arith, held-place x s .0 h), λ h. ap suc (held-place x s .1 h)))
-    (view (eqb n x))
+    by-test (eqb n x)
+    (λ e. rw e (λ h. omega arith, λ h. absurd (true≢false h)))
+    (λ e. rw e (λ h. omega (arith, held-place x s .0 h), λ h. ap suc (held-place x s .1 h)))
 
 -- ---- the front, up to the first unused entry
 
@@ -65,62 +61,58 @@ pub none-twice : (s : List ℕ) → anyUsed s ≡ false → heldTwice s ≡ fals
 unfolding anyUsed heldTwice
 none-twice [] h = refl
 none-twice (n ∷ s) h =
-    ⊎-elim
-    (λ (e : eqb n 0 ≡ true). rw e (none-twice s (rw e at h)))
-    (λ (e : eqb n 0 ≡ false). absurd (true≢false (rw e at h)))
-    (view (eqb n 0))
+    by-test (eqb n 0)
+    (λ e. rw e (none-twice s (rw e at h)))
+    (λ e. absurd (true≢false (rw e at h)))
 
 none-after : (s : List ℕ) → anyUsed s ≡ false → usedAfterUnused s ≡ false
 unfolding anyUsed usedAfterUnused
 none-after [] h = refl
 none-after (n ∷ s) h =
-    ⊎-elim
-    (λ (e : eqb n 0 ≡ true). let g : anyUsed s ≡ false = rw e at h in rw (e, g) (none-after s g))
-    (λ (e : eqb n 0 ≡ false). absurd (true≢false (rw e at h)))
-    (view (eqb n 0))
+    by-test (eqb n 0)
+    (λ e. let g : anyUsed s ≡ false = rw e at h in rw (e, g) (none-after s g))
+    (λ e. absurd (true≢false (rw e at h)))
 
 -- where nothing is used, no number other than 0 is held
 pub none-held : (s : List ℕ) (x : ℕ) → (x ≡ 0 → ⊥) → anyUsed s ≡ false → holds x s ≡ false
 unfolding anyUsed holds
 none-held [] x u h = refl
 none-held (n ∷ s) x u h =
-    ⊎-elim
-    (λ (e : eqb n 0 ≡ true). rw (ne-eqb n x (λ same. u (sym same ∙ eqb-true n 0 e))) (none-held s x u (rw e at h)))
-    (λ (e : eqb n 0 ≡ false). absurd (true≢false (rw e at h)))
-    (view (eqb n 0))
+    by-test (eqb n 0)
+    (λ e. rw (ne-eqb n x (λ same. u (sym same ∙ eqb-true n 0 e))) (none-held s x u (rw e at h)))
+    (λ e. absurd (true≢false (rw e at h)))
 
 -- a used entry stands after an unused one exactly where one stands behind the first unused one
 pub gap-is : (s : List ℕ) → usedAfterUnused s ≡ anyUsed (drop (placeOf 0 s) s)
 unfolding placeOf anyUsed usedAfterUnused
 gap-is [] = refl
 gap-is (n ∷ s) =
-    ⊎-elim
-    (λ (e : eqb n 0 ≡ true).
-    rw (e, e) (⊎-elim (λ (u : anyUsed s ≡ true). rw u) (λ (u : anyUsed s ≡ false). rw u (none-after s u)) (view (anyUsed s))))
-    (λ (e : eqb n 0 ≡ false). rw e (gap-is s))
-    (view (eqb n 0))
+    by-test (eqb n 0)
+    (λ e.
+    rw (e, e) (by-test (anyUsed s)
+    (λ u. rw u)
+    (λ u. rw u (none-after s u))))
+    (λ e. rw e (gap-is s))
 
 -- a number other than 0 is held exactly where the front holds it
 front-holds : (s : List ℕ) (x : ℕ) → (x ≡ 0 → ⊥) → anyUsed (drop (placeOf 0 s) s) ≡ false → holds x (take (placeOf 0 s) s) ≡ holds x s
 unfolding placeOf holds
 front-holds [] x u h = refl
 front-holds (n ∷ s) x u h =
-    ⊎-elim
-    (λ (e : eqb n 0 ≡ true). rw e (sym (none-held (n ∷ s) x u (rw e at h))))
-    (λ (e : eqb n 0 ≡ false). rw e (ap (λ (b : Bool). eqb n x || b) (front-holds s x u (rw e at h))))
-    (view (eqb n 0))
+    by-test (eqb n 0)
+    (λ e. rw e (sym (none-held (n ∷ s) x u (rw e at h))))
+    (λ e. rw e (ap (λ (b : Bool). eqb n x || b) (front-holds s x u (rw e at h))))
 
 -- so a number is held twice exactly where the front holds it twice
 pub front-twice : (s : List ℕ) → anyUsed (drop (placeOf 0 s) s) ≡ false → heldTwice (take (placeOf 0 s) s) ≡ heldTwice s
 unfolding placeOf anyUsed heldTwice
 front-twice [] h = refl
 front-twice (n ∷ s) h =
-    ⊎-elim
-    (λ (e : eqb n 0 ≡ true). let g : anyUsed s ≡ false = rw (e, e) at h in rw e (sym (none-twice s g)))
-    (λ (e : eqb n 0 ≡ false).
+    by-test (eqb n 0)
+    (λ e. let g : anyUsed s ≡ false = rw (e, e) at h in rw e (sym (none-twice s g)))
+    (λ e.
     let g : anyUsed (drop (placeOf 0 s) s) ≡ false = rw e at h in
     rw (e, e) (ap (λ (b : Bool). b || heldTwice (take (placeOf 0 s) s)) (front-holds s n (eqb-false n 0 e) g) ∙ ap (λ (b : Bool). holds n s || b) (front-twice s g)))
-    (view (eqb n 0))
 
 -- ---- what a look finds, by the first unused entry
 

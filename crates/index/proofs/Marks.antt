@@ -2,7 +2,6 @@
 use Prim.Native.Nat.{ℕ, zero, suc, _+_, _-_, _*_, _/_, _%_, _^_, _<_, _≤_}
 use mathlib.Core.Bool.{Bool, true, false, _&&_, _||_, and-false}
 use mathlib.Core.List.{List, [], _∷_}
-use mathlib.Core.Logic.{_⊎_, inl, inr, ⊎-elim}
 use mathlib.Core.Path.{_≡_, refl, sym, ap, _∙_}
 use native.Mathlib.Nat.{one-mul, zero-div, div-self, div-eq-of-lt, mod-lt}
 use native.Mathlib.Omega.{arith}
@@ -12,8 +11,9 @@ use lib.Dec.{eqb, ltb}
 use lib.ListN.{length, drop, getD, set, replicate, length-set}
 use lib.Pow.{pow-pos, pow-lt, pow-add, shl-shr}
 use lib.Seq.{getD-set-same, getD-set-other}
+use Rattle.words.proofs.Tests.{by-test}
 use Rattle.index.specs.Table.{isUsed, holds, heldTwice}
-use Rattle.index.proofs.Looks.{view, rest-is}
+use Rattle.index.proofs.Looks.{rest-is}
 
 -- ---- a bit of a number
 
@@ -32,10 +32,9 @@ own-bit k = ap (λ (n : ℕ). n % 2) (div-self (pow-pos k))
 
 no-other-bit : (k j : ℕ) → (k ≡ j → ⊥) → 2 ^ k / 2 ^ j % 2 ≡ 0
 no-other-bit k j u =
-    ⊎-elim
-    (λ (e : ltb k j ≡ true). ap (λ (n : ℕ). n % 2) (div-eq-of-lt (pow-lt (ltb-true k j e))))
-    (λ (e : ltb k j ≡ false). above (omega (arith, ltb-false k j e)))
-    (view (ltb k j))
+    by-test (ltb k j)
+    (λ e. ap (λ (n : ℕ). n % 2) (div-eq-of-lt (pow-lt (ltb-true k j e))))
+    (λ e. above (omega (arith, ltb-false k j e)))
   where
     above : (g : j < k) → 2 ^ k / 2 ^ j % 2 ≡ 0
     above g =
@@ -69,10 +68,9 @@ as-many-marks marks n = length-set marks (n / 64) (bitOr (getD marks (n / 64) 0)
 -- marking n marks n, and no other number
 pub marks-it : (marks : List ℕ) (n : ℕ) → n / 64 < length marks → (y : ℕ) → marked (marking marks n) y ≡ (eqb n y || marked marks y)
 marks-it marks n h y =
-    ⊎-elim
-    (λ (e : eqb n y ≡ true). rw (e, sym (eqb-true n y e)) (eq-eqb _ 1 (in-its-word (n % 64) ∙ set-here (getD marks (n / 64) 0) (n % 64))))
-    (λ (e : eqb n y ≡ false). rw e (ap (λ (v : ℕ). eqb v 1) (⊎-elim (beside (eqb-false n y e)) elsewhere (view (eqb (y / 64) (n / 64))))))
-    (view (eqb n y))
+    by-test (eqb n y)
+    (λ e. rw (e, sym (eqb-true n y e)) (eq-eqb _ 1 (in-its-word (n % 64) ∙ set-here (getD marks (n / 64) 0) (n % 64))))
+    (λ e. rw e (ap (λ (v : ℕ). eqb v 1) (by-test (eqb (y / 64) (n / 64)) (beside (eqb-false n y e)) elsewhere)))
   where
     in-its-word : (j : ℕ) → getD (marking marks n) (n / 64) 0 / 2 ^ j % 2 ≡ bitOr (getD marks (n / 64) 0) (2 ^ (n % 64)) / 2 ^ j % 2
     in-its-word j = ap (λ (v : ℕ). v / 2 ^ j % 2) (getD-set-same marks (n / 64) (bitOr (getD marks (n / 64) 0) (2 ^ (n % 64))) 0 h)
@@ -131,13 +129,12 @@ unfolding holds anyMarked
 one-more P n [] = sym (ap (λ (b : Bool). b || false) (and-false (isUsed n)))
 one-more P n (m ∷ ms) =
     ap (λ (b : Bool). (isUsed m && ((isUsed n && eqb n m) || P m)) || b) (one-more P n ms)
-    ∙ ⊎-elim
-    (λ (e : eqb m n ≡ true). rw (sym (eqb-true m n e), eq-eqb m m refl) (same-number (isUsed m) (P m) (holds m ms) (anyMarked P ms)))
-    (λ (e : eqb m n ≡ false).
+    ∙ by-test (eqb m n)
+    (λ e. rw (sym (eqb-true m n e), eq-eqb m m refl) (same-number (isUsed m) (P m) (holds m ms) (anyMarked P ms)))
+    (λ e.
     rw
     (e, ne-eqb n m (λ same. eqb-false m n e (sym same)))
     (other-number (isUsed n) (isUsed m) (P m) (holds n ms) (anyMarked P ms)))
-    (view (eqb m n))
 
 again-is : (P : ℕ → Bool) (ns : List ℕ) → again P ns ≡ (anyMarked P ns || heldTwice ns)
 unfolding heldTwice again anyMarked
