@@ -65,12 +65,14 @@ fn used_from(s: &[u16], from: usize) -> bool
 
 // ---- a number held twice
 
+// A number as a place.
 fn widened(x: u16) -> usize
     ensures { λ r. ⌜ r ≡ x ⌝ }
 {
     x as usize
 }
 
+// One mark of a word.
 fn is_marked(marks: u64, k: usize) -> bool
     requires { ⌜ k < 64 ⌝ }
     ensures { λ r. ⌜ r ≡ eqb (marks / 2 ^ k % 2) 1 ⌝ }
@@ -78,6 +80,7 @@ fn is_marked(marks: u64, k: usize) -> bool
     (marks >> k) % 2 == 1
 }
 
+// The word with that mark.
 fn with_mark(marks: u64, k: usize) -> u64
     requires { ⌜ k < 64 ⌝ }
     ensures { λ r. ⌜ r ≡ bitOr marks (2 ^ k) ⌝ }
@@ -85,7 +88,8 @@ fn with_mark(marks: u64, k: usize) -> u64
     marks | (1u64 << k)
 }
 
-// Whether a number other than 0 stands twice.
+// Whether a number other than 0 stands twice. There are 65,536 marks, 64 in each word, all clear at first; a number that is marked when it is met
+// stands there a second time. So each number is looked at once, whatever the others are.
 fn doubled(s: &[u16]) -> bool
     ensures { λ r. ⌜ r ≡ heldTwice (now (s .entry)) ⌝ }
 {
