@@ -2,7 +2,7 @@
  * The last report of a track: track NUMBER RECORDING.. takes a file number and recordings, one for each scan of the antenna. The first
  * recording is scan 1, the second scan 2, and so on. It enters the reports into an index, scan after scan, and asks the index for the number.
  * Standard output has one line: the number's last report, or that the number is in no entry. Standard error has everything that was refused,
- * with its reason: so one sees that a later report may be lost.
+ * with its reason. If something was refused, the report that is printed may not be the last one.
  */
 #include <errno.h>
 #include <inttypes.h>
@@ -16,7 +16,7 @@
 #define ENTRIES 512
 
 /* One byte more than a line may have, so that the library sees when a recording is too long. */
-#define MOST 65537
+#define ROOM 65537
 
 /* The lines are kept: an entry says where its report stands, and not what is in it. */
 struct line {
@@ -65,10 +65,10 @@ static int read_line(const char *name, struct line *l)
 {
     FILE *file;
     int good = 0;
-    l->bytes = malloc(MOST);
+    l->bytes = malloc(ROOM);
     file = l->bytes == NULL ? NULL : fopen(name, "rb");
     if (file != NULL) {
-        l->length = fread(l->bytes, 1, MOST, file);
+        l->length = fread(l->bytes, 1, ROOM, file);
         good = !ferror(file);
     }
     if (!good)

@@ -8,8 +8,11 @@
  *
  * Reading. A call that reads a line answers one number about the run of words at the place. It skips the idle words from the place on. From a
  * place inside a run, the run begins at that place. A call that reads writes nothing (but siamrung_frame_field, which copies, and
- * siamrung_index_enter, which writes into its table). No call keeps anything, so any thread may call at any time. A call reads its own run and no
- * more of the line. So a program that goes from run to run by siamrung_after does work in proportion to the line.
+ * siamrung_index_enter, which writes into its table). A call reads its own run and no more of the line. So a program that goes from run to run by
+ * siamrung_after does work in proportion to the line.
+ *
+ * Threads. No call keeps anything, so any thread may call at any time. But while a call writes into bytes or into a table, no other thread may use
+ * them.
  *
  * Writing. The program passes items: a slice of bytes, sixteen bytes an item. The first eight bytes are the item's number, the last eight are
  * its value, high byte first. A negative value is in two's complement. The items stand in any order. The program passes all items of that
@@ -517,17 +520,22 @@ uint32_t siamrung_frame_write_refusal(const uint8_t *bytes, size_t length, size_
 /*
  * ---- calls of the index: the last report of each file number
  *
- * A table is an array of entries that the program declares, and the number of its entries, at most 512. An empty table may be NULL with 0 entries.
- * An entry is used if its number is not 0, also if the number is above 4,095; of an unused entry nothing else is looked at. So a new table is all
- * zeros. The used entries stand first.
+ * A table is an array of entries that the program declares, and the number of its entries (not of its bytes), at most 512. An empty table may be NULL
+ * with 0 entries. If a table has more than 512, the first 512 are read, and the call is refused. Begin with a table of zeros.
+ *
+ * An entry is used if its number is not 0, also if the number is above 4,095. Of an unused entry nothing else is looked at. The used entries stand
+ * first. So a program that takes an entry out must move the used entries behind it up.
  *
  * ATCRBS, ATCRBS_CD, ATCRBS_MTD, ATCRBS_RDAS, MTD and RDAS reports have a file number (SIAMRUNG_ITEM_FILE). File number 0 means uncorrelated; it is
  * never entered. A report with another number takes the first unused entry if its number is not in the table; else it replaces the earlier report in
  * its number's entry. Earlier and later are the order of the calls, whatever the scan numbers and places are. So the table has the numbers in the
  * order in which they were first entered, each with its last report. Every other outcome (a report of another kind, a refusal of the line, the
- * place or the run, the end) leaves the table as it is.
+ * place or the run, the end) leaves the table as it is. So LEFT does not say that a report was accepted: siamrung_kind tells a refusal and the end.
  *
- * An answer of a call has two parts: what was done, and the entry where it was done. siamrung_index_done and siamrung_index_entry take them out.
+ * An entry says where its report stands on its line, and not which line that is: keep the lines, and choose scan numbers by which you find them again.
+ *
+ * An answer of a call has two parts: what was done, and the entry where it was done. siamrung_index_done and siamrung_index_entry take them out. Do not
+ * compare an answer itself with the numbers of what was done: take it apart first.
  */
 
 /* An entry has sixteen bytes, with no gap. */
@@ -548,7 +556,8 @@ static inline uint32_t siamrung_index_done(uint32_t answer)
     return answer % 256;
 }
 
-/* Takes out of an answer the entry, counted from 0, after ENTERED, REPLACED and FOUND. After any other answer it is 0 and means nothing. */
+/* Takes out of an answer the entry, counted from 0, after ENTERED, REPLACED and FOUND. After any other answer it is 0; do not use it then, because
+ * entry 0 belongs to another number. */
 static inline size_t siamrung_index_entry(uint32_t answer)
 {
     return answer / 256;
@@ -556,8 +565,9 @@ static inline size_t siamrung_index_entry(uint32_t answer)
 
 /*
  * Enters the report at the place, or behind the idle words there, with a scan number that the program chooses. siamrung_index_done takes out of the
- * answer: 50 if the table is broken, whatever stands at the place; else LEFT if no number is entered for what stands there; else ENTERED or
- * REPLACED, and siamrung_index_entry takes out which entry has the report; else 51. Only that entry is written. The table must not overlap the line.
+ * answer: 50 if the table is broken, whatever stands there; else LEFT if no report with a file number other than 0 stands there; else REPLACED if the
+ * number is in the table; else ENTERED if an entry is unused; else 51. After ENTERED and REPLACED siamrung_index_entry takes out which entry has the
+ * report; only that entry is written. After LEFT, 50 and 51 nothing is written. The table must not overlap the line.
  */
 uint32_t siamrung_index_enter(siamrung_entry *table, size_t entries, const uint8_t *bytes, size_t length, size_t place, uint32_t scan);
 

@@ -94,7 +94,13 @@ lost = record {
 -- ---- Ticket 3
 
 takes : TakesReportsWithANumber
-takes = record { number = index.number-as-printed; refused = λ q. refl; end = refl; left = index.not-entered }
+takes = record {
+  number = index.number-as-printed;
+  refused = λ q. refl;
+  end = refl;
+  left = index.left-exactly;
+  stays = index.zero-is-left;
+}
 
 enters : EntersAndReplaces
 enters = record {
@@ -102,12 +108,13 @@ enters = record {
   later-report = index.replaced-exactly;
   kept = index.never-broken;
   found = index.found-exactly;
+  missing = index.missing-exactly;
 }
 
 afresh : EqualsTheOneWorkedOutAfresh
 afresh = record {
   from-unused = index.from-unused;
-  goes-on = index.goes-on;
+  begins = index.begins;
   onward = index.onward;
   all-fit = index.room-for-all;
   line = index.over-a-line;
@@ -139,7 +146,7 @@ requests = record {
   };
   ticket-2 = record { accepted = accepted; uplink = uplink; refusals = lost };
   ticket-3 = record {
-    index-kept = λ table e. (_, _, record { answers = refl; leaves = refl }, λ b left w. (w .answers, w .leaves));
+    one-answer = λ table e. (_, _, record { answers = refl; leaves = refl }, λ b left w. (w .answers, w .leaves));
     takes = takes;
     enters = enters;
     afresh = afresh;

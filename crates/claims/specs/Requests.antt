@@ -135,29 +135,31 @@ OneAnswerOneTable =
     (a : Indexed) × (exit : List Entry) × Indexes table e a exit × ((b : Indexed) (left : List Entry) → Indexes table e b left → (b ≡ a) × (left ≡ exit))
 
 -- "It takes accepted ATCRBS, MTD and RDAS reports, substitution included; any other outcome leaves it as it is. File number 0 means uncorrelated and is
--- never entered; it marks an unused entry." The number of an accepted run is said by the printed bits (number); a refused run and the end have
--- none (refused, end); and without a number other than 0 the table is left (left)
+-- never entered; it marks an unused entry." The number of an accepted run is said by the printed bits (number). A refused run and the end have none
+-- (refused, end). Number 0 is answered with "left", and no other number is (left); it leaves the table as it was (stays)
 pub record TakesReportsWithANumber : Type 0 where
   pub number : index.NumberAsPrinted
   pub refused : (q : LineRefusal) → numberIn (W.Refused q) ≡ uncorrelated
   pub end : numberIn W.End ≡ uncorrelated
-  pub left : index.NotEntered
+  pub left : index.LeftExactly
+  pub stays : index.ZeroStays
 
 -- "Used entries stand first, and a new number takes the first unused one. A later report replaces the earlier in its entry." The calls keep such a
--- table (kept); and a number's entry is found where it stands (found)
+-- table (kept). A number's entry is found where it stands (found), and else it is missing (missing)
 pub record EntersAndReplaces : Type 0 where
   pub new : index.EnteredExactly
   pub later-report : index.ReplacedExactly
   pub kept : index.NeverBroken
   pub found : index.FoundExactly
+  pub missing : index.MissingExactly
 
--- "The index must equal the one worked out afresh from the reports seen." Of the calls that were not refused: from a table of unused entries
--- (from-unused), from any table that is not broken (goes-on), and on from there (onward). Where all numbers fit, no call is refused (all-fit). Over a
--- line it is worked out from the line's runs (line). "Display users click a track and want its latest report": what is found is the last one seen
--- (clicked)
+-- "The index must equal the one worked out afresh from the reports seen." Only calls that were not refused count. It holds after any calls on a table of
+-- unused entries (from-unused). Such a table, and any other that is not broken, holds an index at first (begins); more calls keep it (onward), and so
+-- do the calls on all outcomes of a line, worked out from the line's runs (line). If all numbers fit, no call is refused (all-fit). "Display users
+-- click a track and want its latest report": what is found is the last one seen (clicked)
 pub record EqualsTheOneWorkedOutAfresh : Type 0 where
   pub from-unused : index.FromUnused
-  pub goes-on : index.GoesOn
+  pub begins : index.Begins
   pub onward : index.Onward
   pub all-fit : index.RoomForAll
   pub line : index.OverALine
@@ -175,7 +177,7 @@ pub record IndexRefusals : Type 0 where
   pub none-is-0 : NoNumberIsZero
 
 pub record Ticket3 : Type 0 where
-  pub index-kept : OneAnswerOneTable
+  pub one-answer : OneAnswerOneTable
   pub takes : TakesReportsWithANumber
   pub enters : EntersAndReplaces
   pub afresh : EqualsTheOneWorkedOutAfresh

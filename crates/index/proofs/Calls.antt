@@ -39,7 +39,7 @@ use Rattle.index.specs.declared.Entry.{Entry}
 use Rattle.index.specs.declared.Indexed.{Indexed}
 use Rattle.index.specs.declared.Found.{Found}
 use Rattle.index.specs.Table.{numbersOf}
-use Rattle.index.specs.Steps.{onto, least, judged, spotOf, sought}
+use Rattle.index.specs.Steps.{onto, bounded as boundedOf, judged, spotOf, sought}
 use Rattle.index.proofs.Frames.{numbersRow, numbersTy}
 use Rattle.index.proofs.Entry as T
 use Rattle.index.proofs.Entry.Laws as T′
@@ -49,9 +49,9 @@ use Rattle.index.proofs.Found as F
 use Rattle.index.proofs.Found.Laws as F′
 use Rattle.index.proofs.judging.bounded as bounded
 use Rattle.index.proofs.judging.no_numbers as no-numbers
-use Rattle.index.proofs.judging.judge as judge
+use Rattle.index.proofs.judging.judge_enter as judge
 use Rattle.index.proofs.judging.spot as spot
-use Rattle.index.proofs.judging.search as search′
+use Rattle.index.proofs.judging.judge_find as search′
 use Rattle.index.proofs.table.numbers as numbers
 use Rattle.index.proofs.table.put as put
 
@@ -132,10 +132,10 @@ module _ {M : Type 1} (𝓤 : URA M) (H : Heap 𝓤) (A : Atoms 𝓤) (W : Given
   pub goes-bounded : (n : ℕ) (vn : Val) → Is usize n (vn ∷ []) → ent 𝓤 (emp 𝓤) (Bounded 𝓤 H A mem run .pre (to-bounded n vn))
   goes-bounded n vn is-n = qed W [] ∵ nothing ! $ owned ! usize (Is usize) (uint-makes 𝓤 H A W w64) n (vn ∷ []) is-n $ fjoin ! $ nothing ! $ join ! $ frame ! $ done !
 
-  pub gets-bounded : (n : ℕ) (vn w : Val) → ent 𝓤 (Bounded 𝓤 H A mem run .post (to-bounded n vn) w) (H .⇛ (Given-back 𝓤 usize (λ r. r ≡ least n) w))
+  pub gets-bounded : (n : ℕ) (vn w : Val) → ent 𝓤 (Bounded 𝓤 H A mem run .post (to-bounded n vn) w) (H .⇛ (Given-back 𝓤 usize (λ r. r ≡ boundedOf n) w))
   gets-bounded n vn w =
-      gets-value 𝓤 H A W usize (λ r. ensured 𝓤 H A bounded.ended (bounded.clauses 𝓤 H A mem run) tt (n, tt) tt r) (λ r. r ≡ least n)
-      (λ r. exE 𝓤 _ (λ ws. snd∗ 𝓤 (sem 𝓤 H A (lasts bounded.ended tt (n, tt) ws)) (fact 𝓤 (r ≡ least n)))) w
+      gets-value 𝓤 H A W usize (λ r. ensured 𝓤 H A bounded.ended (bounded.clauses 𝓤 H A mem run) tt (n, tt) tt r) (λ r. r ≡ boundedOf n)
+      (λ r. exE 𝓤 _ (λ ws. snd∗ 𝓤 (sem 𝓤 H A (lasts bounded.ended tt (n, tt) ws)) (fact 𝓤 (r ≡ boundedOf n)))) w
 
   -- ---- `no_numbers`
 

@@ -3,13 +3,13 @@
 use Prim.Native.Nat.{ℕ, _≤_}
 use mathlib.Core.Bool.{Bool, true, false, not, cond, _||_}
 use mathlib.Core.List.{List, [], _∷_, _++_, map}
-use mathlib.Core.Logic.{_↔_}
+use mathlib.Core.Logic.{_↔_, _⊎_, inl, inr, ⊎-elim}
 use mathlib.Core.Path.{_≡_, refl, sym, ap, _∙_}
 use native.Mathlib.Omega.{arith}
 use lib.Dec.{eqb}
 use lib.ListN.{length, take, drop, length-append, take-append-drop}
 use lib.Seq.{drop-at, length-take-le}
-use borrow.Author.Tests.{eqb-false, eq-eqb, ne-eqb, ltb-false}
+use borrow.Author.Tests.{eqb-true, eqb-false, eq-eqb, ne-eqb, ltb-false}
 use Rattle.rows.specs.Rows.{Row, firstOf}
 use Rattle.rows.proofs.Claims as law
 use Rattle.words.proofs.Tests.{picked, passed, by-test}
@@ -40,9 +40,9 @@ use Rattle.index.specs.Entries.{uncorrelated, fileOf, entryOf}
 use Rattle.index.specs.Table.{most, numbersOf, holds, placeOf, usedIn, brokenRows, isBroken}
 use Rattle.index.specs.Indexing.{enterRows, taken, indexed, leftBy, findRows, found}
 use Rattle.index.specs.Afresh.{afresh, after, notRefused, broughtBy, reportsOf}
-use Rattle.index.specs.Claims.{printedNumber, NumberAsPrinted, EnteredExactly, ReplacedExactly, FoundExactly, EnterRefuses, FindRefuses, BrokenExactly, FullExactly, RefusedStays, NotEntered, HoldsIndex, FromUnused, GoesOn, Onward, NeverBroken, RoomForAll, FoundIsLatest, OverALine}
-use Rattle.index.proofs.Afresh.{firstWith, afresh-own, latest-first}
-use Rattle.index.proofs.Sound.{first-front, sound, used-in-front, none-broken, behind, answerBy, answered, zero-stays, found-first}
+use Rattle.index.specs.Claims.{printedNumber, NumberAsPrinted, EnteredExactly, ReplacedExactly, FoundExactly, EnterRefuses, FindRefuses, BrokenExactly, FullExactly, MissingExactly, LeftExactly, RefusedStays, ZeroStays, Unused, HoldsIndex, FromUnused, Begins, Onward, NeverBroken, RoomForAll, FoundIsLatest, OverALine}
+use Rattle.index.proofs.Afresh.{firstWith, afresh-distinct, afresh-own, latest-first}
+use Rattle.index.proofs.Sound.{first-front, sound, used-in-front, none-broken, behind, answerBy, answered, zero-stays, found-first, front-used}
 use Rattle.index.proofs.History.{Stands, stays-sound, calls-stand, room}
 
 -- ---- what is entered
@@ -230,11 +230,58 @@ found-exactly table x i =
       λ k. a ∙ rw (k .0, ne-eqb x uncorrelated (k .1), k .2, k .3),
     )
 
+missing-when : (b z h : Bool) (p : ℕ) → cond b (F.Refused TableBroken) (cond z F.Missing (cond (not h) F.Missing (F.At p))) ≡ F.Missing
+    → (b ≡ false) × ((z ≡ true) ⊎ (h ≡ false))
+missing-when true z h p e = absurd (let n : _≡_ {A = ℕ} 0 1 = cc in omega arith)
+missing-when false true h p e = (refl, inl refl)
+missing-when false false true p e = absurd (let n : _≡_ {A = ℕ} 0 1 = cc in omega arith)
+missing-when false false false p e = (refl, inr refl)
+
+when-missing : (b z h : Bool) (p : ℕ) → b ≡ false → (z ≡ true) ⊎ (h ≡ false)
+    → cond b (F.Refused TableBroken) (cond z F.Missing (cond (not h) F.Missing (F.At p))) ≡ F.Missing
+when-missing b true h p e k = rw e
+when-missing b false h p e (inl k) = absurd (let n : _≡_ {A = ℕ} 0 1 = cc in omega arith)
+when-missing b false h p e (inr k) = rw (e, k)
+
+pub missing-exactly : MissingExactly
+unfolding found
+missing-exactly table x =
+    let ns = numbersOf table in
+    let a = behind (F.Refused TableBroken) table (drop 3 (findRows table x)) (F.At (placeOf x ns)) in (
+      λ e.
+          let k = missing-when (isBroken table) (eqb x uncorrelated) (holds x ns) (placeOf x ns) (sym a ∙ e) in
+          (k .0, ⊎-elim (λ z. inl (eqb-true x uncorrelated z)) inr (k .1)),
+      λ k.
+          a
+          ∙ when-missing
+          (isBroken table)
+          (eqb x uncorrelated)
+          (holds x ns)
+          (placeOf x ns)
+          (k .0)
+          (⊎-elim (λ z. inl (eq-eqb x uncorrelated z)) inr (k .1)),
+    )
+
+left-when : (b z h r : Bool) (ns : List ℕ) (x : ℕ) → answerBy b z h r ns x ≡ I.Left → (b ≡ false) × (z ≡ true)
+left-when true z h r ns x e = (cc, cc)
+left-when false true h r ns x e = (cc, cc)
+left-when false false true r ns x e = (cc, cc)
+left-when false false false true ns x e = (cc, cc)
+left-when false false false false ns x e = (cc, cc)
+
+pub left-exactly : LeftExactly
+left-exactly table x =
+    let ns = numbersOf table in
+    let a = answered table x in (
+      λ e. let k = left-when (isBroken table) (eqb x uncorrelated) (holds x ns) (holds uncorrelated ns) ns x (sym a ∙ e) in (k .0, eqb-true x uncorrelated (k .1)),
+      λ k. a ∙ rw (k .0, eq-eqb x uncorrelated (k .1)),
+    )
+
 pub refused-stays : RefusedStays
 refused-stays table e q h = rw h
 
-pub not-entered : NotEntered
-not-entered table e h z = (answered table (e .number) ∙ rw (h, eq-eqb (e .number) uncorrelated z), zero-stays table e z)
+pub zero-is-left : ZeroStays
+zero-is-left table e z = zero-stays table e z
 
 -- ---- the table after calls
 
@@ -244,6 +291,7 @@ holds-index seen first now s =
     let n = ap length (s .was) in
     let m = s .many in
     record {
+      used = ap usedIn (s .is) ∙ front-used (afresh seen) (s .rest) (afresh-distinct seen) (s .unused);
       is = rw there (s .is);
       fits = omega (arith, length-append (s .old) (s .rest));
       rest = rw there (s .unused);
@@ -263,10 +311,14 @@ fits-most table h = ltb-false most (length table) (none-broken table h .0)
 went-on : (table es : List Entry) → isBroken table ≡ false → Stands (afresh (usedIn table ++ notRefused table es)) table (after table es)
 went-on table es h = calls-stand table (fits-most table h) es (usedIn table) table (own table h)
 
-pub goes-on : GoesOn
-goes-on table es h = holds-index (usedIn table ++ notRefused table es) table (after table es) (went-on table es h)
+-- nothing was seen
+nothing : (table : List Entry) → Unused table → Stands [] table table
+nothing table u = record { old = []; rest = table; was = refl; many = refl; is = refl; unused = u }
 
--- a broken table stays so, and every call is refused
+pub begins : Begins
+unfolding afresh
+begins = (λ table u. holds-index [] table table (nothing table u), λ table h. holds-index (usedIn table) table table (own table h))
+
 pub onward : Onward
 onward seen first now es m h =
     holds-index (seen ++ notRefused now es) first (after now es)
@@ -280,6 +332,7 @@ onward seen first now es m h =
       unused = h .rest;
     }))
 
+-- a broken table stays so, and every call is refused
 broken-stays : (table es : List Entry) → isBroken table ≡ true → (after table es ≡ table) × (notRefused table es ≡ [])
 unfolding after notRefused
 broken-stays table [] h = (refl, refl)
@@ -288,10 +341,9 @@ broken-stays table (e ∷ es) h = rw (broken-exactly table (e .number) .0 .1 h) 
 pub from-unused : FromUnused
 unfolding afresh
 from-unused table es u =
-    let start : Stands [] table table = record { old = []; rest = table; was = refl; many = refl; is = refl; unused = u } in
     by-test (isBroken table)
-    (λ b. let k = broken-stays table es b in rw (k .0, k .1) (holds-index [] table table start))
-    (λ b. holds-index (notRefused table es) table (after table es) (calls-stand table (fits-most table b) es [] table start))
+    (λ b. let k = broken-stays table es b in rw (k .0, k .1) (begins .0 table u))
+    (λ b. holds-index (notRefused table es) table (after table es) (calls-stand table (fits-most table b) es [] table (nothing table u)))
 
 pub never-broken : NeverBroken
 never-broken = (
@@ -342,8 +394,7 @@ module _ (answer : List ℕ → RunAnswer) (scan : ℕ) where
       (all-runs Same 0 (length line) (λ p w ws f a b. ap brings (alone-free answer p w ws (omega arith) f)) 0 [] line tt (omega arith) (omega arith))
 
 pub over-a-line : OverALine
-over-a-line answer line scan table m h =
-    let reports = reportsOf answer scan line in
-    let same : after table (map (λ o. entryOf o scan) (outcomes answer line)) ≡ after table reports =
-    ap (after table) (line-brings answer scan line m) ∙ zero-behind table reports (entryOf (endOf (length line)) scan) refl in
-    rw same (goes-on table reports h)
+over-a-line answer line scan seen first now m room′ h =
+    rw
+    (line-brings answer scan line m, zero-behind now (reportsOf answer scan line) (entryOf (endOf (length line)) scan) refl)
+    (onward seen first now (reportsOf answer scan line) room′ h)

@@ -17,7 +17,7 @@ use Rattle.index.specs.declared.IndexRefusal.the-variants.{TableFull}
 use Rattle.index.specs.Entries.{uncorrelated}
 use Rattle.index.specs.Table.{most, numbersOf, holds, placeOf, isBroken}
 use Rattle.index.specs.Indexing.{indexed, leftBy}
-use Rattle.index.specs.Afresh.{afresh, after, counts, notRefused}
+use Rattle.index.specs.Afresh.{afresh, after, unlessRefused, notRefused}
 use Rattle.index.specs.Claims.{Unused}
 use Rattle.index.proofs.Afresh.{added, afresh-more, afresh-grows, afresh-distinct, Lacks}
 use Rattle.index.proofs.Sound.{unused-first, held-front, sound, answered, replaces, appends, unused-there, none-unused}
@@ -33,7 +33,7 @@ pub record Stands (xs first now : List Entry) : Type 0 where
 
 -- a call that is not refused: its report is in the index
 record Takes (seen first now : List Entry) (e : Entry) : Type 0 where
-  counted : (es : List Entry) → counts (indexed now (e .number)) e es ≡ e ∷ es
+  counted : (es : List Entry) → unlessRefused (indexed now (e .number)) e es ≡ e ∷ es
   stands : Stands (afresh (seen ++ (e ∷ []))) first (leftBy (indexed now (e .number)) now e)
 
 -- a call that is refused: its report would not fit
@@ -51,7 +51,7 @@ module _ (first : List Entry) (small : length first ≤ most) where
 
   module _ (seen now : List Entry) (e : Entry) (s : Stands (afresh seen) first now) where
     -- a call with an answer that is no refusal
-    takes : (a : Indexed) → indexed now (e .number) ≡ a → ((es : List Entry) → counts a e es ≡ e ∷ es)
+    takes : (a : Indexed) → indexed now (e .number) ≡ a → ((es : List Entry) → unlessRefused a e es ≡ e ∷ es)
         → Stands (afresh (seen ++ (e ∷ []))) first (leftBy a now e)
         → Takes seen first now e ⊎ Full seen first now e
     takes a q c st = inl (record { counted = λ es. rw q (c es); stands = rw q st })

@@ -20,7 +20,7 @@ use Rattle.index.specs.declared.judging.Looked.{Looked}
 use Rattle.index.specs.declared.judging.Looked.the-variants as L
 use Rattle.index.specs.Table.{most, numbersOf, holds, placeOf, usedAfterUnused, heldTwice}
 use Rattle.index.specs.Indexing.{indexed, leftBy, found}
-use Rattle.index.specs.Steps.{blank, onto, least, lookedIn, indexedBy, judged, spotOf, nowhere, foundBy, sought}
+use Rattle.index.specs.Steps.{blank, onto, bounded as boundedOf, lookedIn, indexedBy, judged, spotOf, nowhere, foundBy, sought}
 use Rattle.index.proofs.Looks.{held-place}
 
 -- ---- a store
@@ -69,14 +69,14 @@ numbers-none ns = refl
 -- ---- what is decided of the array is what is answered of the table
 
 -- n entries of a table, or 512
-pub least-fits : (n : ℕ) → (least n ≤ n) × (least n ≤ 512)
-least-fits n =
+pub bounded-fits : (n : ℕ) → (boundedOf n ≤ n) × (boundedOf n ≤ 512)
+bounded-fits n =
     by-test (ltb n 512)
     (λ l. rw l (omega arith, omega (arith, ltb-true n 512 l)))
     (λ g. rw g (ltb-false n 512 g, omega arith))
 
-least-all : (n : ℕ) → n ≤ 512 → least n ≡ n
-least-all n h =
+bounded-all : (n : ℕ) → n ≤ 512 → boundedOf n ≡ n
+bounded-all n h =
     by-test (ltb n 512)
     (λ l. rw l)
     (λ g. rw g (omega (arith, ltb-false n 512 g)))
@@ -93,10 +93,10 @@ onto-front (x ∷ xs) [] h = absurd (omega arith)
 onto-front (x ∷ xs) (y ∷ ys) h = ap (λ (l : List ℕ). x ∷ l) (onto-front xs ys (omega arith))
 
 -- the array's front has the numbers of the table
-front-is : (ys : List Entry) → length ys ≤ 512 → take (length ys) (onto (numbersOf (take (least (length ys)) ys)) (replicate 512 0)) ≡ numbersOf ys
+front-is : (ys : List Entry) → length ys ≤ 512 → take (length ys) (onto (numbersOf (take (boundedOf (length ys)) ys)) (replicate 512 0)) ≡ numbersOf ys
 front-is ys h =
     rw
-    (least-all (length ys) h, take-length ys, ← numbers-length ys)
+    (bounded-all (length ys) h, take-length ys, ← numbers-length ys)
     (onto-front (numbersOf ys) (replicate 512 0) (omega (arith, numbers-length ys, length-replicate {A = ℕ} 512 0)))
 
 -- a number has a place in front of the end exactly where it is held
@@ -130,7 +130,7 @@ looks-broken f ns x = go (usedAfterUnused ns) (heldTwice ns) (L.Sound (placeOf 0
 
 -- the same of any answer that goes by a look, over 512 entries and below
 of-table : {A : Type 0} (broken : A) (f : Looked → ℕ → A) (ys : List Entry) (x : ℕ)
-    → cond (ltb most (length ys)) broken (f (lookedIn (take (length ys) (onto (numbersOf (take (least (length ys)) ys)) (replicate 512 0))) x) (length ys))
+    → cond (ltb most (length ys)) broken (f (lookedIn (take (length ys) (onto (numbersOf (take (boundedOf (length ys)) ys)) (replicate 512 0))) x) (length ys))
     ≡ cond (ltb most (length ys)) broken (f (lookedIn (numbersOf ys) x) (length (numbersOf ys)))
 of-table broken f ys x =
     by-test (ltb most (length ys))
@@ -138,14 +138,14 @@ of-table broken f ys x =
     (λ g. rw g (rw (front-is ys (ltb-false most (length ys) g), numbers-length ys)))
 
 module _ (ys : List Entry) (x : ℕ) where
-  pub answered : judged (onto (numbersOf (take (least (length ys)) ys)) (replicate 512 0)) (length ys) x ≡ indexed ys x
+  pub answered : judged (onto (numbersOf (take (boundedOf (length ys)) ys)) (replicate 512 0)) (length ys) x ≡ indexed ys x
   unfolding judged indexed
   answered =
       let ns = numbersOf ys in
       of-table (I.Refused TableBroken) (λ l n. indexedBy l n x) ys x
       ∙ ap (cond (ltb most (length ys)) (I.Refused TableBroken)) (looks-broken (λ l. indexedBy l (length ns) x) ns x ∙ rw (held-is x ns, held-is 0 ns, reordered (holds x ns) (holds 0 ns) (I.Replaced (placeOf x ns)) (I.Entered (placeOf 0 ns)) (I.Refused TableFull)))
 
-  pub sought-is : sought (onto (numbersOf (take (least (length ys)) ys)) (replicate 512 0)) (length ys) x ≡ found ys x
+  pub sought-is : sought (onto (numbersOf (take (boundedOf (length ys)) ys)) (replicate 512 0)) (length ys) x ≡ found ys x
   unfolding sought found
   sought-is =
       let ns = numbersOf ys in

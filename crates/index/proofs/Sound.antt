@@ -164,3 +164,10 @@ pub none-unused : (xs : List Entry) → Distinct xs → Lacks uncorrelated xs
 unfolding holds numbersOf
 none-unused [] d = refl
 none-unused (x ∷ xs) d = rw (d .0) (none-unused xs (d .2))
+
+-- the used entries are those in front
+pub front-used : (xs rest : List Entry) → Distinct xs → Unused rest → usedIn (xs ++ rest) ≡ xs
+unfolding placeOf numbersOf
+front-used [] [] d u = refl
+front-used [] (r ∷ rest) d u = rw (unused-first r rest u .0)
+front-used (x ∷ xs) rest d u = rw (d .0) (ap (λ (l : List Entry). x ∷ l) (front-used xs rest (d .2) u))

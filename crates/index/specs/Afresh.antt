@@ -1,5 +1,6 @@
 -- The index worked out afresh from the reports seen, without a table and its calls; and the calls one after the other (document 02, Ticket 3: "The
--- index must equal the one worked out afresh from the reports seen"). A report that was seen is what its outcome brings. Definitions only.
+-- index must equal the one worked out afresh from the reports seen"). Here a report is the entry that its outcome brings; number 0 stands for none.
+-- Definitions only.
 use Prim.Native.Nat.{ℕ}
 use mathlib.Core.Bool.{cond}
 use mathlib.Core.List.{List, [], _∷_, _++_, map}
@@ -49,17 +50,17 @@ unfoldable pub after : List Entry → List Entry → List Entry
 after table [] = table
 after table (e ∷ es) = after (leftBy (indexed table (e .number)) table e) es
 
--- a call is not refused
-abbrev pub counts : Indexed → Entry → List Entry → List Entry
-counts (I.Entered i) e es = e ∷ es
-counts (I.Replaced i) e es = e ∷ es
-counts I.Left e es = e ∷ es
-counts (I.Refused q) e es = es
+-- e in front of es, unless its call was refused
+abbrev pub unlessRefused : Indexed → Entry → List Entry → List Entry
+unlessRefused (I.Entered i) e es = e ∷ es
+unlessRefused (I.Replaced i) e es = e ∷ es
+unlessRefused I.Left e es = e ∷ es
+unlessRefused (I.Refused q) e es = es
 
 -- of what the calls bring, that of the calls that were not refused
 unfoldable pub notRefused : List Entry → List Entry → List Entry
 notRefused table [] = []
-notRefused table (e ∷ es) = counts (indexed table (e .number)) e (notRefused (leftBy (indexed table (e .number)) table e) es)
+notRefused table (e ∷ es) = unlessRefused (indexed table (e .number)) e (notRefused (leftBy (indexed table (e .number)) table e) es)
 
 -- the entry that is found: one, or none
 abbrev pub shown : Found → List Entry → List Entry

@@ -1,8 +1,8 @@
 -- What is claimed of the index (document 02, Ticket 3). Statements only, with what they need to be said; proofs/Claims.antt proves them.
 use Prim.Native.Nat.{ℕ, _≤_}
-use mathlib.Core.Logic.{_↔_}
+use mathlib.Core.Logic.{_↔_, _⊎_}
 use mathlib.Core.Bool.{true, false, cond}
-use mathlib.Core.List.{List, _++_, map}
+use mathlib.Core.List.{List, [], _++_, map}
 use mathlib.Core.Path.{_≡_}
 use lib.ListN.{length, drop}
 use Rattle.rows.specs.Claims.{FirstIs}
@@ -60,6 +60,16 @@ FoundExactly =
     (found table x ≡ F.At i)
     ↔ ((isBroken table ≡ false) × (x ≡ uncorrelated → ⊥) × (holds x (numbersOf table) ≡ true) × (placeOf x (numbersOf table) ≡ i))
 
+-- missing exactly where the number is 0, or not in the table
+abbrev pub MissingExactly : Type 0
+MissingExactly =
+    (table : List Entry) (x : ℕ) →
+    (found table x ≡ F.Missing) ↔ ((isBroken table ≡ false) × ((x ≡ uncorrelated) ⊎ (holds x (numbersOf table) ≡ false)))
+
+-- left exactly where the number is 0
+abbrev pub LeftExactly : Type 0
+LeftExactly = (table : List Entry) (x : ℕ) → (indexed table x ≡ I.Left) ↔ ((isBroken table ≡ false) × (x ≡ uncorrelated))
+
 -- ---- the refusals
 
 -- each of 50 and 51 is given exactly where its row is the first that holds
@@ -86,11 +96,9 @@ FullExactly =
 abbrev pub RefusedStays : Type 0
 RefusedStays = (table : List Entry) (e : Entry) (q : IndexRefusal) → indexed table (e .number) ≡ I.Refused q → leftBy (indexed table (e .number)) table e ≡ table
 
--- so does number 0: in a table that is not broken it is no refusal
-abbrev pub NotEntered : Type 0
-NotEntered =
-    (table : List Entry) (e : Entry) → isBroken table ≡ false → e .number ≡ uncorrelated →
-    (indexed table (e .number) ≡ I.Left) × (leftBy (indexed table (e .number)) table e ≡ table)
+-- number 0 leaves the table as it was
+abbrev pub ZeroStays : Type 0
+ZeroStays = (table : List Entry) (e : Entry) → e .number ≡ uncorrelated → leftBy (indexed table (e .number)) table e ≡ table
 
 -- ---- the table after calls
 
@@ -98,8 +106,10 @@ NotEntered =
 abbrev pub Unused : List Entry → Type 0
 Unused table = anyUsed (numbersOf table) ≡ false
 
--- a table holds the index of the reports seen: they stand in front, the rest is as it was in the first table, and unused
+-- a table holds the index of the reports seen: its used entries are what is worked out afresh; they stand in front; the rest is as it was in the
+-- first table, and unused
 pub record HoldsIndex (seen first now : List Entry) : Type 0 where
+  pub used : usedIn now ≡ afresh seen
   pub is : now ≡ over seen first
   pub fits : length (afresh seen) ≤ length first
   pub rest : Unused (drop (length (afresh seen)) first)
@@ -108,9 +118,11 @@ pub record HoldsIndex (seen first now : List Entry) : Type 0 where
 abbrev pub FromUnused : Type 0
 FromUnused = (table es : List Entry) → Unused table → HoldsIndex (notRefused table es) table (after table es)
 
--- from any table that is not broken, which stands for the reports in its used entries
-abbrev pub GoesOn : Type 0
-GoesOn = (table es : List Entry) → isBroken table ≡ false → HoldsIndex (usedIn table ++ notRefused table es) table (after table es)
+-- a table of unused entries holds the index of nothing; a table that is not broken holds that of the reports in its used entries
+abbrev pub Begins : Type 0
+Begins =
+    ((table : List Entry) → Unused table → HoldsIndex [] table table)
+    × ((table : List Entry) → isBroken table ≡ false → HoldsIndex (usedIn table) table table)
 
 -- a table that holds the index of what was seen holds, after more calls, the index of that and what they bring: so over many lines and scans
 abbrev pub Onward : Type 0
@@ -118,7 +130,7 @@ Onward =
     (seen first now es : List Entry) → length first ≤ most → HoldsIndex seen first now →
     HoldsIndex (seen ++ notRefused now es) first (after now es)
 
--- 50 is never given for a table that calls made
+-- 50 is never given for a table that calls made from one that is not broken; a table of at most 512 unused entries is such a one
 abbrev pub NeverBroken : Type 0
 NeverBroken =
     ((table : List Entry) → length table ≤ most → Unused table → isBroken table ≡ false)
@@ -136,12 +148,14 @@ FoundIsLatest =
 
 -- ---- a line
 
--- the calls on all outcomes of a line, in order, leave what is worked out afresh from its reports: of those that are not refused, which are all where
--- they fit (RoomForAll). The reports are said by the line's runs, without the reader
+-- the calls on all outcomes of a line of words, in order, leave what is worked out afresh from what was seen before and from the line's reports. A report
+-- that is refused does not count; if all numbers fit, none is refused (RoomForAll). The reports are taken from the line's runs, not from the reader.
+-- So it goes on line after line, from a table of unused entries (Begins)
 abbrev pub OverALine : Type 0
 OverALine =
-    (answer : List ℕ → RunAnswer) (line : List ℕ) (scan : ℕ) (table : List Entry) → length line ≤ mostWords → isBroken table ≡ false →
+    (answer : List ℕ → RunAnswer) (line : List ℕ) (scan : ℕ) (seen first now : List Entry) → length line ≤ mostWords → length first ≤ most →
+    HoldsIndex seen first now →
     HoldsIndex
-    (usedIn table ++ notRefused table (reportsOf answer scan line))
-    table
-    (after table (map (λ o. entryOf o scan) (outcomes answer line)))
+    (seen ++ notRefused now (reportsOf answer scan line))
+    first
+    (after now (map (λ o. entryOf o scan) (outcomes answer line)))

@@ -15,7 +15,7 @@ use Rattle.index.specs.declared.judging.Looked.the-variants as L
 use Rattle.index.specs.Entries.{uncorrelated}
 use Rattle.index.specs.Table.{most, placeOf, usedAfterUnused, heldTwice}
 
--- an entry that is unused, for a place where there is none
+-- an unused entry: what a look beyond the end of a table gives
 abbrev pub blank : Entry
 blank = record { number = uncorrelated; kind = 0; scan = 0; place = 0 }
 
@@ -26,8 +26,8 @@ onto (x ∷ xs) [] = []
 onto (x ∷ xs) (y ∷ ys) = x ∷ onto xs ys
 
 -- n, or the most entries of a table where that is less
-abbrev pub least : ℕ → ℕ
-least n = cond (ltb n most) n most
+abbrev pub bounded : ℕ → ℕ
+bounded n = cond (ltb n most) n most
 
 -- what a look at the numbers of a table finds
 unfoldable pub lookedIn : List ℕ → ℕ → Looked

@@ -32,7 +32,7 @@ unfoldable pub holds : ℕ → List ℕ → Bool
 holds x [] = false
 holds x (n ∷ ns) = eqb n x || holds x ns
 
--- where it stands first; behind the last one where it is not among them
+-- where it stands first, counted from 0; behind the last one where it is not among them
 unfoldable pub placeOf : ℕ → List ℕ → ℕ
 placeOf x [] = 0
 placeOf x (n ∷ ns) = cond (eqb n x) 0 (suc (placeOf x ns))

@@ -18,7 +18,7 @@ pub fn enter(entries: &mut [Entry], e: Entry) -> Indexed
     let n = judging::bounded(len);
     let none = judging::no_numbers();
     let ns = table::numbers(entries, n, none);
-    let answer = judging::judge(ns, len, e);
+    let answer = judging::judge_enter(ns, len, e);
     let i = judging::spot(answer);
     table::put(entries, i, e);
     answer
@@ -32,5 +32,5 @@ pub fn find(entries: &[Entry], number: u16) -> Found
     let n = judging::bounded(len);
     let none = judging::no_numbers();
     let ns = table::numbers(entries, n, none);
-    judging::search(ns, len, number)
+    judging::judge_find(ns, len, number)
 }

@@ -1,5 +1,5 @@
-// What the numbers of a table say: whether it is broken, where a number stands, and which entry a report takes. Each is linear in the table: a number
-// held twice is found by one mark for each of the 65,536 numbers.
+// What the numbers of a table say: whether it is broken, where a number stands, and which entry a report takes. The work is linear in the table: a number
+// held twice is found by marks, not by comparing every entry with every other.
 // Relies on the definitions of specs/Table.antt and specs/Indexing.antt.
 ghost use mathlib.Core.Path.{_≡_};
 ghost use mathlib.Core.List.{_++_};
@@ -7,8 +7,8 @@ ghost use Prim.Native.Nat.{_≤_, _<_, _/_, _%_, _^_};
 ghost use lib.Bits.{bitOr};
 ghost use lib.Dec.{eqb};
 ghost use lib.ListN.{length, take, drop, replicate};
-ghost use Rattle.index.specs.Table.{placeOf, anyUsed, heldTwice};
-ghost use Rattle.index.specs.Steps.{least, lookedIn, indexedBy, judged, spotOf, foundBy, sought};
+ghost use Rattle.index.specs.Table.{most, placeOf, anyUsed, heldTwice};
+ghost use Rattle.index.specs.Steps.{bounded as boundedOf, lookedIn, indexedBy, judged, spotOf, foundBy, sought};
 use crate::Entry;
 use crate::Found;
 use crate::IndexRefusal;
@@ -16,25 +16,25 @@ use crate::Indexed;
 use crate::MOST;
 use crate::UNCORRELATED;
 
-// A place beyond every table.
+// A position beyond every table.
 const NOWHERE: usize = 18446744073709551615;
 
 // How many numbers of a table of n entries are looked at.
 pub fn bounded(n: usize) -> usize
-    ensures { λ r. ⌜ r ≡ least n ⌝ }
+    ensures { λ r. ⌜ r ≡ boundedOf n ⌝ }
 {
     if n < MOST { n } else { MOST }
 }
 
-pub fn no_numbers() -> [u16; 512]
-    ensures { λ r. ⌜ r ≡ replicate 512 0 ⌝ }
+pub fn no_numbers() -> [u16; MOST]
+    ensures { λ r. ⌜ r ≡ replicate most 0 ⌝ }
 {
-    [0u16; 512]
+    [0u16; MOST]
 }
 
 // ---- searches
 
-// The first place of x, or the length.
+// The first position of x, or the length.
 fn seek(s: &[u16], x: u16) -> usize
     ensures { λ r. ⌜ r ≡ placeOf x (now (s .entry)) ⌝ }
 {
@@ -48,7 +48,7 @@ fn seek(s: &[u16], x: u16) -> usize
     i
 }
 
-// Whether a used entry stands at a place or behind it.
+// Whether a used entry stands at a position or behind it.
 fn used_from(s: &[u16], from: usize) -> bool
     requires { ⌜ from ≤ length (now s) ⌝ }
     ensures { λ r. ⌜ r ≡ anyUsed (drop from (now (s .entry))) ⌝ }
@@ -65,14 +65,19 @@ fn used_from(s: &[u16], from: usize) -> bool
 
 // ---- a number held twice
 
-// A number as a place.
+// The marks: a bit for each of the 65,536 numbers, in so many words of so many bits.
+const WORDS: usize = 1024;
+
+const BITS: usize = 64;
+
+// An element of a slice that is cast where it is read asks for a proof of its own; passed to this function it does not.
 fn widened(x: u16) -> usize
     ensures { λ r. ⌜ r ≡ x ⌝ }
 {
     x as usize
 }
 
-// One mark of a word.
+// Whether mark k of these is set.
 fn is_marked(marks: u64, k: usize) -> bool
     requires { ⌜ k < 64 ⌝ }
     ensures { λ r. ⌜ r ≡ eqb (marks / 2 ^ k % 2) 1 ⌝ }
@@ -80,7 +85,7 @@ fn is_marked(marks: u64, k: usize) -> bool
     (marks >> k) % 2 == 1
 }
 
-// The word with that mark.
+// These with mark k.
 fn with_mark(marks: u64, k: usize) -> u64
     requires { ⌜ k < 64 ⌝ }
     ensures { λ r. ⌜ r ≡ bitOr marks (2 ^ k) ⌝ }
@@ -88,18 +93,18 @@ fn with_mark(marks: u64, k: usize) -> u64
     marks | (1u64 << k)
 }
 
-// Whether a number other than 0 stands twice. There are 65,536 marks, 64 in each word, all clear at first; a number that is marked when it is met
-// stands there a second time. So each number is looked at once, whatever the others are.
+// Whether a number other than 0 stands twice. All marks are clear at first; a number that is marked when it is met stands there a second time. So each
+// number is looked at once, whatever the others are.
 fn doubled(s: &[u16]) -> bool
     ensures { λ r. ⌜ r ≡ heldTwice (now (s .entry)) ⌝ }
 {
-    let mut marks = [0u64; 1024];
+    let mut marks = [0u64; WORDS];
     let mut i = 0;
     while i < s.len() {
         let x = widened(s[i]);
         if x != 0 {
-            let at = x / 64;
-            let k = x % 64;
+            let at = x / BITS;
+            let k = x % BITS;
             let old = marks[at];
             if is_marked(old, k) {
                 return true;
@@ -137,8 +142,8 @@ fn look(s: &[u16], x: u16) -> Looked
 // ---- entering
 
 // What entering number x into a table of n entries answers.
-fn decide(looked: Looked, n: usize, x: u16) -> Indexed
-    requires { ⌜ n ≤ 512 ⌝ }
+fn answer_enter(looked: Looked, n: usize, x: u16) -> Indexed
+    requires { ⌜ n ≤ most ⌝ }
     ensures { λ r. ⌜ r ≡ indexedBy looked n x ⌝ }
 {
     match looked {
@@ -158,7 +163,7 @@ fn decide(looked: Looked, n: usize, x: u16) -> Indexed
 }
 
 // What entering an entry into a table of n entries answers. The first n of ns are the numbers of the table.
-pub fn judge(ns: [u16; 512], n: usize, e: Entry) -> Indexed
+pub fn judge_enter(ns: [u16; MOST], n: usize, e: Entry) -> Indexed
     ensures { λ r. ⌜ r ≡ judged ns n (e .number) ⌝ }
 {
     if MOST < n {
@@ -166,7 +171,7 @@ pub fn judge(ns: [u16; 512], n: usize, e: Entry) -> Indexed
     }
     let x = e.number;
     let looked = look(&ns[..n], x);
-    decide(looked, n, x)
+    answer_enter(looked, n, x)
 }
 
 // Where an answer has the entry stored.
@@ -184,8 +189,8 @@ pub fn spot(answer: Indexed) -> usize
 // ---- finding
 
 // What looking for number x in a table of n entries answers.
-fn tell(looked: Looked, n: usize, x: u16) -> Found
-    requires { ⌜ n ≤ 512 ⌝ }
+fn answer_find(looked: Looked, n: usize, x: u16) -> Found
+    requires { ⌜ n ≤ most ⌝ }
     ensures { λ r. ⌜ r ≡ foundBy looked n x ⌝ }
 {
     match looked {
@@ -203,12 +208,12 @@ fn tell(looked: Looked, n: usize, x: u16) -> Found
 }
 
 // The same for the first n of ns, which are the numbers of the table.
-pub fn search(ns: [u16; 512], n: usize, x: u16) -> Found
+pub fn judge_find(ns: [u16; MOST], n: usize, x: u16) -> Found
     ensures { λ r. ⌜ r ≡ sought ns n x ⌝ }
 {
     if MOST < n {
         return Found::Refused(IndexRefusal::TableBroken);
     }
     let looked = look(&ns[..n], x);
-    tell(looked, n, x)
+    answer_find(looked, n, x)
 }

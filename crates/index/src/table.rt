@@ -4,13 +4,14 @@
 ghost use mathlib.Core.Path.{_≡_};
 ghost use Prim.Native.Nat.{_≤_};
 ghost use lib.ListN.{length, set, take};
-ghost use Rattle.index.specs.Table.{numbersOf};
+ghost use Rattle.index.specs.Table.{most, numbersOf};
 ghost use Rattle.index.specs.Steps.{onto};
 use crate::Entry;
+use crate::MOST;
 
 // The numbers of the first n entries, put over the first of ns.
-pub fn numbers(table: &[Entry], n: usize, ns: [u16; 512]) -> [u16; 512]
-    requires { ⌜ (n ≤ length (now table)) × (n ≤ 512) ⌝ }
+pub fn numbers(table: &[Entry], n: usize, ns: [u16; MOST]) -> [u16; MOST]
+    requires { ⌜ (n ≤ length (now table)) × (n ≤ most) ⌝ }
     ensures { λ r. ⌜ r ≡ onto (numbersOf (take n (now (table .entry)))) ns ⌝ }
 {
     let mut ns = ns;
@@ -23,7 +24,7 @@ pub fn numbers(table: &[Entry], n: usize, ns: [u16; 512]) -> [u16; 512]
     ns
 }
 
-// Stores an entry at a place of the table; at a place beyond its end it stores nothing.
+// Stores an entry at a position of the table; beyond its end it stores nothing.
 pub fn put(table: &mut [Entry], i: usize, e: Entry)
     ensures { λ _. ⌜ now (table .exit) ≡ set (now (table .entry)) i e ⌝ }
 {

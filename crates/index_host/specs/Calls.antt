@@ -15,7 +15,7 @@ use Rattle.index.specs.Indexing.{indexed, leftBy}
 use Rattle.lines.specs.Bytes.{readBytes}
 use Rattle.reports.specs.Altitude.{AltitudeForm}
 
--- ---- what was done: no kind's number, and no refusal's
+-- ---- what was done. No two of these numbers, the kinds' and the refusals' are the same (tests/header.rs)
 
 abbrev enteredDone : ℕ
 enteredDone = 123
@@ -34,9 +34,13 @@ missingDone = 127
 
 -- ---- an answer as one number
 
--- what was done, and behind it, counted in 256, the entry where it was done
+-- the entries are counted in these
+abbrev step : ℕ
+step = 256
+
+-- what was done, and behind it the entry where it was done
 abbrev pub doneAt : ℕ → ℕ → ℕ
-doneAt done entry = done + 256 * entry
+doneAt done entry = done + step * entry
 
 abbrev pub answerNumber : Indexed → ℕ
 answerNumber (I.Entered i) = doneAt enteredDone i
@@ -56,6 +60,10 @@ pub record Enters (form : AltitudeForm) (table : List Entry) (bytes : List ℕ) 
   pub answers : answer ≡ answerNumber (indexed table (entryOf (readBytes form bytes place) scan .number))
   pub leaves : exit ≡ leftBy (indexed table (entryOf (readBytes form bytes place) scan .number)) table (entryOf (readBytes form bytes place) scan)
 
--- a number above 65,535 is in no entry, as 0 is
+-- how many numbers sixteen bits have
+abbrev numbers : ℕ
+numbers = 65536
+
+-- a greater number is in no entry, as 0 is in none
 abbrev pub fileNumber : ℕ → ℕ
-fileNumber n = cond (ltb n 65536) n uncorrelated
+fileNumber n = cond (ltb n numbers) n uncorrelated

@@ -74,10 +74,13 @@ pub extern "C" fn siamrung_index_enter(
 
 // ---- finding
 
+// An entry's number has sixteen bits.
+const NUMBERS: u32 = 65536;
+
 fn file_number(number: u32) -> u16
     ensures { λ r. ⌜ r ≡ fileNumber number ⌝ }
 {
-    if number < 65536 { number as u16 } else { 0 }
+    if number < NUMBERS { number as u16 } else { 0 }
 }
 
 #[no_mangle]

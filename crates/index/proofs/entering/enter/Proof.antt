@@ -1,5 +1,5 @@
 -- `index::entering::enter` meets its contract: a walk of its MIR, by hand, which is six calls. The table is lent to `numbers` for a lifetime of that call,
--- and given up to `put`. What is decided is `judge`'s, a covered function; `answered` and `stores` of Lent.antt say that it is what the contract says.
+-- and given up to `put`. What is decided is `judge_enter`'s, a covered function; `answered` and `stores` of Lent.antt say that it is what the contract says.
 -- Assumes nothing.
 use Prim.Native.Nat.{ℕ, _<_, _≤_, _^_}
 use mathlib.Core.List.{List, [], _∷_}
@@ -48,9 +48,9 @@ use Rattle.index.specs.declared.Entry.{Entry}
 use Rattle.index.specs.declared.Indexed.{Indexed}
 use Rattle.index.specs.Table.{numbersOf}
 use Rattle.index.specs.Indexing.{Indexes, indexed, leftBy}
-use Rattle.index.specs.Steps.{onto, least, judged, spotOf}
+use Rattle.index.specs.Steps.{onto, bounded as boundedOf, judged, spotOf}
 use Rattle.index.proofs.Frames.{numbersRow}
-use Rattle.index.proofs.Lent.{least-fits, answered, stores}
+use Rattle.index.proofs.Lent.{bounded-fits, answered, stores}
 use Rattle.index.proofs.Calls.{Bounded, No-numbers, Numbers, Judge, Spot, Put, Back, Numbered, typed-usize, typed-numbers, typed-entry, typed-indexed, to-bounded, goes-bounded, gets-bounded, to-no-numbers, goes-no-numbers, gets-no-numbers, to-numbers, goes-numbers, gets-numbers, to-judge, goes-judge, gets-judge, to-spot, goes-spot, gets-spot, to-put, goes-put, Of-put, gets-put}
 use Rattle.index.proofs.Entry as T
 use Rattle.index.proofs.Entry.Laws as T′
@@ -65,9 +65,9 @@ use Rattle.index.proofs.judging.no_numbers.Met as no-numbers-thm
 use Rattle.index.proofs.table.numbers.Symbol as numbers-def
 use Rattle.index.proofs.table.numbers.Symbol.{name as #index·table·numbers}
 use Rattle.index.proofs.table.numbers.Met as numbers-thm
-use Rattle.index.proofs.judging.judge.Symbol as judge-def
-use Rattle.index.proofs.judging.judge.Symbol.{name as #index·judging·judge}
-use Rattle.index.proofs.judging.judge.Met as judge-thm
+use Rattle.index.proofs.judging.judge_enter.Symbol as judge-def
+use Rattle.index.proofs.judging.judge_enter.Symbol.{name as #index·judging·judge-enter}
+use Rattle.index.proofs.judging.judge_enter.Met as judge-thm
 use Rattle.index.proofs.judging.spot.Symbol as spot-def
 use Rattle.index.proofs.judging.spot.Symbol.{name as #index·judging·spot}
 use Rattle.index.proofs.judging.spot.Met as spot-thm
@@ -90,7 +90,7 @@ Arg = RefT (List Entry) × (Entry × Unit {0})
 
 -- what the callees give, one after the other, is what the contract says
 told : (ys : List Entry) (e : Entry) (n : ℕ) (none ns : List ℕ) (r : Indexed) (i : ℕ) (zs : List Entry) → length ys < 2 ^ 64
-    → n ≡ least (length ys) → none ≡ replicate 512 0 → ns ≡ onto (numbersOf (take n ys)) none → r ≡ judged ns (length ys) (e .number) → i ≡ spotOf r → zs ≡ set ys i e
+    → n ≡ boundedOf (length ys) → none ≡ replicate 512 0 → ns ≡ onto (numbersOf (take n ys)) none → r ≡ judged ns (length ys) (e .number) → i ≡ spotOf r → zs ≡ set ys i e
     → Indexes ys e r zs
 told ys e n none ns r i zs room is-n is-none is-ns is-r is-i is-zs =
     let answers : r ≡ indexed ys (e .number) =
@@ -119,8 +119,8 @@ module _ {M : Type 1} (𝓤 : URA M) (H : Heap 𝓤) (A : Atoms 𝓤) (W : Given
   Post = walkOf 𝓤 H A f.ended stayed (f.clauses 𝓤 H A mem run) .post (((κ, tt), (q, tt), tt, x₀, at), tt)
 
   module _ (gn : Room R (length ys)) (ge : Is R e (we ∷ [])) where
-    fit : (n : ℕ) → n ≡ least (length ys) → (n ≤ length ys) × (n ≤ 512)
-    fit n is = subst (λ (k : ℕ). (k ≤ length ys) × (k ≤ 512)) (sym is) (least-fits (length ys))
+    fit : (n : ℕ) → n ≡ boundedOf (length ys) → (n ≤ length ys) × (n ≤ 512)
+    fit n is = subst (λ (k : ℕ). (k ≤ length ys) × (k ≤ 512)) (sym is) (bounded-fits (length ys))
 
     exits : (r : Indexed) (w : Val) → Is E.the-row r (w ∷ []) → (zs : List Entry) → Indexes ys e r zs → length zs ≡ length ys
         → ent 𝓤 (⋆ 𝓤 H A (‵ (flft κ q) ∷ ‵ (finally R γ zs) ∷ [])) (Post w)
@@ -130,7 +130,7 @@ module _ {M : Type 1} (𝓤 : URA M) (H : Heap 𝓤) (A : Atoms 𝓤) (W : Given
         nothing ! $ move ! (1 ∷ 0 ∷ []) $ join ! $ frame ! $ nothing ! $ owned ! R (Is R) ((LL.makes T.the-type T′.the-plain) 𝓤 H A) e _ ge $ fjoin ! $ move ! (1 ∷ 0 ∷ []) $ fjoin ! $
         owned ! E.the-row (Is E.the-row) ((EL.makes E.the-type E′.the-plain) 𝓤 H A) r _ gr $ move ! (1 ∷ 0 ∷ []) $ done !
 
-    module _ (C : Calls 𝓤 H) (Λ : Loops 𝓤 H) (fm : FmC 𝓤 H (W .laws) C) (known-bounded : Triple 𝓤 (C #index·judging·bounded) (Bounded 𝓤 H A mem run)) (known-no-numbers : Triple 𝓤 (C #index·judging·no-numbers) (No-numbers 𝓤 H A mem run)) (known-numbers : Triple 𝓤 (C #index·table·numbers) (Numbers 𝓤 H A mem run)) (known-judge : Triple 𝓤 (C #index·judging·judge) (Judge 𝓤 H A mem run)) (known-spot : Triple 𝓤 (C #index·judging·spot) (Spot 𝓤 H A mem run)) (known-put : Triple 𝓤 (C #index·table·put) (Put 𝓤 H A mem run)) where
+    module _ (C : Calls 𝓤 H) (Λ : Loops 𝓤 H) (fm : FmC 𝓤 H (W .laws) C) (known-bounded : Triple 𝓤 (C #index·judging·bounded) (Bounded 𝓤 H A mem run)) (known-no-numbers : Triple 𝓤 (C #index·judging·no-numbers) (No-numbers 𝓤 H A mem run)) (known-numbers : Triple 𝓤 (C #index·table·numbers) (Numbers 𝓤 H A mem run)) (known-judge : Triple 𝓤 (C #index·judging·judge-enter) (Judge 𝓤 H A mem run)) (known-spot : Triple 𝓤 (C #index·judging·spot) (Spot 𝓤 H A mem run)) (known-put : Triple 𝓤 (C #index·table·put) (Put 𝓤 H A mem run)) where
       walk : ent 𝓤 (onEntry 𝓤 H A f.signature (κ, tt) (q, tt) x₀ at) (WpFn 𝓤 H C Λ code.function (s ∷ we ∷ []) Post)
       walk =
           qed W ((‵ (flft κ q) ⊛ ‵ ftrue) ∷ ‵ (owns (MutSlice (named 0) κ R ∷ R ∷ []) x₀ at) ∷ []) ∵ enter ! C Λ code.function (s ∷ we ∷ []) _ $
@@ -141,7 +141,7 @@ module _ {M : Type 1} (𝓤 : URA M) (H : Heap 𝓤) (A : Atoms 𝓤) (W : Given
           assigns ! (of-opd ! (load ! (from ! (fld ! refl (stop !))) (look-in ! 27 (sub ! 1 refl (whole !))))) (from ! (stop !)) (init ! 23 refl (tt, record { fits = gn .0 })) $
           use0 W (raw (Bounded 𝓤 H A mem run .pre (to-bounded 𝓤 H A W mem run (length ys) (vint w64 (length ys))))) (goes-bounded 𝓤 H A W mem run (length ys) (vint w64 (length ys)) (refl, gn .0)) $
           calls-at ! fm (Bounded 𝓤 H A mem run) known-bounded (to-bounded 𝓤 H A W mem run (length ys) (vint w64 (length ys))) (and-then ! (load ! (from ! (stop !)) (look ! 24 refl)) (no-more !)) (λ wn.
-          use1 W (later (some (λ (res : ℕ). given (Back usize (λ k. k ≡ least (length ys)) wn res) (raw (emp 𝓤))))) (gets-bounded 𝓤 H A W mem run (length ys) (vint w64 (length ys)) wn) $ await ! tt $ pick ! (λ n. learn ! (λ is-n. drop ! $
+          use1 W (later (some (λ (res : ℕ). given (Back usize (λ k. k ≡ boundedOf (length ys)) wn res) (raw (emp 𝓤))))) (gets-bounded 𝓤 H A W mem run (length ys) (vint w64 (length ys)) wn) $ await ! tt $ pick ! (λ n. learn ! (λ is-n. drop ! $
           land ! (from ! (stop !)) (init ! 21 refl (typed-usize 𝓤 H A W n wn (is-n .1))) $
           use0 W (raw (No-numbers 𝓤 H A mem run .pre (to-no-numbers 𝓤 H A W mem run))) (goes-no-numbers 𝓤 H A W mem run) $
           calls-at ! fm (No-numbers 𝓤 H A mem run) known-no-numbers (to-no-numbers 𝓤 H A W mem run) (no-more !) (λ wz.
@@ -180,13 +180,13 @@ module _ {M : Type 1} (𝓤 : URA M) (H : Heap 𝓤) (A : Atoms 𝓤) (W : Given
           by ! (exits r wr (is-r .1) zs (told ys e n none ns r i zs (gn .0) (is-n .0) (is-none .0) (is-ns .0) (is-r .0) (is-i .0) (is-zs .1 .0)) (is-zs .1 .1))))))))))))))))))))))))))))))))))))
 
 module _ {M : Type 1} (𝓤 : URA M) (H : Heap 𝓤) (A : Atoms 𝓤) (W : Given 𝓤 H A) (mem : Memory → SProp 𝓤) (run : Routine → Fun 𝓤) where
-  enter-walks : (C : Calls 𝓤 H) (Λ : Loops 𝓤 H) → FmC 𝓤 H (W .laws) C → Triple 𝓤 (C #index·judging·bounded) (Bounded 𝓤 H A mem run) → Triple 𝓤 (C #index·judging·no-numbers) (No-numbers 𝓤 H A mem run) → Triple 𝓤 (C #index·table·numbers) (Numbers 𝓤 H A mem run) → Triple 𝓤 (C #index·judging·judge) (Judge 𝓤 H A mem run) → Triple 𝓤 (C #index·judging·spot) (Spot 𝓤 H A mem run) → Triple 𝓤 (C #index·table·put) (Put 𝓤 H A mem run) → Walks 𝓤 H A f.ended stayed (WpFn 𝓤 H C Λ code.function) (f.clauses 𝓤 H A mem run)
+  enter-walks : (C : Calls 𝓤 H) (Λ : Loops 𝓤 H) → FmC 𝓤 H (W .laws) C → Triple 𝓤 (C #index·judging·bounded) (Bounded 𝓤 H A mem run) → Triple 𝓤 (C #index·judging·no-numbers) (No-numbers 𝓤 H A mem run) → Triple 𝓤 (C #index·table·numbers) (Numbers 𝓤 H A mem run) → Triple 𝓤 (C #index·judging·judge-enter) (Judge 𝓤 H A mem run) → Triple 𝓤 (C #index·judging·spot) (Spot 𝓤 H A mem run) → Triple 𝓤 (C #index·table·put) (Put 𝓤 H A mem run) → Walks 𝓤 H A f.ended stayed (WpFn 𝓤 H C Λ code.function) (f.clauses 𝓤 H A mem run)
   enter-walks C Λ fm known-bounded known-no-numbers known-numbers known-judge known-spot known-put = walked 𝓤 H A f.ended stayed (f.clauses 𝓤 H A mem run) (WpFn 𝓤 H C Λ code.function)
       (λ κs. (slice-vals, (LL.vals T.the-type T′.the-laws, tt))) (λ κs. (mut-slice-tells (named 0) (κs .0) R, (LL.tells T.the-type T′.the-laws, tt)))
       (λ κs qs bounds a g are. via 𝓤 _ (fst∗ 𝓤 _ (emp 𝓤))
       (walk 𝓤 H A W mem run (κs .0) (qs .0) (a .0 .ptr .0) (a .0 .ptr .1) (a .0 .name) (a .0 .now) (a .1 .0) (LL.tuple-val T.the-type T′.the-laws (T.the-type .to (a .1 .0))) (are .0 .0 .1) (are .1 .0) C Λ fm known-bounded known-no-numbers known-numbers known-judge known-spot known-put))
 
-enter-meets : {M : Type 1} (𝓤 : URA M) (H : Heap 𝓤) (A : Atoms 𝓤) (W : Given 𝓤 H A) (mem : Memory → SProp 𝓤) (run : Routine → Fun 𝓤) (𝓣 : Tables 𝓤 H) → Triple 𝓤 (𝓣 .C #index·judging·bounded) (Bounded 𝓤 H A mem run) → Triple 𝓤 (𝓣 .C #index·judging·no-numbers) (No-numbers 𝓤 H A mem run) → Triple 𝓤 (𝓣 .C #index·table·numbers) (Numbers 𝓤 H A mem run) → Triple 𝓤 (𝓣 .C #index·judging·judge) (Judge 𝓤 H A mem run) → Triple 𝓤 (𝓣 .C #index·judging·spot) (Spot 𝓤 H A mem run) → Triple 𝓤 (𝓣 .C #index·table·put) (Put 𝓤 H A mem run)
+enter-meets : {M : Type 1} (𝓤 : URA M) (H : Heap 𝓤) (A : Atoms 𝓤) (W : Given 𝓤 H A) (mem : Memory → SProp 𝓤) (run : Routine → Fun 𝓤) (𝓣 : Tables 𝓤 H) → Triple 𝓤 (𝓣 .C #index·judging·bounded) (Bounded 𝓤 H A mem run) → Triple 𝓤 (𝓣 .C #index·judging·no-numbers) (No-numbers 𝓤 H A mem run) → Triple 𝓤 (𝓣 .C #index·table·numbers) (Numbers 𝓤 H A mem run) → Triple 𝓤 (𝓣 .C #index·judging·judge-enter) (Judge 𝓤 H A mem run) → Triple 𝓤 (𝓣 .C #index·judging·spot) (Spot 𝓤 H A mem run) → Triple 𝓤 (𝓣 .C #index·table·put) (Put 𝓤 H A mem run)
     → Meets 𝓤 H A f.signature (WpFn 𝓤 H (𝓣 .C) (𝓣 .Λ) code.function) (f.spec 𝓤 H A mem run)
 enter-meets 𝓤 H A W mem run 𝓣 known-bounded known-no-numbers known-numbers known-judge known-spot known-put =
     walk-meets 𝓤 H A f.ended stayed W (goes-gave-slice 𝓤 H A W 1 0 tt (plain (λ _. R)), (goes-none 𝓤 H A W 1 (λ _. R) yes (λ κs x f. refl), tt)) (f.clauses 𝓤 H A mem run)
@@ -201,6 +201,6 @@ enter-spec 𝓤 H 𝓜 𝓖 𝓡 =
     (cited 𝓤 H (Bounded 𝓤 H (𝓖 .A) (𝓜 .mem) (𝓡 .run)) 𝓜 𝓡 code.env #index·judging·bounded bounded-def.routine code.calls-index·judging·bounded (bounded-thm.met 𝓤 H 𝓜 𝓖 𝓡))
     (cited 𝓤 H (No-numbers 𝓤 H (𝓖 .A) (𝓜 .mem) (𝓡 .run)) 𝓜 𝓡 code.env #index·judging·no-numbers no-numbers-def.routine code.calls-index·judging·no-numbers (no-numbers-thm.met 𝓤 H 𝓜 𝓖 𝓡))
     (cited 𝓤 H (Numbers 𝓤 H (𝓖 .A) (𝓜 .mem) (𝓡 .run)) 𝓜 𝓡 code.env #index·table·numbers numbers-def.routine code.calls-index·table·numbers (numbers-thm.met 𝓤 H 𝓜 𝓖 𝓡))
-    (cited 𝓤 H (Judge 𝓤 H (𝓖 .A) (𝓜 .mem) (𝓡 .run)) 𝓜 𝓡 code.env #index·judging·judge judge-def.routine code.calls-index·judging·judge (judge-thm.met 𝓤 H 𝓜 𝓖 𝓡))
+    (cited 𝓤 H (Judge 𝓤 H (𝓖 .A) (𝓜 .mem) (𝓡 .run)) 𝓜 𝓡 code.env #index·judging·judge-enter judge-def.routine code.calls-index·judging·judge-enter (judge-thm.met 𝓤 H 𝓜 𝓖 𝓡))
     (cited 𝓤 H (Spot 𝓤 H (𝓖 .A) (𝓜 .mem) (𝓡 .run)) 𝓜 𝓡 code.env #index·judging·spot spot-def.routine code.calls-index·judging·spot (spot-thm.met 𝓤 H 𝓜 𝓖 𝓡))
     (cited 𝓤 H (Put 𝓤 H (𝓖 .A) (𝓜 .mem) (𝓡 .run)) 𝓜 𝓡 code.env #index·table·put put-def.routine code.calls-index·table·put (put-thm.met 𝓤 H 𝓜 𝓖 𝓡)))

@@ -1,5 +1,5 @@
 -- `index::entering::find` meets its contract: a walk of its MIR, by hand, which is four calls. The slice is Copy: one copy of what it owns goes to `numbers`,
--- and the other is kept for the exit. What is decided is `search`'s, a covered function; `sought-is` of Lent.antt says that it is what the contract
+-- and the other is kept for the exit. What is decided is `judge_find`'s, a covered function; `sought-is` of Lent.antt says that it is what the contract
 -- says. Assumes nothing.
 use Prim.Native.Nat.{ℕ, _<_, _≤_, _^_}
 use mathlib.Core.List.{List, [], _∷_}
@@ -40,9 +40,9 @@ use Rattle.index.specs.declared.Entry.{Entry}
 use Rattle.index.specs.declared.Found.{Found}
 use Rattle.index.specs.Table.{numbersOf}
 use Rattle.index.specs.Indexing.{found}
-use Rattle.index.specs.Steps.{onto, least, sought}
+use Rattle.index.specs.Steps.{onto, bounded as boundedOf, sought}
 use Rattle.index.proofs.Frames.{numbersRow}
-use Rattle.index.proofs.Lent.{least-fits, sought-is}
+use Rattle.index.proofs.Lent.{bounded-fits, sought-is}
 use Rattle.index.proofs.Calls.{Bounded, No-numbers, Numbers, Search, Back, Numbered, typed-usize, typed-numbers, typed-found, to-bounded, goes-bounded, gets-bounded, to-no-numbers, goes-no-numbers, gets-no-numbers, to-numbers, goes-numbers, gets-numbers, to-search, goes-search, gets-search}
 use Rattle.index.proofs.Entry as T
 use Rattle.index.proofs.Found as F
@@ -56,9 +56,9 @@ use Rattle.index.proofs.judging.no_numbers.Met as no-numbers-thm
 use Rattle.index.proofs.table.numbers.Symbol as numbers-def
 use Rattle.index.proofs.table.numbers.Symbol.{name as #index·table·numbers}
 use Rattle.index.proofs.table.numbers.Met as numbers-thm
-use Rattle.index.proofs.judging.search.Symbol as search-def
-use Rattle.index.proofs.judging.search.Symbol.{name as #index·judging·search}
-use Rattle.index.proofs.judging.search.Met as search-thm
+use Rattle.index.proofs.judging.judge_find.Symbol as search-def
+use Rattle.index.proofs.judging.judge_find.Symbol.{name as #index·judging·judge-find}
+use Rattle.index.proofs.judging.judge_find.Met as search-thm
 use Rattle.index.proofs.entering.find.Key.{name as #index·entering·find}
 use Rattle.index.proofs.entering.find as f
 use Rattle.index.proofs.entering.find.Statement as stated
@@ -75,7 +75,7 @@ Arg = RefT (List Entry) × (ℕ × Unit {0})
 
 -- what the callees give, one after the other, is what the contract says
 told : (ys : List Entry) (x n : ℕ) (none ns : List ℕ) (r : Found)
-    → n ≡ least (length ys) → none ≡ replicate 512 0 → ns ≡ onto (numbersOf (take n ys)) none → r ≡ sought ns (length ys) x → r ≡ found ys x
+    → n ≡ boundedOf (length ys) → none ≡ replicate 512 0 → ns ≡ onto (numbersOf (take n ys)) none → r ≡ sought ns (length ys) x → r ≡ found ys x
 told ys x n none ns r is-n is-none is-ns is-r =
     is-r
     ∙ ap (λ (l : List ℕ). sought l (length ys) x) (is-ns ∙ ap (onto (numbersOf (take n ys))) is-none ∙ ap (λ (k : ℕ). onto (numbersOf (take k ys)) (replicate 512 0)) is-n)
@@ -98,8 +98,8 @@ module _ {M : Type 1} (𝓤 : URA M) (H : Heap 𝓤) (A : Atoms 𝓤) (W : Given
   Post = walkOf 𝓤 H A f.ended stayed (f.clauses 𝓤 H A mem run) .post (((κ, tt), (q, tt), tt, x₀, at), tt)
 
   module _ (gn : Room R (length ys)) (gx : x < 2 ^ 16) where
-    fit : (n : ℕ) → n ≡ least (length ys) → (n ≤ length ys) × (n ≤ 512)
-    fit n is = subst (λ (k : ℕ). (k ≤ length ys) × (k ≤ 512)) (sym is) (least-fits (length ys))
+    fit : (n : ℕ) → n ≡ boundedOf (length ys) → (n ≤ length ys) × (n ≤ 512)
+    fit n is = subst (λ (k : ℕ). (k ≤ length ys) × (k ≤ 512)) (sym is) (bounded-fits (length ys))
 
     exits : (r : Found) (w : Val) → Is F.the-row r (w ∷ []) → r ≡ found ys x → ent 𝓤 (⋆ 𝓤 H A (‵ (flft κ q) ∷ ‵ Own ∷ [])) (Post w)
     exits r w gr is =
@@ -108,7 +108,7 @@ module _ {M : Type 1} (𝓤 : URA M) (H : Heap 𝓤) (A : Atoms 𝓤) (W : Given
         nothing ! $ move ! (1 ∷ 0 ∷ []) $ join ! $ nothing ! $ owned ! u16 (Is u16) (uint-makes 𝓤 H A W w16) x _ (refl, gx) $ fjoin ! $ move ! (2 ∷ 0 ∷ []) $ fjoin ! $
         owned ! F.the-row (Is F.the-row) ((EL.makes F.the-type F′.the-plain) 𝓤 H A) r _ gr $ move ! (2 ∷ 1 ∷ []) $ frame ! $ frame ! $ done !
 
-    module _ (C : Calls 𝓤 H) (Λ : Loops 𝓤 H) (fm : FmC 𝓤 H (W .laws) C) (known-bounded : Triple 𝓤 (C #index·judging·bounded) (Bounded 𝓤 H A mem run)) (known-no-numbers : Triple 𝓤 (C #index·judging·no-numbers) (No-numbers 𝓤 H A mem run)) (known-numbers : Triple 𝓤 (C #index·table·numbers) (Numbers 𝓤 H A mem run)) (known-search : Triple 𝓤 (C #index·judging·search) (Search 𝓤 H A mem run)) where
+    module _ (C : Calls 𝓤 H) (Λ : Loops 𝓤 H) (fm : FmC 𝓤 H (W .laws) C) (known-bounded : Triple 𝓤 (C #index·judging·bounded) (Bounded 𝓤 H A mem run)) (known-no-numbers : Triple 𝓤 (C #index·judging·no-numbers) (No-numbers 𝓤 H A mem run)) (known-numbers : Triple 𝓤 (C #index·table·numbers) (Numbers 𝓤 H A mem run)) (known-search : Triple 𝓤 (C #index·judging·judge-find) (Search 𝓤 H A mem run)) where
       walk : ent 𝓤 (onEntry 𝓤 H A f.signature (κ, tt) (q, tt) x₀ at) (WpFn 𝓤 H C Λ code.function (s ∷ vint w16 x ∷ []) Post)
       walk =
           qed W ((‵ (flft κ q) ⊛ ‵ ftrue) ∷ ‵ (owns (ShrSlice (named 0) κ R ∷ u16 ∷ []) x₀ at) ∷ []) ∵ enter ! C Λ code.function (s ∷ vint w16 x ∷ []) _ $
@@ -119,7 +119,7 @@ module _ {M : Type 1} (𝓤 : URA M) (H : Heap 𝓤) (A : Atoms 𝓤) (W : Given
           assigns ! (of-opd ! (load ! (from ! (fld ! refl (stop !))) (look-in ! 13 (sub ! 1 refl (whole !))))) (from ! (stop !)) (init ! 9 refl (tt, record { fits = gn .0 })) $
           use0 W (raw (Bounded 𝓤 H A mem run .pre (to-bounded 𝓤 H A W mem run (length ys) (vint w64 (length ys))))) (goes-bounded 𝓤 H A W mem run (length ys) (vint w64 (length ys)) (refl, gn .0)) $
           calls-at ! fm (Bounded 𝓤 H A mem run) known-bounded (to-bounded 𝓤 H A W mem run (length ys) (vint w64 (length ys))) (and-then ! (load ! (from ! (stop !)) (look ! 10 refl)) (no-more !)) (λ wn.
-          use1 W (later (some (λ (res : ℕ). given (Back usize (λ k. k ≡ least (length ys)) wn res) (raw (emp 𝓤))))) (gets-bounded 𝓤 H A W mem run (length ys) (vint w64 (length ys)) wn) $ await ! tt $ pick ! (λ n. learn ! (λ is-n. drop ! $
+          use1 W (later (some (λ (res : ℕ). given (Back usize (λ k. k ≡ boundedOf (length ys)) wn res) (raw (emp 𝓤))))) (gets-bounded 𝓤 H A W mem run (length ys) (vint w64 (length ys)) wn) $ await ! tt $ pick ! (λ n. learn ! (λ is-n. drop ! $
           land ! (from ! (stop !)) (init ! 7 refl (typed-usize 𝓤 H A W n wn (is-n .1))) $
           use0 W (raw (No-numbers 𝓤 H A mem run .pre (to-no-numbers 𝓤 H A W mem run))) (goes-no-numbers 𝓤 H A W mem run) $
           calls-at ! fm (No-numbers 𝓤 H A mem run) known-no-numbers (to-no-numbers 𝓤 H A W mem run) (no-more !) (λ wz.
@@ -138,13 +138,13 @@ module _ {M : Type 1} (𝓤 : URA M) (H : Heap 𝓤) (A : Atoms 𝓤) (W : Given
           by ! (exits r wr (is-r .1) (told ys x n none ns r (is-n .0) (is-none .0) (is-ns .0) (is-r .0))))))))))))))))))))))
 
 module _ {M : Type 1} (𝓤 : URA M) (H : Heap 𝓤) (A : Atoms 𝓤) (W : Given 𝓤 H A) (mem : Memory → SProp 𝓤) (run : Routine → Fun 𝓤) where
-  find-walks : (C : Calls 𝓤 H) (Λ : Loops 𝓤 H) → FmC 𝓤 H (W .laws) C → Triple 𝓤 (C #index·judging·bounded) (Bounded 𝓤 H A mem run) → Triple 𝓤 (C #index·judging·no-numbers) (No-numbers 𝓤 H A mem run) → Triple 𝓤 (C #index·table·numbers) (Numbers 𝓤 H A mem run) → Triple 𝓤 (C #index·judging·search) (Search 𝓤 H A mem run) → Walks 𝓤 H A f.ended stayed (WpFn 𝓤 H C Λ code.function) (f.clauses 𝓤 H A mem run)
+  find-walks : (C : Calls 𝓤 H) (Λ : Loops 𝓤 H) → FmC 𝓤 H (W .laws) C → Triple 𝓤 (C #index·judging·bounded) (Bounded 𝓤 H A mem run) → Triple 𝓤 (C #index·judging·no-numbers) (No-numbers 𝓤 H A mem run) → Triple 𝓤 (C #index·table·numbers) (Numbers 𝓤 H A mem run) → Triple 𝓤 (C #index·judging·judge-find) (Search 𝓤 H A mem run) → Walks 𝓤 H A f.ended stayed (WpFn 𝓤 H C Λ code.function) (f.clauses 𝓤 H A mem run)
   find-walks C Λ fm known-bounded known-no-numbers known-numbers known-search = walked 𝓤 H A f.ended stayed (f.clauses 𝓤 H A mem run) (WpFn 𝓤 H C Λ code.function)
       (λ κs. (slice-vals, (uint-vals w16, tt))) (λ κs. (shr-slice-tells (named 0) (κs .0) R, (uint-tells w16, tt)))
       (λ κs qs bounds a g are. via 𝓤 _ (fst∗ 𝓤 _ (emp 𝓤))
       (walk 𝓤 H A W mem run (κs .0) (qs .0) (a .0 .ptr .0) (a .0 .ptr .1) (a .0 .name) (a .0 .now) (a .1 .0) (are .0 .0 .1) (are .1 .0 .1) C Λ fm known-bounded known-no-numbers known-numbers known-search))
 
-find-meets : {M : Type 1} (𝓤 : URA M) (H : Heap 𝓤) (A : Atoms 𝓤) (W : Given 𝓤 H A) (mem : Memory → SProp 𝓤) (run : Routine → Fun 𝓤) (𝓣 : Tables 𝓤 H) → Triple 𝓤 (𝓣 .C #index·judging·bounded) (Bounded 𝓤 H A mem run) → Triple 𝓤 (𝓣 .C #index·judging·no-numbers) (No-numbers 𝓤 H A mem run) → Triple 𝓤 (𝓣 .C #index·table·numbers) (Numbers 𝓤 H A mem run) → Triple 𝓤 (𝓣 .C #index·judging·search) (Search 𝓤 H A mem run)
+find-meets : {M : Type 1} (𝓤 : URA M) (H : Heap 𝓤) (A : Atoms 𝓤) (W : Given 𝓤 H A) (mem : Memory → SProp 𝓤) (run : Routine → Fun 𝓤) (𝓣 : Tables 𝓤 H) → Triple 𝓤 (𝓣 .C #index·judging·bounded) (Bounded 𝓤 H A mem run) → Triple 𝓤 (𝓣 .C #index·judging·no-numbers) (No-numbers 𝓤 H A mem run) → Triple 𝓤 (𝓣 .C #index·table·numbers) (Numbers 𝓤 H A mem run) → Triple 𝓤 (𝓣 .C #index·judging·judge-find) (Search 𝓤 H A mem run)
     → Meets 𝓤 H A f.signature (WpFn 𝓤 H (𝓣 .C) (𝓣 .Λ) code.function) (f.spec 𝓤 H A mem run)
 find-meets 𝓤 H A W mem run 𝓣 known-bounded known-no-numbers known-numbers known-search =
     walk-meets 𝓤 H A f.ended stayed W (goes-none-slice 𝓤 H A W 1 (0 ∷ []) tt (plain (λ _. R)) yes, (goes-none 𝓤 H A W 1 (λ _. u16) yes (λ κs x f. refl), tt)) (f.clauses 𝓤 H A mem run)
@@ -159,4 +159,4 @@ find-spec 𝓤 H 𝓜 𝓖 𝓡 =
     (cited 𝓤 H (Bounded 𝓤 H (𝓖 .A) (𝓜 .mem) (𝓡 .run)) 𝓜 𝓡 code.env #index·judging·bounded bounded-def.routine code.calls-index·judging·bounded (bounded-thm.met 𝓤 H 𝓜 𝓖 𝓡))
     (cited 𝓤 H (No-numbers 𝓤 H (𝓖 .A) (𝓜 .mem) (𝓡 .run)) 𝓜 𝓡 code.env #index·judging·no-numbers no-numbers-def.routine code.calls-index·judging·no-numbers (no-numbers-thm.met 𝓤 H 𝓜 𝓖 𝓡))
     (cited 𝓤 H (Numbers 𝓤 H (𝓖 .A) (𝓜 .mem) (𝓡 .run)) 𝓜 𝓡 code.env #index·table·numbers numbers-def.routine code.calls-index·table·numbers (numbers-thm.met 𝓤 H 𝓜 𝓖 𝓡))
-    (cited 𝓤 H (Search 𝓤 H (𝓖 .A) (𝓜 .mem) (𝓡 .run)) 𝓜 𝓡 code.env #index·judging·search search-def.routine code.calls-index·judging·search (search-thm.met 𝓤 H 𝓜 𝓖 𝓡)))
+    (cited 𝓤 H (Search 𝓤 H (𝓖 .A) (𝓜 .mem) (𝓡 .run)) 𝓜 𝓡 code.env #index·judging·judge-find search-def.routine code.calls-index·judging·judge-find (search-thm.met 𝓤 H 𝓜 𝓖 𝓡)))

@@ -1,11 +1,11 @@
--- `index::judging::tell` meets its contract, arm by arm. Assumes nothing.
+-- `index::judging::answer_find` meets its contract, arm by arm. Assumes nothing.
 use borrow.Author.Needs.{needs}
 use borrow.Author.Tests.{eq-eqb, ne-eqb, lt-ltb, le-ltb}
-use Rattle.index.proofs.judging.tell.Statement.{statement}
-use Rattle.index.proofs.judging.tell.Tie as tie
+use Rattle.index.proofs.judging.answer_find.Statement.{statement}
+use Rattle.index.proofs.judging.answer_find.Tie as tie
 
-pub tell-spec : {M : Type 1} → statement M
-tell-spec =
+pub answer-find-spec : {M : Type 1} → statement M
+answer-find-spec =
     tie.close
     (tie.spec
     (λ c. search needs)

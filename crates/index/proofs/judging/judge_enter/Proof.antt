@@ -1,28 +1,28 @@
--- `index::judging::search` meets its contract: over 512 entries, and what a look finds in the others. Assumes nothing.
+-- `index::judging::judge_enter` meets its contract: over 512 entries, and what a look finds in the others. Assumes nothing.
 use Prim.Native.Nat.{ℕ}
 use mathlib.Core.Path.{sym, ap, _∙_}
 use borrow.Author.Needs.{needs}
 use borrow.Author.Tests.{lt-ltb, le-ltb}
 use lib.Seq.{length-take-le}
 use Rattle.index.specs.declared.judging.Looked.{Looked}
-use Rattle.index.specs.Steps.{foundBy, sought}
-use Rattle.index.proofs.judging.search.Statement.{statement}
-use Rattle.index.proofs.judging.search.Tie as tie
+use Rattle.index.specs.Steps.{indexedBy, judged}
+use Rattle.index.proofs.judging.judge_enter.Statement.{statement}
+use Rattle.index.proofs.judging.judge_enter.Tie as tie
 
 returns : tie.Need-returns
-unfolding sought
+unfolding judged
 returns c = rw (lt-ltb _ _ (c .if1 .taken))
 
 returns-2 : tie.Need-returns-2
-unfolding sought
+unfolding judged
 returns-2 c =
     rw
     (le-ltb _ _ (c .before .before .before .if1 .left))
-    (c .tell .ensures
-    ∙ ap (λ (l : Looked). foundBy l (c .before .before .before .before .args .n) (c .before .before .before .before .args .x)) (c .before .look .ensures))
+    (c .answer-enter .ensures
+    ∙ ap (λ (l : Looked). indexedBy l (c .before .before .before .before .args .n) (c .before .before .before .before .args .e .number)) (c .before .look .ensures))
 
-pub search-spec : {M : Type 1} → statement M
-search-spec =
+pub judge-enter-spec : {M : Type 1} → statement M
+judge-enter-spec =
     tie.close
     (tie.spec
     returns

@@ -1,11 +1,11 @@
--- `index::judging::decide` meets its contract, arm by arm. Assumes nothing.
+-- `index::judging::answer_enter` meets its contract, arm by arm. Assumes nothing.
 use borrow.Author.Needs.{needs}
 use borrow.Author.Tests.{eq-eqb, ne-eqb, lt-ltb, le-ltb}
-use Rattle.index.proofs.judging.decide.Statement.{statement}
-use Rattle.index.proofs.judging.decide.Tie as tie
+use Rattle.index.proofs.judging.answer_enter.Statement.{statement}
+use Rattle.index.proofs.judging.answer_enter.Tie as tie
 
-pub decide-spec : {M : Type 1} → statement M
-decide-spec =
+pub answer-enter-spec : {M : Type 1} → statement M
+answer-enter-spec =
     tie.close
     (tie.spec
     (λ c. search needs)

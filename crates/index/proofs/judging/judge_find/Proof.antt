@@ -1,28 +1,28 @@
--- `index::judging::judge` meets its contract: over 512 entries, and what a look finds in the others. Assumes nothing.
+-- `index::judging::judge_find` meets its contract: over 512 entries, and what a look finds in the others. Assumes nothing.
 use Prim.Native.Nat.{ℕ}
 use mathlib.Core.Path.{sym, ap, _∙_}
 use borrow.Author.Needs.{needs}
 use borrow.Author.Tests.{lt-ltb, le-ltb}
 use lib.Seq.{length-take-le}
 use Rattle.index.specs.declared.judging.Looked.{Looked}
-use Rattle.index.specs.Steps.{indexedBy, judged}
-use Rattle.index.proofs.judging.judge.Statement.{statement}
-use Rattle.index.proofs.judging.judge.Tie as tie
+use Rattle.index.specs.Steps.{foundBy, sought}
+use Rattle.index.proofs.judging.judge_find.Statement.{statement}
+use Rattle.index.proofs.judging.judge_find.Tie as tie
 
 returns : tie.Need-returns
-unfolding judged
+unfolding sought
 returns c = rw (lt-ltb _ _ (c .if1 .taken))
 
 returns-2 : tie.Need-returns-2
-unfolding judged
+unfolding sought
 returns-2 c =
     rw
     (le-ltb _ _ (c .before .before .before .if1 .left))
-    (c .decide .ensures
-    ∙ ap (λ (l : Looked). indexedBy l (c .before .before .before .before .args .n) (c .before .before .before .before .args .e .number)) (c .before .look .ensures))
+    (c .answer-find .ensures
+    ∙ ap (λ (l : Looked). foundBy l (c .before .before .before .before .args .n) (c .before .before .before .before .args .x)) (c .before .look .ensures))
 
-pub judge-spec : {M : Type 1} → statement M
-judge-spec =
+pub judge-find-spec : {M : Type 1} → statement M
+judge-find-spec =
     tie.close
     (tie.spec
     returns
