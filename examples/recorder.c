@@ -9,6 +9,8 @@
 
 #include "siamrung.h"
 
+#include "line_reason.h"
+
 /* One byte more than a line may have, so that the library sees when a recording is too long. */
 #define MOST 65537
 
@@ -17,23 +19,6 @@ static const char *const kind_names[] = {
     "ATCRBS", "ATCRBS-CD", "ATCRBS-MTD", "ATCRBS-RDAS", "MTD", "RDAS",
 };
 #define KINDS (sizeof kind_names / sizeof kind_names[0])
-
-static const char *reason(uint32_t refusal)
-{
-    switch (refusal) {
-    case SIAMRUNG_REFUSAL_LINE_TOO_LONG: return "the recording has more than 65,536 bytes";
-    case SIAMRUNG_REFUSAL_ODD_BYTE_COUNT: return "the recording has an odd number of bytes";
-    case SIAMRUNG_REFUSAL_PLACE_BEYOND_LINE: return "the place is beyond the end";
-    case SIAMRUNG_REFUSAL_WORD_TOO_WIDE: return "a word has more than thirteen bits";
-    case SIAMRUNG_REFUSAL_EVEN_WORD: return "a word has an even number of ones";
-    case SIAMRUNG_REFUSAL_UNKNOWN_FORM: return "the first word is of no known form";
-    case SIAMRUNG_REFUSAL_WRONG_LENGTH: return "the run has not as many words as its first word says";
-    case SIAMRUNG_REFUSAL_UNASSIGNED_RADAR: return "bits 88 to 90 are not assigned";
-    case SIAMRUNG_REFUSAL_SPARE_BIT_SET: return "a zero or spare bit is one";
-    case SIAMRUNG_REFUSAL_MINUS_ZERO: return "the altitude is minus zero";
-    default: return "refused";
-    }
-}
 
 /* Items that are printed with their names, if the report has them. The printed value is the count times the scale. */
 static const struct {
@@ -81,7 +66,7 @@ int main(void)
         if (kind == SIAMRUNG_KIND_REFUSED) {
             uint32_t why = siamrung_refusal(bytes, length, place);
             printf("%zu REFUSED %" PRIu32 " at %zu: %s\n", siamrung_first(bytes, length, place), why,
-                   siamrung_named(bytes, length, place), reason(why));
+                   siamrung_named(bytes, length, place), line_reason(why));
             refused++;
             /* the line or the place itself is refused: the answer is the place that was passed, and nothing more can be read */
             if (siamrung_after(bytes, length, place) == place)

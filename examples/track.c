@@ -12,6 +12,8 @@
 
 #include "siamrung.h"
 
+#include "line_reason.h"
+
 /* As many as a table may have. */
 #define ENTRIES 512
 
@@ -42,19 +44,9 @@ static const char *kind_name(uint32_t kind)
 static const char *reason(uint32_t refusal)
 {
     switch (refusal) {
-    case SIAMRUNG_REFUSAL_LINE_TOO_LONG: return "the recording has more than 65,536 bytes";
-    case SIAMRUNG_REFUSAL_ODD_BYTE_COUNT: return "the recording has an odd number of bytes";
-    case SIAMRUNG_REFUSAL_PLACE_BEYOND_LINE: return "the place is beyond the end";
-    case SIAMRUNG_REFUSAL_WORD_TOO_WIDE: return "a word has more than thirteen bits";
-    case SIAMRUNG_REFUSAL_EVEN_WORD: return "a word has an even number of ones";
-    case SIAMRUNG_REFUSAL_UNKNOWN_FORM: return "the first word is of no known form";
-    case SIAMRUNG_REFUSAL_WRONG_LENGTH: return "the run has not as many words as its first word says";
-    case SIAMRUNG_REFUSAL_UNASSIGNED_RADAR: return "bits 88 to 90 are not assigned";
-    case SIAMRUNG_REFUSAL_SPARE_BIT_SET: return "a zero or spare bit is one";
-    case SIAMRUNG_REFUSAL_MINUS_ZERO: return "the altitude is minus zero";
     case SIAMRUNG_INDEX_REFUSAL_TABLE_BROKEN: return "the table is broken";
     case SIAMRUNG_INDEX_REFUSAL_TABLE_FULL: return "the table has no unused entry";
-    default: return "refused";
+    default: return line_reason(refusal);
     }
 }
 

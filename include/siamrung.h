@@ -1,6 +1,6 @@
 /*
  * siamrung.h: the calls of the Siamrung converter for C and C++ programs. They read a line of words, write a report into a line, read a link
- * data field and write one, read a frame of the communications channel and write one, and keep an index of the last report of each file number.
+ * data field and write one, read a frame of the communications channel and write one, and serve an index of the last report of each file number.
  *
  * Lines. A line is a slice of bytes: a pointer and the number of bytes. Two bytes are a word, high byte first. A line has at most 65,536
  * bytes, which are 32,768 words. An empty slice may be NULL with the length 0. A place is a number of words from the start of the line,

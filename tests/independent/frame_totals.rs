@@ -5,11 +5,7 @@
 use crate::bits;
 use crate::frame::{self, Behind, Frame, Look, Stream, Write, CHECK, FEWEST, FLAG, FROM_SENSOR, TO_SENSOR};
 use crate::line::END;
-use crate::totals::say;
-use std::collections::{BTreeMap, BTreeSet};
-
-/// A name, the numbers that N stands for in it (none: one count only), and the quota of each.
-type Row = (&'static str, &'static [u64], u64);
+use crate::tally::{Row, Tally};
 
 const READING: &[Row] = &[
     ("streams", &[], 20_000),
@@ -136,45 +132,26 @@ const DIFFERENT: &[Row] = &[CONTROLS_READ, FIELDS_READ, CONTROLS_WRITTEN, FIELDS
 
 #[derive(Default)]
 pub struct FrameTotals {
-    tally: BTreeMap<(&'static str, u64), u64>,
-    different: BTreeMap<&'static str, BTreeSet<u64>>,
+    tally: Tally,
     /// bits that one call goes through
     bits: u64,
 }
 
 impl FrameTotals {
-    fn add(&mut self, name: &'static str) {
-        self.add_of(name, 0);
-    }
-
-    fn add_of(&mut self, name: &'static str, number: u64) {
-        *self.tally.entry((name, number)).or_insert(0) += 1;
-    }
-
-    fn add_if(&mut self, holds: bool, name: &'static str) {
-        if holds {
-            self.add(name);
-        }
-    }
-
-    fn differs(&mut self, row: Row, number: u64) {
-        self.different.entry(row.0).or_default().insert(number);
-    }
-
     // ---- reading
 
     pub fn stream(&mut self, stream: &Stream, made: &[&'static str]) {
-        self.add("streams");
-        self.add_if(stream.count % 8 != 0, "streams that end inside a byte");
-        self.add_if(stream.count < stream.all.len() as u64, "streams with bits behind the count");
-        made.iter().for_each(|name| self.add(name));
+        self.tally.add("streams");
+        self.tally.add_if(stream.count % 8 != 0, "streams that end inside a byte");
+        self.tally.add_if(stream.count < stream.all.len() as u64, "streams with bits behind the count");
+        made.iter().for_each(|name| self.tally.add(name));
     }
 
     /// An answer about a place; on_closing where it is the place that the answer before gave.
     pub fn look(&mut self, stream: &Stream, place: u64, look: &Look, on_closing: bool) {
-        self.add("places in streams");
+        self.tally.add("places in streams");
         if look.refusal != 0 {
-            self.add_of("reading a frame, refusal N", u64::from(look.refusal));
+            self.tally.add_of("reading a frame, refusal N", u64::from(look.refusal));
         }
         let behind = match &look.behind {
             Some(behind) => behind,
@@ -183,17 +160,17 @@ impl FrameTotals {
         self.bits += (FLAG.len() * behind.flags + behind.sent.len()) as u64;
         let several = behind.flags > 1;
         if look.kind == END {
-            return self.add(if several { "ends at several flags" } else { "ends at one flag" });
+            return self.tally.add(if several { "ends at several flags" } else { "ends at one flag" });
         }
         match &look.frame {
             Some(frame) => self.frame(frame, behind.sent, look.place),
             None => self.refused(stream, look.refusal, behind),
         }
         match (several, on_closing, look.refusal) {
-            (true, _, 0) => self.add("frames behind several flags"),
-            (true, _, refusal) => self.add_of("reading behind several flags, refusal N", u64::from(refusal)),
-            (false, true, 0) => self.add("frames on a shared flag"),
-            (false, true, _) => self.add("refusals on a shared flag"),
+            (true, _, 0) => self.tally.add("frames behind several flags"),
+            (true, _, refusal) => self.tally.add_of("reading behind several flags, refusal N", u64::from(refusal)),
+            (false, true, 0) => self.tally.add("frames on a shared flag"),
+            (false, true, _) => self.tally.add("refusals on a shared flag"),
             _ => (),
         }
     }
@@ -201,34 +178,34 @@ impl FrameTotals {
     fn frame(&mut self, frame: &Frame, sent: &str, closing: u64) {
         let bits = frame.field.len() as u64;
         let opening = closing - (sent.len() + FLAG.len()) as u64;
-        self.add("frames read");
-        self.add(if frame.from_sensor { "frames from the sensor" } else { "frames to the sensor" });
-        self.add_if(bits == 0, "frames without a field");
-        self.add_of("frames of N bits", bits + FEWEST as u64);
-        self.add_if(bits % 8 != 0, "frames whose field is not whole bytes");
-        self.add_if(frame.field.contains(FLAG), "frames whose field has the bits of a flag");
-        self.add_if(sent.contains("111110"), "frames with inserted zeros");
-        self.add_if(sent.ends_with("111110"), "frames with a zero inserted right before the closing flag");
-        self.add_of("frames that begin at bit N of a byte", opening % 8);
-        self.differs(CONTROLS_READ, u64::from(frame.control));
-        self.differs(FIELDS_READ, bits);
+        self.tally.add("frames read");
+        self.tally.add(if frame.from_sensor { "frames from the sensor" } else { "frames to the sensor" });
+        self.tally.add_if(bits == 0, "frames without a field");
+        self.tally.add_of("frames of N bits", bits + FEWEST as u64);
+        self.tally.add_if(bits % 8 != 0, "frames whose field is not whole bytes");
+        self.tally.add_if(frame.field.contains(FLAG), "frames whose field has the bits of a flag");
+        self.tally.add_if(sent.contains("111110"), "frames with inserted zeros");
+        self.tally.add_if(sent.ends_with("111110"), "frames with a zero inserted right before the closing flag");
+        self.tally.add_of("frames that begin at bit N of a byte", opening % 8);
+        self.tally.differs(CONTROLS_READ, u64::from(frame.control));
+        self.tally.differs(FIELDS_READ, bits);
     }
 
     /// Refusal 44.
     fn no_flag(&mut self, stream: &Stream, place: u64) {
         let flag = stream.all.get(place as usize..).is_some_and(|rest| rest.starts_with(FLAG));
         if frame::over(stream.count, stream.length) {
-            self.add("reading 44, count over the lent bits");
-            self.add_if(flag, "reading 44, count over the lent bits, and a flag at the place");
+            self.tally.add("reading 44, count over the lent bits");
+            self.tally.add_if(flag, "reading 44, count over the lent bits, and a flag at the place");
         } else if place == stream.count {
-            self.add("reading 44, place at the count");
+            self.tally.add("reading 44, place at the count");
         } else if place > stream.count {
-            self.add("reading 44, place beyond the count");
+            self.tally.add("reading 44, place beyond the count");
         } else if stream.count - place < FLAG.len() as u64 {
-            self.add("reading 44, fewer than eight bits left");
-            self.add_if(flag, "reading 44, a flag that ends behind the count");
+            self.tally.add("reading 44, fewer than eight bits left");
+            self.tally.add_if(flag, "reading 44, a flag that ends behind the count");
         } else {
-            self.add("reading 44, no flag at a place inside");
+            self.tally.add("reading 44, no flag at a place inside");
         }
     }
 
@@ -238,13 +215,13 @@ impl FrameTotals {
         match refusal {
             41 => self.zero_missing(sent, behind.closed),
             45 => {
-                self.add_if(sent.len() < FEWEST, "reading 45, too short too");
-                self.add_if(sent.len() < FLAG.len(), "reading 45, fewer than eight bits behind the last flag");
-                self.add_if(bits::ones(sent) == 0, "reading 45, only zeros behind the last flag");
+                self.tally.add_if(sent.len() < FEWEST, "reading 45, too short too");
+                self.tally.add_if(sent.len() < FLAG.len(), "reading 45, fewer than eight bits behind the last flag");
+                self.tally.add_if(bits::ones(sent) == 0, "reading 45, only zeros behind the last flag");
             }
             40 => self.wrong_length(sent),
-            43 if has_address(sent) => self.add("reading 43, one of the addresses"),
-            43 => self.add("reading 43, neither address too"),
+            43 if has_address(sent) => self.tally.add("reading 43, one of the addresses"),
+            43 => self.tally.add("reading 43, neither address too"),
             _ => (),
         }
         if !behind.closed {
@@ -253,22 +230,22 @@ impl FrameTotals {
     }
 
     fn zero_missing(&mut self, sent: &str, closed: bool) {
-        self.add(match (sent.contains("111111"), closed) {
+        self.tally.add(match (sent.contains("111111"), closed) {
             (true, true) => "reading 41, six ones or more before the closing flag",
             (false, true) => "reading 41, five ones right before the closing flag",
             (true, false) => "reading 41, six ones or more and no closing flag",
             (false, false) => "reading 41, five ones at the end and no closing flag",
         });
-        self.add_if(sent.starts_with("1111110") || (closed && sent == "111111"), "reading 41, flags that share a zero");
-        self.add_if(closed && sent.len() < FEWEST, "reading 41, too short too");
+        self.tally.add_if(sent.starts_with("1111110") || (closed && sent == "111111"), "reading 41, flags that share a zero");
+        self.tally.add_if(closed && sent.len() < FEWEST, "reading 41, too short too");
     }
 
     fn wrong_length(&mut self, sent: &str) {
         let text = frame::without_zeros(sent).expect("41 comes before 40");
-        self.add(if text.len() < FEWEST { "reading 40, under 32 bits" } else { "reading 40, over 2040 bits" });
-        self.add_if(text.len() >= FLAG.len() && !has_address(sent), "reading 40, neither address too");
+        self.tally.add(if text.len() < FEWEST { "reading 40, under 32 bits" } else { "reading 40, over 2040 bits" });
+        self.tally.add_if(text.len() >= FLAG.len() && !has_address(sent), "reading 40, neither address too");
         if text.len() >= CHECK {
-            self.add(if frame::is_right(&text) { "reading 40, with its check sequence" } else { "reading 40, without its check sequence" });
+            self.tally.add(if frame::is_right(&text) { "reading 40, with its check sequence" } else { "reading 40, without its check sequence" });
         }
     }
 
@@ -279,14 +256,14 @@ impl FrameTotals {
             let from = count - bits;
             let (due, name) = if bits < 6 { (45, CUT_45) } else { (41, CUT_41) };
             if refusal == due && stream.all[from..].starts_with(FLAG) {
-                self.add_of(name, bits as u64);
+                self.tally.add_of(name, bits as u64);
             }
         }
     }
 
     /// A buffer of that many bytes for the field.
     pub fn room(&mut self, look: &Look, needed: u64, room: u64) {
-        self.add(match &look.frame {
+        self.tally.add(match &look.frame {
             None => "field buffers without a frame",
             Some(_) if needed == 0 => "field buffers for a field of no bits",
             Some(_) if room == needed => "field buffers just large enough",
@@ -300,80 +277,64 @@ impl FrameTotals {
 
     /// A writing and its answer; on_closing where its place is that of the last written closing flag.
     pub fn write(&mut self, length: u64, write: &Write, (refusal, place): (u32, u64), on_closing: bool) {
-        self.add("writes of frames");
+        self.tally.add("writes of frames");
         let against = write.against(length);
         match refusal {
             0 => self.written(write, place + FLAG.len() as u64, on_closing),
             44 => {
-                self.add_if(against.count_over, "writing 44, count over the bytes to write into");
-                self.add_if(against.field_over, "writing 44, count over the field's bytes");
-                self.add_if(against.too_long, "writing 44, field too long too");
-                self.add_if(against.no_room(), "writing 44, no room too");
+                self.tally.add_if(against.count_over, "writing 44, count over the bytes to write into");
+                self.tally.add_if(against.field_over, "writing 44, count over the field's bytes");
+                self.tally.add_if(against.too_long, "writing 44, field too long too");
+                self.tally.add_if(against.no_room(), "writing 44, no room too");
             }
-            40 => self.add(if against.no_room() { "writing 40, no room too" } else { "writing 40, room enough" }),
+            40 => self.tally.add(if against.no_room() { "writing 40, no room too" } else { "writing 40, room enough" }),
             _ => {
-                self.add_if(against.missing == 1, "writing 46, one bit too few");
-                self.add_if(write.place == write.count, "writing 46, place at the count");
-                self.add_if(write.place > write.count, "writing 46, place beyond the count");
+                self.tally.add_if(against.missing == 1, "writing 46, one bit too few");
+                self.tally.add_if(write.place == write.count, "writing 46, place at the count");
+                self.tally.add_if(write.place > write.count, "writing 46, place beyond the count");
             }
         }
         if refusal != 0 {
-            self.add_of("writing a frame, refusal N", u64::from(refusal));
+            self.tally.add_of("writing a frame, refusal N", u64::from(refusal));
         }
     }
 
     fn written(&mut self, write: &Write, end: u64, on_closing: bool) {
         let count = write.field_count;
-        self.add("frames written");
-        self.add(if write.from_sensor == 0 { "frames written to the sensor" } else { "frames written from the sensor" });
-        self.add_if(write.from_sensor > 1, "frames written from the sensor, by a number above 1");
-        self.add_if(count == 0, "frames written without a field");
-        self.add_if(count % 8 != 0, "frames written with a field that is not whole bytes");
+        self.tally.add("frames written");
+        self.tally.add(if write.from_sensor == 0 { "frames written to the sensor" } else { "frames written from the sensor" });
+        self.tally.add_if(write.from_sensor > 1, "frames written from the sensor, by a number above 1");
+        self.tally.add_if(count == 0, "frames written without a field");
+        self.tally.add_if(count % 8 != 0, "frames written with a field that is not whole bytes");
         let others = &bits::of_bytes(&write.field)[count as usize..];
-        self.add_if(bits::ones(others) > 0, "frames written with other bits behind the field");
+        self.tally.add_if(bits::ones(others) > 0, "frames written with other bits behind the field");
         let sent = write.text();
         let sent = &sent[FLAG.len()..sent.len() - FLAG.len()];
-        self.add_if(sent.contains("111110"), "frames written with inserted zeros");
-        self.add_if(sent.ends_with("111110"), "frames written with a zero inserted right before the closing flag");
-        self.add_if(write.count % 8 != 0, "frames written into a stream that ends inside a byte");
-        self.add_of("frames written from bit N of a byte on", write.place % 8);
-        self.add_of("frames written that end before bit N of a byte", end % 8);
-        self.add_if(on_closing, "frames written on from a closing flag");
-        self.add_if(end == write.count, "frames written with no bit of room left");
-        self.differs(CONTROLS_WRITTEN, u64::from(write.control));
-        self.differs(FIELDS_WRITTEN, count);
+        self.tally.add_if(sent.contains("111110"), "frames written with inserted zeros");
+        self.tally.add_if(sent.ends_with("111110"), "frames written with a zero inserted right before the closing flag");
+        self.tally.add_if(write.count % 8 != 0, "frames written into a stream that ends inside a byte");
+        self.tally.add_of("frames written from bit N of a byte on", write.place % 8);
+        self.tally.add_of("frames written that end before bit N of a byte", end % 8);
+        self.tally.add_if(on_closing, "frames written on from a closing flag");
+        self.tally.add_if(end == write.count, "frames written with no bit of room left");
+        self.tally.differs(CONTROLS_WRITTEN, u64::from(write.control));
+        self.tally.differs(FIELDS_WRITTEN, count);
     }
 
     pub fn read_back(&mut self) {
-        self.add("frames written and read back");
+        self.tally.add("frames written and read back");
     }
 
     // ---- the quotas
 
-    fn counted(&self, name: &'static str, number: u64) -> u64 {
-        self.tally.get(&(name, number)).copied().unwrap_or(0)
-    }
-
     /// How many places were looked at, and how many writings tried.
     pub fn both(&self) -> (u64, u64) {
-        (self.counted("places in streams", 0), self.counted("writes of frames", 0))
+        (self.tally.counted("places in streams", 0), self.tally.counted("writes of frames", 0))
     }
 
     /// Prints the counts, and answers what is below its quota.
     pub fn report(&self) -> Vec<String> {
-        let mut short = Vec::new();
-        let mut say = |name: String, count: u64, quota: u64| say(&mut short, name, count, quota);
-        for &(name, numbers, quota) in [READING, REFUSALS, DAMAGES, WRITING].concat().iter() {
-            if numbers.is_empty() {
-                say(name.to_string(), self.counted(name, 0), quota);
-            }
-            for &number in numbers {
-                say(name.replace('N', &number.to_string()), self.counted(name, number), quota);
-            }
-        }
-        for &(name, _, quota) in DIFFERENT {
-            say(name.to_string(), self.different.get(name).map_or(0, |numbers| numbers.len() as u64), quota);
-        }
+        let short = self.tally.report("", &[READING, REFUSALS, DAMAGES, WRITING].concat(), DIFFERENT);
         println!("bytes of streams that each call of a look goes through: {}", self.bits / 8);
         short
     }

@@ -5,11 +5,8 @@
 use crate::index::{Done, Entry, Faults, BROKEN, ENTERED, FOUND, FULL, LEFT, REPLACED};
 use crate::index_case::{Indexing, Step};
 use crate::line::{Look, END, IDLE, REFUSED};
-use crate::totals::say;
+use crate::tally::{Row, Tally};
 use std::collections::{BTreeMap, BTreeSet};
-
-/// A name, the numbers that N stands for in it (none: one count only), and the quota of each.
-type Row = (&'static str, &'static [u64], u64);
 
 /// The kinds that have a file number: ATCRBS, its substitutions, MTD, RDAS; and those that have none.
 const WITH_FILE: &[u64] = &[110, 111, 112, 113, 114, 115];
@@ -235,58 +232,37 @@ fn holds_other_things(entry: &Entry) -> bool {
 
 #[derive(Default)]
 pub struct IndexTotals {
-    tally: BTreeMap<(&'static str, u64), u64>,
-    different: BTreeMap<&'static str, BTreeSet<u64>>,
+    tally: Tally,
 }
 
 impl IndexTotals {
-    fn add(&mut self, name: &'static str) {
-        self.add_of(name, 0);
-    }
-
-    /// Not put into its many callers: that would take more time in compiling than it saves.
-    #[inline(never)]
-    fn add_of(&mut self, name: &'static str, number: u64) {
-        *self.tally.entry((name, number)).or_insert(0) += 1;
-    }
-
-    fn add_if(&mut self, holds: bool, name: &'static str) {
-        if holds {
-            self.add(name);
-        }
-    }
-
-    fn differs(&mut self, row: Row, number: u64) {
-        self.different.entry(row.0).or_default().insert(number);
-    }
-
     // ---- a table
 
     pub fn table(&mut self, case: &Indexing, faults: &Faults) {
         let table = case.table();
         let behind = case.entries.len() - case.front - table.len();
-        self.add("tables");
-        self.add_if(case.entries.is_empty(), "tables lent as NULL");
-        self.add_if(case.size == 0 && !case.entries.is_empty(), "tables of no entries with others around");
-        self.add_if(case.front > 0 && behind > 0, "tables with entries in front and behind");
-        self.add_if(case.front == 0 && behind == 0, "tables without entries around");
-        self.add_if(case.size == 512, "tables of 512 entries");
+        self.tally.add("tables");
+        self.tally.add_if(case.entries.is_empty(), "tables lent as NULL");
+        self.tally.add_if(case.size == 0 && !case.entries.is_empty(), "tables of no entries with others around");
+        self.tally.add_if(case.front > 0 && behind > 0, "tables with entries in front and behind");
+        self.tally.add_if(case.front == 0 && behind == 0, "tables without entries around");
+        self.tally.add_if(case.size == 512, "tables of 512 entries");
         if faults.any() {
             return;
         }
-        self.add_if(table.iter().any(|entry| entry.number > 4095), "sound tables with a number above 4095");
-        self.add_if(table.iter().any(holds_other_things), "sound tables with other things in an unused entry");
+        self.tally.add_if(table.iter().any(|entry| entry.number > 4095), "sound tables with a number above 4095");
+        self.tally.add_if(table.iter().any(holds_other_things), "sound tables with other things in an unused entry");
         let likes: Vec<Likeness> = table.iter().take(COMPARED).map(|entry| likeness(entry.number, table)).collect();
-        self.add_if(likes.iter().any(|like| like.one_bit), "sound tables with two numbers that differ in one bit");
-        self.add_if(likes.iter().any(|like| like.high_bits), "sound tables with two numbers that differ in their high four bits only");
-        self.add_if(likes.iter().any(|like| like.low_byte), "sound tables with two numbers of the same low byte");
-        self.add_if(likes.iter().any(|like| like.high_byte), "sound tables with two numbers of the same high byte");
+        self.tally.add_if(likes.iter().any(|like| like.one_bit), "sound tables with two numbers that differ in one bit");
+        self.tally.add_if(likes.iter().any(|like| like.high_bits), "sound tables with two numbers that differ in their high four bits only");
+        self.tally.add_if(likes.iter().any(|like| like.low_byte), "sound tables with two numbers of the same low byte");
+        self.tally.add_if(likes.iter().any(|like| like.high_byte), "sound tables with two numbers of the same high byte");
     }
 
     // ---- entering
 
     pub fn enter(&mut self, call: &Call) {
-        self.add("calls that enter");
+        self.tally.add("calls that enter");
         match call.done.0 {
             BROKEN => self.broken(call),
             LEFT => self.left(call),
@@ -300,168 +276,168 @@ impl IndexTotals {
     }
 
     fn left(&mut self, call: &Call) {
-        self.add("left");
+        self.tally.add("left");
         match call.look.kind {
-            END => self.add("left, the end"),
-            REFUSED => self.add_of("left, refusal N", u64::from(call.look.refusal)),
-            110..=115 => self.add_of("left, kind N with file number 0", call.kind()),
-            _ => self.add_of("left, kind N", call.kind()),
+            END => self.tally.add("left, the end"),
+            REFUSED => self.tally.add_of("left, refusal N", u64::from(call.look.refusal)),
+            110..=115 => self.tally.add_of("left, kind N with file number 0", call.kind()),
+            _ => self.tally.add_of("left, kind N", call.kind()),
         }
-        self.add_if(call.table.is_empty(), "left in a table of no entries");
-        self.add_if(!call.table.is_empty() && call.full(), "left in a full table");
+        self.tally.add_if(call.table.is_empty(), "left in a table of no entries");
+        self.tally.add_if(!call.table.is_empty() && call.full(), "left in a full table");
     }
 
     fn refused(&mut self, call: &Call) {
-        self.add("51");
-        self.add_of("51, kind N", call.kind());
-        self.add_if(call.table.is_empty(), "51, a table of no entries");
-        self.add_if(call.table.len() == 1, "51, a table of one entry");
-        self.add_if(call.table.len() == 512, "51, a table of 512 entries");
+        self.tally.add("51");
+        self.tally.add_of("51, kind N", call.kind());
+        self.tally.add_if(call.table.is_empty(), "51, a table of no entries");
+        self.tally.add_if(call.table.len() == 1, "51, a table of one entry");
+        self.tally.add_if(call.table.len() == 512, "51, a table of 512 entries");
         let like = call.entry.map_or(Likeness::default(), |entry| likeness(entry.number, call.table));
-        self.add_if(like.one_low_bit, "51, and an entry's number differs in one of its low twelve bits");
-        self.add_if(like.high_bits, "51, and an entry's number differs in its high four bits only");
+        self.tally.add_if(like.one_low_bit, "51, and an entry's number differs in one of its low twelve bits");
+        self.tally.add_if(like.high_bits, "51, and an entry's number differs in its high four bits only");
     }
 
     fn broken(&mut self, call: &Call) {
-        self.add("50");
+        self.tally.add("50");
         let faults = *call.faults;
         if faults == only(true, false, false) {
-            self.add("50, only more than 512 entries");
-            self.add_if(call.table.len() == 513, "50, only more than 512 entries, one more");
+            self.tally.add("50, only more than 512 entries");
+            self.tally.add_if(call.table.len() == 513, "50, only more than 512 entries, one more");
         } else if faults == only(false, true, false) {
-            self.add("50, only a used entry behind an unused one");
+            self.tally.add("50, only a used entry behind an unused one");
             let unused = call.table.iter().position(|entry| !entry.used()).unwrap_or(0);
             let used = call.table.iter().rposition(Entry::used).unwrap_or(0);
             let far = used as u64 - unused as u64 >= FAR;
-            self.add_if(far, "50, only a used entry behind an unused one, 256 entries or more behind it");
-            self.add_if(used + 1 == call.table.len(), "50, only a used entry behind an unused one, the last entry");
+            self.tally.add_if(far, "50, only a used entry behind an unused one, 256 entries or more behind it");
+            self.tally.add_if(used + 1 == call.table.len(), "50, only a used entry behind an unused one, the last entry");
         } else if faults == only(false, false, true) {
             self.held_twice(call);
         } else {
-            self.add("50, several parts of it");
+            self.tally.add("50, several parts of it");
         }
         match (call.entry, call.look.kind) {
             (Some(entry), _) => self.broken_with_report(call, &entry),
-            (None, END) => self.add("50, left anyway: the end"),
-            (None, REFUSED) if matches!(call.look.refusal, 2 | 14 | 1) => self.add("50, left anyway: a refused line or place"),
-            (None, REFUSED) => self.add("50, left anyway: a refused run"),
-            (None, 110..=115) => self.add("50, left anyway: file number 0"),
-            (None, _) => self.add("50, left anyway: a kind without a file number"),
+            (None, END) => self.tally.add("50, left anyway: the end"),
+            (None, REFUSED) if matches!(call.look.refusal, 2 | 14 | 1) => self.tally.add("50, left anyway: a refused line or place"),
+            (None, REFUSED) => self.tally.add("50, left anyway: a refused run"),
+            (None, 110..=115) => self.tally.add("50, left anyway: file number 0"),
+            (None, _) => self.tally.add("50, left anyway: a kind without a file number"),
         }
     }
 
     fn held_twice(&mut self, call: &Call) {
         let (numbers, apart) = twice(call.table);
-        self.add("50, only a number held twice");
+        self.tally.add("50, only a number held twice");
         let one = apart.len() == 1;
-        self.add_if(one && apart.contains(&SIDE_BY_SIDE), "50, only a number held twice, side by side");
-        self.add_if(!apart.contains(&SIDE_BY_SIDE), "50, only a number held twice, not side by side");
+        self.tally.add_if(one && apart.contains(&SIDE_BY_SIDE), "50, only a number held twice, side by side");
+        self.tally.add_if(!apart.contains(&SIDE_BY_SIDE), "50, only a number held twice, not side by side");
         let far = apart.iter().all(|&apart| apart as u64 >= FAR);
-        self.add_if(far, "50, only a number held twice, 256 entries or more apart");
+        self.tally.add_if(far, "50, only a number held twice, 256 entries or more apart");
         let high = numbers.iter().all(|&number| number > 4095);
-        self.add_if(high, "50, only a number held twice, above 4095");
+        self.tally.add_if(high, "50, only a number held twice, above 4095");
         if let Some(entry) = call.entry {
             let own = numbers.contains(&entry.number);
-            self.add_if(own, "50, only a number held twice, the report's own");
-            self.add_if(!own, "50, only a number held twice, another than the report's");
+            self.tally.add_if(own, "50, only a number held twice, the report's own");
+            self.tally.add_if(!own, "50, only a number held twice, another than the report's");
         }
     }
 
     fn broken_with_report(&mut self, call: &Call, entry: &Entry) {
         let inside = call.table.iter().any(|other| other.number == entry.number);
-        self.add_of("50, kind N", call.kind());
-        self.add_if(inside, "50, the report's number in an entry");
-        self.add_if(!call.full(), "50, an unused entry free");
-        self.add_if(call.full() && !inside, "50, full and the report's number not in it");
+        self.tally.add_of("50, kind N", call.kind());
+        self.tally.add_if(inside, "50, the report's number in an entry");
+        self.tally.add_if(!call.full(), "50, an unused entry free");
+        self.tally.add_if(call.full() && !inside, "50, full and the report's number not in it");
     }
 
     fn entered(&mut self, call: &Call) {
         let at = call.done.1;
-        self.add("entered");
-        self.add_of("entered, kind N", call.kind());
-        self.add_if(at == 0, "entered in the first entry");
-        self.add_if(at as usize + 1 == call.table.len(), "entered in the last entry");
-        self.add_if(at >= FAR, "entered from entry 256 on");
-        self.add_if(holds_other_things(&call.table[at as usize]), "entered in an entry that holds other things");
-        self.differs(ENTERED_IN, at);
+        self.tally.add("entered");
+        self.tally.add_of("entered, kind N", call.kind());
+        self.tally.add_if(at == 0, "entered in the first entry");
+        self.tally.add_if(at as usize + 1 == call.table.len(), "entered in the last entry");
+        self.tally.add_if(at >= FAR, "entered from entry 256 on");
+        self.tally.add_if(holds_other_things(&call.table[at as usize]), "entered in an entry that holds other things");
+        self.tally.differs(ENTERED_IN, at);
         let number = call.entry.map_or(0, |entry| entry.number);
-        self.differs(FILES, u64::from(number));
+        self.tally.differs(FILES, u64::from(number));
         let like = likeness(number, call.table);
-        self.add_if(like.one_low_bit, "entered, and another entry's number differs in one of its low twelve bits");
-        self.add_if(like.high_bits, "entered, and another entry's number differs in its high four bits only");
-        self.add_if(like.low_byte, "entered, and another entry's number has the same low byte");
-        self.add_if(like.high_byte, "entered, and another entry's number has the same high byte");
+        self.tally.add_if(like.one_low_bit, "entered, and another entry's number differs in one of its low twelve bits");
+        self.tally.add_if(like.high_bits, "entered, and another entry's number differs in its high four bits only");
+        self.tally.add_if(like.low_byte, "entered, and another entry's number has the same low byte");
+        self.tally.add_if(like.high_byte, "entered, and another entry's number has the same high byte");
     }
 
     fn replaced(&mut self, call: &Call) {
         let at = call.done.1;
         let used = call.table.iter().filter(|entry| entry.used()).count() as u64;
-        self.add("replaced");
-        self.add_of("replaced, kind N", call.kind());
-        self.add_if(at == 0, "replaced in the first entry");
-        self.add_if(at > 0 && at + 1 < used, "replaced in an entry in the middle");
-        self.add_if(at + 1 == used && !call.full(), "replaced in the last used entry, unused ones behind");
-        self.add_if(call.full(), "replaced in a full table");
-        self.add_if(at >= FAR, "replaced from entry 256 on");
-        self.differs(REPLACED_IN, at);
+        self.tally.add("replaced");
+        self.tally.add_of("replaced, kind N", call.kind());
+        self.tally.add_if(at == 0, "replaced in the first entry");
+        self.tally.add_if(at > 0 && at + 1 < used, "replaced in an entry in the middle");
+        self.tally.add_if(at + 1 == used && !call.full(), "replaced in the last used entry, unused ones behind");
+        self.tally.add_if(call.full(), "replaced in a full table");
+        self.tally.add_if(at >= FAR, "replaced from entry 256 on");
+        self.tally.differs(REPLACED_IN, at);
         if let Some(new) = call.entry {
             self.replacement(&call.table[at as usize], &new);
         }
     }
 
     fn replacement(&mut self, old: &Entry, new: &Entry) {
-        self.add(match new.scan.cmp(&old.scan) {
+        self.tally.add(match new.scan.cmp(&old.scan) {
             std::cmp::Ordering::Less => "replaced, with an earlier scan number",
             std::cmp::Ordering::Equal => "replaced, with the same scan number",
             std::cmp::Ordering::Greater => "replaced, with a later scan number",
         });
-        self.add(match new.place.cmp(&old.place) {
+        self.tally.add(match new.place.cmp(&old.place) {
             std::cmp::Ordering::Less => "replaced, with an earlier place",
             std::cmp::Ordering::Equal => "replaced, with the same place",
             std::cmp::Ordering::Greater => "replaced, with a later place",
         });
-        self.add(if new.kind == old.kind { "replaced, with the same kind" } else { "replaced, with another kind" });
-        self.add_if(!WITH_FILE.contains(&u64::from(old.kind)), "replaced, an entry of a kind that has no file number");
+        self.tally.add(if new.kind == old.kind { "replaced, with the same kind" } else { "replaced, with another kind" });
+        self.tally.add_if(!WITH_FILE.contains(&u64::from(old.kind)), "replaced, an entry of a kind that has no file number");
     }
 
     /// Entered or replaced.
     fn written(&mut self, call: &Call, entry: &Entry) {
         let inside = call.place > 0 && call.words[call.place as usize - 1] != IDLE;
         if matches!(entry.scan, 0 | u32::MAX) {
-            self.add_of("entered or replaced, scan N", u64::from(entry.scan));
+            self.tally.add_of("entered or replaced, scan N", u64::from(entry.scan));
         }
-        self.add(match (entry.place > call.place, inside) {
+        self.tally.add(match (entry.place > call.place, inside) {
             (true, _) => "entered or replaced, behind idle words",
             (false, true) => "entered or replaced, from inside a run",
             (false, false) => "entered or replaced, from the run's first word",
         });
-        self.add_if(call.table.len() == 512, "entered or replaced in a table of 512 entries");
-        self.add_if(call.table.iter().any(|entry| entry.number > 4095), "entered or replaced, a number above 4095 in the table");
+        self.tally.add_if(call.table.len() == 512, "entered or replaced in a table of 512 entries");
+        self.tally.add_if(call.table.iter().any(|entry| entry.number > 4095), "entered or replaced, a number above 4095 in the table");
         let stays = |(at, entry): (usize, &Entry)| holds_other_things(entry) && at as u64 != call.done.1;
         let other_things = call.table.iter().enumerate().any(stays);
-        self.add_if(other_things, "entered or replaced, other things in an unused entry that stays");
+        self.tally.add_if(other_things, "entered or replaced, other things in an unused entry that stays");
     }
 
     // ---- finding
 
     pub fn find(&mut self, table: &[Entry], number: u32, done: Done, faults: &Faults) {
-        self.add("calls that find");
+        self.tally.add("calls that find");
         let inside = number != 0 && table.iter().any(|entry| u32::from(entry.number) == number);
         match done.0 {
             BROKEN => {
-                self.add_if(*faults == only(true, false, false), "finding 50, only more than 512 entries");
-                self.add_if(*faults == only(false, true, false), "finding 50, only a used entry behind an unused one");
-                self.add_if(*faults == only(false, false, true), "finding 50, only a number held twice");
-                self.add_if(inside, "finding 50, the number in an entry");
-                self.add_if(number == 0 || number > 65_535, "finding 50, number 0 or above 65535");
+                self.tally.add_if(*faults == only(true, false, false), "finding 50, only more than 512 entries");
+                self.tally.add_if(*faults == only(false, true, false), "finding 50, only a used entry behind an unused one");
+                self.tally.add_if(*faults == only(false, false, true), "finding 50, only a number held twice");
+                self.tally.add_if(inside, "finding 50, the number in an entry");
+                self.tally.add_if(number == 0 || number > 65_535, "finding 50, number 0 or above 65535");
             }
             FOUND => {
-                self.add("found");
-                self.add_if(done.1 == 0, "found in the first entry");
-                self.add_if(done.1 as usize + 1 == table.len(), "found in the last entry");
-                self.add_if(done.1 >= FAR, "found from entry 256 on");
-                self.add_if(number > 4095, "found, a number above 4095");
-                self.differs(FOUND_IN, done.1);
+                self.tally.add("found");
+                self.tally.add_if(done.1 == 0, "found in the first entry");
+                self.tally.add_if(done.1 as usize + 1 == table.len(), "found in the last entry");
+                self.tally.add_if(done.1 >= FAR, "found from entry 256 on");
+                self.tally.add_if(number > 4095, "found, a number above 4095");
+                self.tally.differs(FOUND_IN, done.1);
             }
             _ => self.missing(table, number),
         }
@@ -469,28 +445,28 @@ impl IndexTotals {
 
     fn missing(&mut self, table: &[Entry], number: u32) {
         let unused = table.iter().any(|entry| !entry.used());
-        self.add("missing");
-        self.add_if(!table.is_empty() && !unused, "missing in a full table");
-        self.add_if(table.is_empty(), "missing in a table of no entries");
-        self.add_if(number == 0, "missing, number 0");
-        self.add_if(number == 0 && unused, "missing, number 0, with an unused entry");
+        self.tally.add("missing");
+        self.tally.add_if(!table.is_empty() && !unused, "missing in a full table");
+        self.tally.add_if(table.is_empty(), "missing in a table of no entries");
+        self.tally.add_if(number == 0, "missing, number 0");
+        self.tally.add_if(number == 0 && unused, "missing, number 0, with an unused entry");
         if let Ok(number) = u16::try_from(number) {
             let one_bit = number != 0 && likeness(number, table).one_bit;
-            return self.add_if(one_bit, "missing, and an entry's number differs in one of its sixteen bits");
+            return self.tally.add_if(one_bit, "missing, and an entry's number differs in one of its sixteen bits");
         }
         let low = (number % 65_536) as u16;
-        self.add("missing, above 65535");
+        self.tally.add("missing, above 65535");
         let inside = low != 0 && table.iter().any(|entry| entry.number == low);
-        self.add_if(inside, "missing, above 65535, the low sixteen bits in an entry");
-        self.add_if(low == 0 && unused, "missing, a multiple of 65536, with an unused entry");
+        self.tally.add_if(inside, "missing, above 65535, the low sixteen bits in an entry");
+        self.tally.add_if(low == 0 && unused, "missing, a multiple of 65536, with an unused entry");
     }
 
     // ---- walks
 
     pub fn walk(&mut self, words: usize, outcomes: u64) {
-        self.add("walks over a line");
-        self.add_if(words > 1_000, "walks over a line of more than 1,000 words");
-        *self.tally.entry(("outcomes in walks", 0)).or_insert(0) += outcomes;
+        self.tally.add("walks over a line");
+        self.tally.add_if(words > 1_000, "walks over a line of more than 1,000 words");
+        self.tally.add_many("outcomes in walks", outcomes);
     }
 
     /// A table that had no used entry at first, filled by whole lines, with that many used entries now.
@@ -503,45 +479,24 @@ impl IndexTotals {
         let scans: BTreeSet<u32> = seen.iter().map(|entry| entry.scan).collect();
         let numbers: BTreeSet<u16> = seen.iter().map(|entry| entry.number).collect();
         let full = used as u64 == case.size;
-        self.add("tables worked out afresh");
-        self.add_if(walks == 1, "tables worked out afresh, from one line");
-        self.add_if(scans.len() > 1, "tables worked out afresh, from several lines as several scans");
-        self.add_if(!full, "tables worked out afresh, with unused entries left");
-        self.add_if(full && used > 0 && numbers.len() == used, "tables worked out afresh, full, and no report refused");
-        self.add_if(full && used > 0 && numbers.len() > used, "tables worked out afresh, full, and reports refused");
-        self.add_if(case.size == 0, "tables worked out afresh, of no entries");
+        self.tally.add("tables worked out afresh");
+        self.tally.add_if(walks == 1, "tables worked out afresh, from one line");
+        self.tally.add_if(scans.len() > 1, "tables worked out afresh, from several lines as several scans");
+        self.tally.add_if(!full, "tables worked out afresh, with unused entries left");
+        self.tally.add_if(full && used > 0 && numbers.len() == used, "tables worked out afresh, full, and no report refused");
+        self.tally.add_if(full && used > 0 && numbers.len() > used, "tables worked out afresh, full, and reports refused");
+        self.tally.add_if(case.size == 0, "tables worked out afresh, of no entries");
     }
 
     // ---- the quotas
 
-    fn counted(&self, name: &'static str, number: u64) -> u64 {
-        self.tally.get(&(name, number)).copied().unwrap_or(0)
-    }
-
     /// How many calls entered, and how many looked for a number.
     pub fn both(&self) -> (u64, u64) {
-        (self.counted("calls that enter", 0), self.counted("calls that find", 0))
+        (self.tally.counted("calls that enter", 0), self.tally.counted("calls that find", 0))
     }
 
     /// Prints the counts, and answers what is below its quota.
     pub fn report(&self) -> Vec<String> {
-        let mut short = Vec::new();
-        let mut say = |name: String, count: u64, quota: u64| say(&mut short, format!("index: {}", name), count, quota);
-        let rows = [ANSWERS, BROKEN_TABLES, ENTRIES, FINDING, TABLES].concat();
-        for (name, _) in self.tally.keys() {
-            assert!(rows.iter().any(|row| row.0 == *name), "counted, but in no row: {}", name);
-        }
-        for &(name, numbers, quota) in rows.iter() {
-            if numbers.is_empty() {
-                say(name.to_string(), self.counted(name, 0), quota);
-            }
-            for &number in numbers {
-                say(name.replace('N', &number.to_string()), self.counted(name, number), quota);
-            }
-        }
-        for &(name, _, quota) in DIFFERENT {
-            say(name.to_string(), self.different.get(name).map_or(0, |numbers| numbers.len() as u64), quota);
-        }
-        short
+        self.tally.report("index: ", &[ANSWERS, BROKEN_TABLES, ENTRIES, FINDING, TABLES].concat(), DIFFERENT)
     }
 }

@@ -42,6 +42,7 @@ mod rng;
 mod run;
 mod segment_chosen;
 mod segment_totals;
+mod tally;
 mod totals;
 mod worked;
 
