@@ -2,6 +2,7 @@ pub mod Numbers
 pub mod Twelve
 pub mod Printed
 pub mod OneSegment
+pub mod Folds
 pub mod Places
 pub mod Anywhere
 pub mod Fields

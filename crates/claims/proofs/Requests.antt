@@ -1,6 +1,7 @@
 -- The requests, each sentence from the law below it. Assumes nothing.
 use mathlib.Core.Path.{refl}
 use native.Mathlib.Omega.{arith}
+use Rattle.words.proofs.Claims as words
 use Rattle.frames.proofs.Back as back
 use Rattle.frames.proofs.Checked as checked
 use Rattle.frames.proofs.Ends as ends
@@ -9,9 +10,10 @@ use Rattle.frames.proofs.Lists as lists
 use Rattle.frames.proofs.Refused as refused
 use Rattle.frames.proofs.Zeros as zeros
 use Rattle.index.proofs.Claims as index
-use Rattle.claims.specs.Requests.{ReadAndWriteThem, FlagsAndIdle, PlacesAnswered, TheWriter, TheirOwnRoundTrip, FrameRefusals, Ticket1, OneSegmentAccepted, UplinkKeepsItsMinimum, RefusalsLoseThisCase, TakesReportsWithANumber, EntersAndReplaces, EqualsTheOneWorkedOutAfresh, IndexRefusals, Requests}
+use Rattle.claims.specs.Requests.{ReadAndWriteThem, FlagsAndIdle, PlacesAnswered, TheWriter, TheirOwnRoundTrip, FrameRefusals, Ticket1, OneSegmentAccepted, UplinkKeepsItsMinimum, RefusalsLoseThisCase, TakesReportsWithANumber, EntersAndReplaces, EqualsTheOneWorkedOutAfresh, IndexRefusals, CountsTheOnes, ItsPromiseStays, Requests}
 use Rattle.claims.proofs.Numbers.{numbers-differ, no-number-is-zero}
 use Rattle.claims.proofs.OneSegment as segment
+use Rattle.claims.proofs.Folds.{folds-told-the-same}
 
 -- ---- Ticket 1
 
@@ -132,6 +134,14 @@ index-refusals = record {
   none-is-0 = no-number-is-zero;
 }
 
+-- ---- Ticket 4
+
+counts : CountsTheOnes
+counts = record { counted = words.ones-by-bits; each-bit = words.flip-turns-parity; bit-13 = words.one-word-for-data }
+
+stays : ItsPromiseStays
+stays = record { folds = folds-told-the-same }
+
 -- ---- all of them
 
 pub requests : Requests
@@ -152,4 +162,5 @@ requests = record {
     afresh = afresh;
     refusals = index-refusals;
   };
+  ticket-4 = record { counts = counts; stays = stays };
 }

@@ -2,5 +2,6 @@ pub mod Numbers
 pub mod Twelve
 pub mod Printed
 pub mod OneSegment
+pub mod Folds
 pub mod Demands
 pub mod Requests

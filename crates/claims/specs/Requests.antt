@@ -4,6 +4,7 @@
 use Prim.Native.Nat.{ℕ, _<_}
 use mathlib.Core.Path.{_≡_}
 use mathlib.Core.List.{List, []}
+use Rattle.words.specs.Claims as words
 use Rattle.fields.specs.declared.Direction.{Direction}
 use Rattle.frames.specs.Frame.{frameOf, Fits}
 use Rattle.frames.specs.Writing.{Writes}
@@ -18,6 +19,7 @@ use Rattle.index.specs.Claims as index
 use Rattle.claims.specs.Demands.{AllowsOne}
 use Rattle.claims.specs.Numbers.{NumbersDiffer, NoNumberIsZero}
 use Rattle.claims.specs.OneSegment as segment
+use Rattle.claims.specs.Folds.{FoldsToldTheSame}
 
 -- ---- Ticket 1: frame the communications channel
 
@@ -183,9 +185,29 @@ pub record Ticket3 : Type 0 where
   pub afresh : EqualsTheOneWorkedOutAfresh
   pub refusals : IndexRefusals
 
+-- ---- Ticket 4: show the parity rule
+
+-- "New staff read our parity leaf and can't see the rule in its chain of folds. Write it as counting the ones of the thirteen-bit word and asking
+-- whether the count is odd." words/specs/Word.antt has the rule as `odd`, and the leaf `words::is_odd` promises it. The ones that are counted are
+-- those among bits 1 to 13 (counted). If one bit is turned over, whichever it is, the answer turns (each-bit). Bit 13 makes the count odd: there is
+-- one such word for twelve data bits (bit-13)
+pub record CountsTheOnes : Type 0 where
+  pub counted : words.OnesByBits
+  pub each-bit : words.FlipTurnsParity
+  pub bit-13 : words.OneWordForData
+
+-- "Its promise stays, and no caller changes." The chain of folds told the same of every number that the leaf takes
+pub record ItsPromiseStays : Type 0 where
+  pub folds : FoldsToldTheSame
+
+pub record Ticket4 : Type 0 where
+  pub counts : CountsTheOnes
+  pub stays : ItsPromiseStays
+
 -- ---- all of them
 
 pub record Requests : Type 0 where
   pub ticket-1 : Ticket1
   pub ticket-2 : Ticket2
   pub ticket-3 : Ticket3
+  pub ticket-4 : Ticket4

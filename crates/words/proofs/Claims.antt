@@ -1,16 +1,19 @@
 -- The claims of specs/Claims.antt, from the laws on parity and on layouts.
 -- Assumes nothing.
-use Prim.Native.Nat.{ℕ, zero, suc, _%_, _-_, _<_}
-use mathlib.Core.Path.{_≡_, refl, ap, sym, _∙_, subst}
+use Prim.Native.Nat.{ℕ, zero, suc, _+_, _/_, _%_, _-_, _≤_, _<_, _^_}
+use mathlib.Core.Path.{_≡_, refl, ap, ap₂, sym, _∙_, subst}
 use mathlib.Core.Bool.{not}
+use mathlib.Core.List.{[], _∷_}
 use native.Mathlib.Nat.{mod-lt}
 use native.Mathlib.Omega.{arith}
-use lib.Count.{ones}
+use lib.Count.{ones, ones-step}
 use lib.Dec.{eqb, lit<}
-use Rattle.words.specs.Word.{idle, dataBits, Good, AllGood}
+use lib.ListN.{getD}
+use lib.Pow.{shr-shr}
+use Rattle.words.specs.Word.{idle, largest, dataBits, bits, onesTo, Good, AllGood}
 use Rattle.words.specs.Layout.{Laid}
-use Rattle.words.specs.Claims.{IdleIsEven, NoReportWordIsIdle, OneWordForData, FlipTurnsParity, LaidOut}
-use Rattle.words.proofs.Parity.{turned}
+use Rattle.words.specs.Claims.{IdleIsEven, NoReportWordIsIdle, OneWordForData, OnesByBits, FlipTurnsParity, LaidOut}
+use Rattle.words.proofs.Parity.{zero-ones, turned}
 use Rattle.words.proofs.Layouts.{data-of-word, word-of-data, word-good, laid-words, words-laid, words-good}
 
 idle-ones : ones idle ≡ 10
@@ -28,6 +31,27 @@ one-word-for-data d w h = (
   λ g. word-of-data w d (g .0) (g .1),
   λ e. (subst Good (sym e) (word-good d h), ap dataBits e ∙ data-of-word d),
 )
+
+-- bit k + 1 of one word
+one-bit : (w k : ℕ) → k < 13 → bits (w ∷ []) (suc k) (suc k) ≡ w / 2 ^ (13 - suc k) % 2
+one-bit w k h = digit ((suc k - 1) / 13) (12 - (suc k - 1) % 13) (suc k + 1 - suc k) (omega arith) (omega arith) (omega arith)
+  where
+    digit : (i s m : ℕ) → i ≡ 0 → s ≡ 13 - suc k → m ≡ 1 → getD (w ∷ []) i 0 / 2 ^ s % 2 ^ m ≡ w / 2 ^ (13 - suc k) % 2
+    digit i s m p q r = rw (p, q, r)
+
+-- bits 1 to k are what stands above the other 13 - k
+ones-to : (w k : ℕ) → w ≤ largest → k ≤ 13 → onesTo k (w ∷ []) ≡ ones (w / 2 ^ (13 - k))
+unfolding onesTo
+ones-to w zero h g = sym (ap ones (let e : w / 8192 ≡ 0 = omega arith in e) ∙ zero-ones)
+ones-to w (suc k) h g =
+    ap₂ (λ (x y : ℕ). x + y) (ones-to w k h (omega arith)) (one-bit w k (omega arith))
+    ∙ next (13 - suc k) (13 - k) (omega arith)
+  where
+    next : (d e : ℕ) → e ≡ d + 1 → ones (w / 2 ^ e) + w / 2 ^ d % 2 ≡ ones (w / 2 ^ d)
+    next d e p = rw p (omega (arith, ones-step (w / 2 ^ d), ap ones (shr-shr w d 1)))
+
+pub ones-by-bits : OnesByBits
+ones-by-bits w h = sym (ones-to w 13 h (omega arith) ∙ ap ones (let e : w / 1 ≡ w = omega arith in e))
 
 pub flip-turns-parity : FlipTurnsParity
 flip-turns-parity k w = ap (λ (n : ℕ). eqb n 1) (turned (13 - k) w) ∙ digit (ones w % 2) (mod-lt (ones w) (lit< tt))

@@ -11,7 +11,7 @@ use lib.Count.{ones, ones-step, ones-cat}
 use lib.Dec.{lit<}
 use lib.Pow.{mod-pow-add, pow-pos}
 
-zero-ones : ones 0 ≡ 0
+pub zero-ones : ones 0 ≡ 0
 unfolding ones
 zero-ones = refl
 
@@ -42,7 +42,7 @@ abbrev pub lowest : ℕ → ℕ → ℕ
 lowest k n = ones (n % 2 ^ k) % 2
 
 -- n with its digits from k on folded upon its lowest k has there the parity of the lowest 2 k
-fold : (k n : ℕ) → lowest k (bitXor n (n / 2 ^ k)) ≡ lowest (k + k) n
+pub fold : (k n : ℕ) → lowest k (bitXor n (n / 2 ^ k)) ≡ lowest (k + k) n
 fold k n =
     ap (λ (x : ℕ). ones x % 2) (xor-mod n (n / 2 ^ k) k)
     ∙ ones-xor (n % 2 ^ k) (n / 2 ^ k % 2 ^ k)

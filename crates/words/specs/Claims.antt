@@ -2,9 +2,10 @@
 use Prim.Native.Nat.{ℕ, _≤_}
 use mathlib.Core.Path.{_≡_}
 use mathlib.Core.Bool.{true, not}
-use mathlib.Core.List.{List}
+use mathlib.Core.List.{List, [], _∷_}
 use mathlib.Core.Logic.{_↔_}
-use Rattle.words.specs.Word.{idle, odd, even, dataBits, wordOf, flipped, Good, AllGood}
+use lib.Count.{ones}
+use Rattle.words.specs.Word.{idle, largest, odd, even, dataBits, wordOf, flipped, onesTo, Good, AllGood}
 use Rattle.words.specs.Layout.{Field, wordsBy, fittingBy, twelveEach, Laid}
 
 -- idle has an even number of ones, so no word of a report equals it
@@ -17,6 +18,10 @@ NoReportWordIsIdle = (w : ℕ) → Good w → w ≡ idle → ⊥
 -- twelve data bits have exactly one word with an odd number of ones
 abbrev pub OneWordForData : Type 0
 OneWordForData = (d w : ℕ) → d ≤ 4095 → (Good w × (dataBits w ≡ d)) ↔ (w ≡ wordOf d)
+
+-- the ones of a word are those among its bits 1 to 13: the count leaves out none of them
+abbrev pub OnesByBits : Type 0
+OnesByBits = (w : ℕ) → w ≤ largest → ones w ≡ onesTo 13 (w ∷ [])
 
 -- turning over one bit turns over the parity
 abbrev pub FlipTurnsParity : Type 0

@@ -1,6 +1,6 @@
 -- The 13-bit word (document 01, "The line"): bit 1 weighs 4096 and bit 13 weighs 1; bit 13 makes the number of ones odd. Definitions only.
 -- `ones` is the language's own count of a number's set digits.
-use Prim.Native.Nat.{ℕ, suc, _+_, _*_, _/_, _%_, _-_, _≤_, _^_}
+use Prim.Native.Nat.{ℕ, zero, suc, _+_, _*_, _/_, _%_, _-_, _≤_, _^_}
 use mathlib.Core.Path.{_≡_}
 use mathlib.Core.Bool.{Bool, not, cond}
 use mathlib.Core.List.{List, [], _∷_}
@@ -66,6 +66,11 @@ bits ws a b = getD ws ((a - 1) / 13) 0 / 2 ^ (12 - (b - 1) % 13) % 2 ^ (b + 1 - 
 -- bit a is one
 abbrev pub bit : List ℕ → ℕ → Bool
 bit ws a = eqb (bits ws a a) 1
+
+-- how many of bits 1 to k are one
+unfoldable pub onesTo : ℕ → List ℕ → ℕ
+onesTo zero ws = 0
+onesTo (suc k) ws = onesTo k ws + bits ws (suc k) (suc k)
 
 -- bits a to b and then bits c to d, as one number: a number that a parity bit divides
 abbrev pub bitsThen : List ℕ → ℕ → ℕ → ℕ → ℕ → ℕ

@@ -25,7 +25,8 @@ pub fn is_too_wide(w: u16) -> bool
     w > LARGEST
 }
 
-// The parity leaf: the language's count of ones. Callers know it by its promise alone.
+// The parity rule (document 01, "The line"): bit 13 makes the number of ones odd. So the ones of the word are counted, bit 13 with them, and the
+// count is odd or it is not. Of a number above LARGEST all ones are counted. Callers know this leaf by its promise alone.
 pub fn is_odd(w: u16) -> bool
     ensures { λ r. ⌜ r ≡ odd w ⌝ }
 {
