@@ -13,7 +13,7 @@ use Rattle.index.proofs.Claims as index
 use Rattle.claims.specs.Requests.{ReadAndWriteThem, FlagsAndIdle, PlacesAnswered, TheWriter, TheirOwnRoundTrip, FrameRefusals, Ticket1, OneSegmentAccepted, UplinkKeepsItsMinimum, RefusalsLoseThisCase, TakesReportsWithANumber, EntersAndReplaces, EqualsTheOneWorkedOutAfresh, IndexRefusals, CountsTheOnes, ItsPromiseStays, Requests}
 use Rattle.claims.proofs.Numbers.{numbers-differ, no-number-is-zero}
 use Rattle.claims.proofs.OneSegment as segment
-use Rattle.claims.proofs.Folds.{folds-told-the-same}
+use Rattle.claims.proofs.Folds.{folds-answer-the-same}
 
 -- ---- Ticket 1
 
@@ -137,10 +137,10 @@ index-refusals = record {
 -- ---- Ticket 4
 
 counts : CountsTheOnes
-counts = record { counted = words.ones-by-bits; each-bit = words.flip-turns-parity; bit-13 = words.one-word-for-data }
+counts = record { counted = words.ones-by-bits; asked = words.odd-by-bits; each-bit = words.flip-turns-parity; bit-13 = words.one-word-for-data }
 
 stays : ItsPromiseStays
-stays = record { folds = folds-told-the-same }
+stays = record { folds = folds-answer-the-same }
 
 -- ---- all of them
 

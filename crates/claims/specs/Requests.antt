@@ -19,7 +19,7 @@ use Rattle.index.specs.Claims as index
 use Rattle.claims.specs.Demands.{AllowsOne}
 use Rattle.claims.specs.Numbers.{NumbersDiffer, NoNumberIsZero}
 use Rattle.claims.specs.OneSegment as segment
-use Rattle.claims.specs.Folds.{FoldsToldTheSame}
+use Rattle.claims.specs.Folds.{FoldsAnswerTheSame}
 
 -- ---- Ticket 1: frame the communications channel
 
@@ -189,16 +189,18 @@ pub record Ticket3 : Type 0 where
 
 -- "New staff read our parity leaf and can't see the rule in its chain of folds. Write it as counting the ones of the thirteen-bit word and asking
 -- whether the count is odd." words/specs/Word.antt has the rule as `odd`, and the leaf `words::is_odd` promises it. The ones that are counted are
--- those among bits 1 to 13 (counted). If one bit is turned over, whichever it is, the answer turns (each-bit). Bit 13 makes the count odd: there is
--- one such word for twelve data bits (bit-13)
+-- those among bits 1 to 13 (counted), and the answer is whether their number is odd (asked). If one bit is turned over, whichever it is, the answer
+-- turns (each-bit). Of the two words with the same twelve data bits exactly one has an odd count: bit 13 makes it so (bit-13)
 pub record CountsTheOnes : Type 0 where
   pub counted : words.OnesByBits
+  pub asked : words.OddByBits
   pub each-bit : words.FlipTurnsParity
   pub bit-13 : words.OneWordForData
 
--- "Its promise stays, and no caller changes." The chain of folds told the same of every number that the leaf takes
+-- "Its promise stays, and no caller changes." The contract of the leaf is the line that it was. The chain of folds gives the answer that it promises,
+-- for every number that the leaf takes (folds). That no caller changes is about the code; docs/landings/04-parity.md has it from the commits
 pub record ItsPromiseStays : Type 0 where
-  pub folds : FoldsToldTheSame
+  pub folds : FoldsAnswerTheSame
 
 pub record Ticket4 : Type 0 where
   pub counts : CountsTheOnes

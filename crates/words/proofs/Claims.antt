@@ -12,7 +12,7 @@ use lib.ListN.{getD}
 use lib.Pow.{shr-shr}
 use Rattle.words.specs.Word.{idle, largest, dataBits, bits, onesTo, Good, AllGood}
 use Rattle.words.specs.Layout.{Laid}
-use Rattle.words.specs.Claims.{IdleIsEven, NoReportWordIsIdle, OneWordForData, OnesByBits, FlipTurnsParity, LaidOut}
+use Rattle.words.specs.Claims.{IdleIsEven, NoReportWordIsIdle, OneWordForData, OnesByBits, OddByBits, FlipTurnsParity, LaidOut}
 use Rattle.words.proofs.Parity.{zero-ones, turned}
 use Rattle.words.proofs.Layouts.{data-of-word, word-of-data, word-good, laid-words, words-laid, words-good}
 
@@ -52,6 +52,9 @@ ones-to w (suc k) h g =
 
 pub ones-by-bits : OnesByBits
 ones-by-bits w h = sym (ones-to w 13 h (omega arith) ∙ ap ones (let e : w / 1 ≡ w = omega arith in e))
+
+pub odd-by-bits : OddByBits
+odd-by-bits w h = ap (λ (n : ℕ). eqb (n % 2) 1) (ones-by-bits w h)
 
 pub flip-turns-parity : FlipTurnsParity
 flip-turns-parity k w = ap (λ (n : ℕ). eqb n 1) (turned (13 - k) w) ∙ digit (ones w % 2) (mod-lt (ones w) (lit< tt))

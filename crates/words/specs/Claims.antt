@@ -1,10 +1,11 @@
 -- What is claimed of the word and of layouts. Statements only; proofs/Claims.antt proves them.
-use Prim.Native.Nat.{ℕ, _≤_}
+use Prim.Native.Nat.{ℕ, _%_, _≤_}
 use mathlib.Core.Path.{_≡_}
 use mathlib.Core.Bool.{true, not}
 use mathlib.Core.List.{List, [], _∷_}
 use mathlib.Core.Logic.{_↔_}
 use lib.Count.{ones}
+use lib.Dec.{eqb}
 use Rattle.words.specs.Word.{idle, largest, odd, even, dataBits, wordOf, flipped, onesTo, Good, AllGood}
 use Rattle.words.specs.Layout.{Field, wordsBy, fittingBy, twelveEach, Laid}
 
@@ -19,9 +20,13 @@ NoReportWordIsIdle = (w : ℕ) → Good w → w ≡ idle → ⊥
 abbrev pub OneWordForData : Type 0
 OneWordForData = (d w : ℕ) → d ≤ 4095 → (Good w × (dataBits w ≡ d)) ↔ (w ≡ wordOf d)
 
--- the ones of a word are those among its bits 1 to 13: the count leaves out none of them
+-- of a word, `ones` is the number of ones among its bits 1 to 13
 abbrev pub OnesByBits : Type 0
 OnesByBits = (w : ℕ) → w ≤ largest → ones w ≡ onesTo 13 (w ∷ [])
+
+-- the parity rule by the bits: a word is odd exactly when the number of ones among its bits 1 to 13 is odd
+abbrev pub OddByBits : Type 0
+OddByBits = (w : ℕ) → w ≤ largest → odd w ≡ eqb (onesTo 13 (w ∷ []) % 2) 1
 
 -- turning over one bit turns over the parity
 abbrev pub FlipTurnsParity : Type 0

@@ -67,7 +67,7 @@ bits ws a b = getD ws ((a - 1) / 13) 0 / 2 ^ (12 - (b - 1) % 13) % 2 ^ (b + 1 - 
 abbrev pub bit : List ℕ → ℕ → Bool
 bit ws a = eqb (bits ws a a) 1
 
--- how many of bits 1 to k are one
+-- how many of a report's bits 1 to k are one, parity bits counted
 unfoldable pub onesTo : ℕ → List ℕ → ℕ
 onesTo zero ws = 0
 onesTo (suc k) ws = onesTo k ws + bits ws (suc k) (suc k)

@@ -25,15 +25,17 @@ pub fn is_too_wide(w: u16) -> bool
     w > LARGEST
 }
 
-// The parity rule (document 01, "The line"): bit 13 makes the number of ones odd. So the ones of the word are counted, bit 13 with them, and the
-// count is odd or it is not. Of a number above LARGEST all ones are counted. Callers know this leaf by its promise alone.
+// The parity rule (document 01, "The line"): bit 13, the last bit of a word, makes the number of ones odd. This counts the ones of the word, bit 13
+// included, and says whether the count is odd. 1022 has nine ones: true. IDLE has ten: false. In a number above LARGEST the ones above bit 1
+// count as well. Callers rely on the promise, not on the body.
 pub fn is_odd(w: u16) -> bool
     ensures { λ r. ⌜ r ≡ odd w ⌝ }
 {
     u16::count_ones(w) % 2 == 1
 }
 
-// The word of any data. Data of more than twelve bits is not cut: it makes a number above LARGEST, so the answer is wider than a word.
+// The word of any data: bit 13 is one where the data has an even number of ones, so the word has an odd number. Data of more than twelve bits is not
+// cut: it makes a number above LARGEST, of up to seventeen bits.
 pub fn word(data: u16) -> u32
     ensures { λ r. ⌜ r ≡ wordOf «data» ⌝ }
 {
