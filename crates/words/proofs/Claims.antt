@@ -8,13 +8,12 @@ use native.Mathlib.Nat.{mod-lt}
 use native.Mathlib.Omega.{arith}
 use lib.Count.{ones, ones-step}
 use lib.Dec.{eqb, lit<}
-use lib.ListN.{getD}
 use lib.Pow.{shr-shr}
 use Rattle.words.specs.Word.{idle, largest, dataBits, bits, onesTo, Good, AllGood}
 use Rattle.words.specs.Layout.{Laid}
 use Rattle.words.specs.Claims.{IdleIsEven, NoReportWordIsIdle, OneWordForData, OnesByBits, OddByBits, FlipTurnsParity, LaidOut}
 use Rattle.words.proofs.Parity.{zero-ones, turned}
-use Rattle.words.proofs.Layouts.{data-of-word, word-of-data, word-good, laid-words, words-laid, words-good}
+use Rattle.words.proofs.Layouts.{data-of-word, word-of-data, word-good, same-digits, laid-words, words-laid, words-good}
 
 idle-ones : ones idle ≡ 10
 unfolding ones
@@ -34,10 +33,7 @@ one-word-for-data d w h = (
 
 -- bit k + 1 of one word
 one-bit : (w k : ℕ) → k < 13 → bits (w ∷ []) (suc k) (suc k) ≡ w / 2 ^ (13 - suc k) % 2
-one-bit w k h = digit ((suc k - 1) / 13) (12 - (suc k - 1) % 13) (suc k + 1 - suc k) (omega arith) (omega arith) (omega arith)
-  where
-    digit : (i s m : ℕ) → i ≡ 0 → s ≡ 13 - suc k → m ≡ 1 → getD (w ∷ []) i 0 / 2 ^ s % 2 ^ m ≡ w / 2 ^ (13 - suc k) % 2
-    digit i s m p q r = rw (p, q, r)
+one-bit w k h = same-digits (w ∷ []) {i = (suc k - 1) / 13} {j = 0} {t = 13 - suc k} {n = 1} (omega arith) (omega arith) (omega arith)
 
 -- bits 1 to k are what stands above the other 13 - k
 ones-to : (w k : ℕ) → w ≤ largest → k ≤ 13 → onesTo k (w ∷ []) ≡ ones (w / 2 ^ (13 - k))

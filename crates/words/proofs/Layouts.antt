@@ -151,7 +151,7 @@ words-length (fs ∷ l) = ap suc (words-length l)
 -- ---- the document's bit numbers
 
 -- the same digits of the same word
-same-digits : (ws : List ℕ) {i j s t m n : ℕ} → i ≡ j → s ≡ t → m ≡ n → getD ws i 0 / 2 ^ s % 2 ^ m ≡ getD ws j 0 / 2 ^ t % 2 ^ n
+pub same-digits : (ws : List ℕ) {i j s t m n : ℕ} → i ≡ j → s ≡ t → m ≡ n → getD ws i 0 / 2 ^ s % 2 ^ m ≡ getD ws j 0 / 2 ^ t % 2 ^ n
 same-digits ws p q r = rw (p, q, r)
 
 -- k bits from bit a on, which stand in word j behind its first o bits and before s more and the parity bit
