@@ -11,6 +11,11 @@
  * siamrung_index_enter, which writes into its table). A call reads its own run and no more of the line. So a program that goes from run to run by
  * siamrung_after does work in proportion to the line.
  *
+ * Altitudes. Sensors send the altitude of DABS and ATCRBS in one of two forms. The words do not tell which: the program must know it, and passes it
+ * as the argument form to every call that reads a line or writes a report. 0 (SIAMRUNG_FORM_SIGN_MAGNITUDE) is a sign and eleven bits. Any other
+ * number (SIAMRUNG_FORM_TWOS_COMPLEMENT) is a number in two's complement. Only altitudes below zero, and refusals 9 and 11, depend on it. If a line
+ * is read with the wrong form, its altitudes below zero are wrong, and no refusal tells it but 9 for one pattern of the bits.
+ *
  * Threads. No call keeps anything, so any thread may call at any time. But while a call writes into bytes or into a table, no other thread may use
  * them.
  *
@@ -25,8 +30,11 @@
  *
  * Versions. The numbers below keep their meaning: none is ever used for something else. siamrung_version grows with each change of the calls,
  * and of what they accept. Version 3 added the calls of frames. Version 4 accepts an ELM_DOWNLINK with LENGTH 0, alone and relayed, which was
- * refused (28, and 30 in writing). Version 5 added the calls of the index. A call that accepts more than before keeps its name. If the meaning of
- * a call changes in any other way under the same arguments, it gets a new name, so that an old program does not link with it.
+ * refused (28, and 30 in writing). Version 5 added the calls of the index. Version 6 added the argument form: it stands behind place in every call
+ * that reads a line or writes a report, and 0 is what those calls did before. So a program for an earlier version does not compile with this header
+ * until it passes a form. A program that is already compiled must be compiled again: do not link it with a library of another version. A call that
+ * accepts more than before keeps its name. If the meaning of a call changes in any other way under the same arguments, it gets a new name, so that
+ * an old program does not link with it.
  */
 #ifndef SIAMRUNG_H
 #define SIAMRUNG_H
@@ -37,6 +45,13 @@
 #ifdef __cplusplus
 extern "C" {
 #endif
+
+/* ---- forms of the altitude, bits 79-90 of DABS and ATCRBS with Mode C and without substitution: the argument form */
+
+/* a sign, 1 negative, and eleven bits: -2047 to 2047 hundreds of feet. Sign 1 with eleven zeros is refused with 9 */
+#define SIAMRUNG_FORM_SIGN_MAGNITUDE 0
+/* twelve bits in two's complement: -2048 to 2047 hundreds of feet. Every pattern is an altitude. Every number but 0 means this form */
+#define SIAMRUNG_FORM_TWOS_COMPLEMENT 1
 
 /* ---- kinds: what siamrung_kind answers */
 
@@ -82,7 +97,7 @@ extern "C" {
 #define SIAMRUNG_REFUSAL_UNASSIGNED_RADAR 7
 /* a zero bit or a spare bit is one */
 #define SIAMRUNG_REFUSAL_SPARE_BIT_SET 8
-/* the altitude is minus zero: sign 1 and magnitude 0 */
+/* the altitude is minus zero: sign 1 and magnitude 0. Never given in two's complement */
 #define SIAMRUNG_REFUSAL_MINUS_ZERO 9
 /* writing: a value is too large for its field, or kind and items are no record */
 #define SIAMRUNG_REFUSAL_VALUE_TOO_LARGE 11
@@ -147,7 +162,8 @@ extern "C" {
 #define SIAMRUNG_ITEM_CODE 29
 /* file number; 0 means: belongs to no track */
 #define SIAMRUNG_ITEM_FILE 30
-/* in hundreds of feet, signed */
+/* in hundreds of feet, signed; the argument form says how bits 79-90 hold it. In writing, -2047 to 2047 for sign and magnitude, -2048 to 2047 for
+ * two's complement; any other value is refused with 11 */
 #define SIAMRUNG_ITEM_ALTITUDE 31
 /* bits 79-90 as sent, where they are no altitude */
 #define SIAMRUNG_ITEM_CARRIED 32
@@ -332,46 +348,46 @@ extern "C" {
 
 /* ---- calls that read a line */
 
-/* Answers the version of these calls: 5. It grows with each change of the calls, and of what they accept. */
+/* Answers the version of these calls: 6. It grows with each change of the calls, and of what they accept. */
 uint32_t siamrung_version(void);
 
 /* Answers what stands at the place: a kind of report, SIAMRUNG_KIND_REFUSED or SIAMRUNG_KIND_END. */
-uint32_t siamrung_kind(const uint8_t *bytes, size_t length, size_t place);
+uint32_t siamrung_kind(const uint8_t *bytes, size_t length, size_t place, uint32_t form);
 
 /*
  * Answers why the run at the place is refused. The conditions are tested in the order in which they stand above (2, 14, 1, 3, 4, ..), and the
  * first that holds answers. For a report and at the end the answer is SIAMRUNG_REFUSAL_NONE. Refusals 2, 14 and 1 are about the line or the
  * place itself. A program that goes from run to run stops there, because siamrung_after then answers the place that was passed.
  */
-uint32_t siamrung_refusal(const uint8_t *bytes, size_t length, size_t place);
+uint32_t siamrung_refusal(const uint8_t *bytes, size_t length, size_t place, uint32_t form);
 
 /* Answers the place of the run's first word. At the end it answers the number of words of the line; for refusals 2, 14 and 1, the place that
  * was passed. */
-size_t siamrung_first(const uint8_t *bytes, size_t length, size_t place);
+size_t siamrung_first(const uint8_t *bytes, size_t length, size_t place, uint32_t form);
 
 /* Answers the place after the run's last word: the program goes on from there. At the end it answers the number of words of the line; for
  * refusals 2, 14 and 1, the place that was passed. */
-size_t siamrung_after(const uint8_t *bytes, size_t length, size_t place);
+size_t siamrung_after(const uint8_t *bytes, size_t length, size_t place, uint32_t form);
 
 /* Answers the place that a refusal names: for 3 and 4 the first such word of the run, for 5 to 9 the run's first word, for 2, 14 and 1 the
  * place that was passed. For a report it answers the place of its first word, at the end the number of words of the line. */
-size_t siamrung_named(const uint8_t *bytes, size_t length, size_t place);
+size_t siamrung_named(const uint8_t *bytes, size_t length, size_t place, uint32_t form);
 
 /* Answers 1 if there is a report at the place and it has the item, else 0. So for a number that is no item of reports it answers 0. */
-uint32_t siamrung_has(const uint8_t *bytes, size_t length, size_t place, uint32_t item);
+uint32_t siamrung_has(const uint8_t *bytes, size_t length, size_t place, uint32_t form, uint32_t item);
 
 /* Answers the value of the item of the report at the place, or 0 if there is no such item. 0 may be a real value, so siamrung_has says whether
  * the item is there. */
-int64_t siamrung_item(const uint8_t *bytes, size_t length, size_t place, uint32_t item);
+int64_t siamrung_item(const uint8_t *bytes, size_t length, size_t place, uint32_t form, uint32_t item);
 
 /* Answers 1 if there is a report with range and azimuth at the place, else 0. Every report has them, except a Status. */
-uint32_t siamrung_has_values(const uint8_t *bytes, size_t length, size_t place);
+uint32_t siamrung_has_values(const uint8_t *bytes, size_t length, size_t place, uint32_t form);
 
 /* Answer the range in nmi (for a Map its range start), the azimuth in degrees and the time in seconds (for a Map 0). Each is exact. Each is +0
  * where siamrung_has_values answers 0. */
-double siamrung_nmi(const uint8_t *bytes, size_t length, size_t place);
-double siamrung_degrees(const uint8_t *bytes, size_t length, size_t place);
-double siamrung_seconds(const uint8_t *bytes, size_t length, size_t place);
+double siamrung_nmi(const uint8_t *bytes, size_t length, size_t place, uint32_t form);
+double siamrung_degrees(const uint8_t *bytes, size_t length, size_t place, uint32_t form);
+double siamrung_seconds(const uint8_t *bytes, size_t length, size_t place, uint32_t form);
 
 /* ---- calls that write a report into a line */
 
@@ -381,7 +397,7 @@ double siamrung_seconds(const uint8_t *bytes, size_t length, size_t place);
  * A report that is written directly behind a word that is not idle joins the run of that word. So write at the place that the call before
  * answered.
  */
-size_t siamrung_write(uint8_t *bytes, size_t length, size_t place, uint32_t kind, const uint8_t *items, size_t items_length);
+size_t siamrung_write(uint8_t *bytes, size_t length, size_t place, uint32_t form, uint32_t kind, const uint8_t *items, size_t items_length);
 
 /*
  * Answers why siamrung_write with the same arguments is refused: the first of 2, 14, 1, 11, 10 whose condition holds, else
@@ -389,7 +405,8 @@ size_t siamrung_write(uint8_t *bytes, size_t length, size_t place, uint32_t kind
  * no record at all: the kind is not a kind of report, an item is not one of the kind's, an item is missing or passed twice, a flag is neither
  * 0 nor 1, or the length of the items is no multiple of sixteen.
  */
-uint32_t siamrung_write_refusal(const uint8_t *bytes, size_t length, size_t place, uint32_t kind, const uint8_t *items, size_t items_length);
+uint32_t siamrung_write_refusal(const uint8_t *bytes, size_t length, size_t place, uint32_t form, uint32_t kind, const uint8_t *items,
+                                size_t items_length);
 
 /*
  * ---- calls that read a link data field
@@ -564,12 +581,14 @@ static inline size_t siamrung_index_entry(uint32_t answer)
 }
 
 /*
- * Enters the report at the place, or behind the idle words there, with a scan number that the program chooses. siamrung_index_done takes out of the
- * answer: 50 if the table is broken, whatever stands there; else LEFT if no report with a file number other than 0 stands there; else REPLACED if the
- * number is in the table; else ENTERED if an entry is unused; else 51. After ENTERED and REPLACED siamrung_index_entry takes out which entry has the
- * report; only that entry is written. After LEFT, 50 and 51 nothing is written. The table must not overlap the line.
+ * Enters the report at the place, or behind the idle words there, with a scan number that the program chooses. Of the form it depends only whether a run
+ * with the altitude minus zero is a report. siamrung_index_done takes out of the answer: 50 if the table is broken, whatever stands there; else LEFT if
+ * no report with a file number other than 0 stands there; else REPLACED if the number is in the table; else ENTERED if an entry is unused; else 51.
+ * After ENTERED and REPLACED siamrung_index_entry takes out which entry has the report; only that entry is written. After LEFT, 50 and 51 nothing is
+ * written. The table must not overlap the line.
  */
-uint32_t siamrung_index_enter(siamrung_entry *table, size_t entries, const uint8_t *bytes, size_t length, size_t place, uint32_t scan);
+uint32_t siamrung_index_enter(siamrung_entry *table, size_t entries, const uint8_t *bytes, size_t length, size_t place, uint32_t form,
+                              uint32_t scan);
 
 /*
  * Looks for a number's entry, and writes nothing. siamrung_index_done takes out of the answer: 50 if the table is broken; else FOUND, and
