@@ -1,15 +1,17 @@
--- Document 01's form of the altitude: its two ways undo each other.
--- Assumes nothing.
-use Prim.Native.Nat.{ℕ, zero, suc, _+_, _*_, _/_, _%_, _≤_, _<_}
-use mathlib.Core.Path.{_≡_, refl}
+-- The two forms of the altitude: in each, the two ways undo each other. Assumes nothing.
+use Prim.Native.Nat.{ℕ, zero, suc, _+_, _-_, _*_, _/_, _%_, _≤_, _<_}
+use mathlib.Core.Path.{_≡_, refl, ap, sym, _∙_}
 use mathlib.Core.Bool.{Bool, true, false, cond}
 use native.Mathlib.Omega.{arith}
-use borrow.Author.Tests.{eq-eqb, ne-eqb, leb-true, le-leb}
+use borrow.Author.Tests.{eq-eqb, ne-eqb, eqb-true, eqb-false, leb-true, le-leb, lt-ltb}
 use lib.Dec.{eqb, leb, eqb·suc-zero}
-use lib.IntN.{ℤ, pos, negsuc}
-use Rattle.reports.specs.Altitude.{Sound, sign, magnitude, signed, signMagnitude}
+use lib.IntN.{ℤ, pos, negsuc, _-ℤ_}
+use Rattle.words.proofs.Tests.{picked, passed, by-test}
+use Rattle.reports.specs.declared.altitude.Form.{Form}
+use Rattle.reports.specs.declared.altitude.Form.the-variants as F
+use Rattle.reports.specs.Altitude.{Sound, sign, magnitude, signed, signMagnitude, twosComplement, formOf}
 
--- ---- from an altitude to its bits and back
+-- ---- document 01's form: from an altitude to its bits and back
 
 -- an altitude that has twelve bits is within the range
 in-range : (b : Bool) (n : ℕ) → cond b n 4096 < 4096 → b ≡ true
@@ -33,7 +35,7 @@ back (negsuc n) h =
     let p = minus-back n (leb-true (suc n) 2047 r) in
     (rw r (simp (p .0, p .1, eqb·suc-zero)), rw r (simp (p .0, p .1)))
 
--- ---- from bits to their altitude and back
+-- ---- and from bits to their altitude and back
 
 again : (n : ℕ) → n < 4096 → signMagnitude .refused n ≡ false → signMagnitude .bitsOf (signMagnitude .altitude n) ≡ n
 again n l h = go (n / 2048) (n % 2048) (omega arith) (omega arith) (omega arith) h
@@ -44,5 +46,39 @@ again n l h = go (n / 2048) (n % 2048) (omega arith) (omega arith) (omega arith)
     go (suc zero) (suc m) a b e h = rw (le-leb (suc m) 2047 (omega arith)) (omega arith)
     go (suc (suc s)) m a b e h = absurd (omega arith)
 
-pub sign-magnitude-sound : Sound signMagnitude
-sign-magnitude-sound = record { back = back; again = again }
+-- ---- two's complement: eleven bits, and -2048 where the first bit is one
+
+pub weighed : (m : ℕ) → m < 2048 → pos m -ℤ pos 2048 ≡ negsuc (2048 - suc m)
+weighed m h = picked _ _ (lt-ltb m 2048 h)
+
+twos-back : (z : ℤ) → twosComplement .bitsOf z < 4096
+    → (twosComplement .refused (twosComplement .bitsOf z) ≡ false) × (twosComplement .altitude (twosComplement .bitsOf z) ≡ z)
+twos-back (pos n) h =
+    let r = in-range (leb n 2047) _ h in
+    let l = leb-true n 2047 r in
+    (refl, rw r (simp (ne-eqb (n / 2048) 1 (λ e. omega arith)) (ap pos (let e : n % 2048 ≡ n = omega arith in e))))
+twos-back (negsuc n) h =
+    let r = in-range (leb (suc n) 2048) _ h in
+    let l = leb-true (suc n) 2048 r in
+    (refl, rw r (simp (eq-eqb ((4096 - suc n) / 2048) 1 (omega arith)) (weighed ((4096 - suc n) % 2048) (omega arith) ∙ ap negsuc (let e : 2048 - suc ((4096 - suc n) % 2048) ≡ n = omega arith in e))))
+
+twos-again : (n : ℕ) → n < 4096 → twosComplement .refused n ≡ false → twosComplement .bitsOf (twosComplement .altitude n) ≡ n
+twos-again n l h = by-test (sign n) minus plus
+  where
+    minus : sign n ≡ true → twosComplement .bitsOf (twosComplement .altitude n) ≡ n
+    minus s =
+        let one = eqb-true (n / 2048) 1 s in
+        ap (twosComplement .bitsOf) (picked _ _ s ∙ weighed (n % 2048) (omega arith))
+        ∙ picked _ _ (le-leb (suc (2048 - suc (n % 2048))) 2048 (omega arith))
+        ∙ (let e : 4096 - suc (2048 - suc (n % 2048)) ≡ n = omega arith in e)
+
+    plus : sign n ≡ false → twosComplement .bitsOf (twosComplement .altitude n) ≡ n
+    plus s =
+        let other = eqb-false (n / 2048) 1 s in
+        ap (twosComplement .bitsOf) (passed _ _ s) ∙ picked _ _ (le-leb (n % 2048) 2047 (omega arith)) ∙ (let e : n % 2048 ≡ n = omega arith in e)
+
+-- ---- both
+
+pub forms-sound : (form : Form) → Sound (formOf form)
+forms-sound F.SignMagnitude = record { back = back; again = again }
+forms-sound F.TwosComplement = record { back = twos-back; again = twos-again }

@@ -1,12 +1,14 @@
--- How twelve bits hold an altitude in hundreds of feet. Everything above takes the form as a parameter; document 01 has one.
--- Definitions only.
-use Prim.Native.Nat.{ℕ, _+_, _/_, _%_, _<_}
+-- How twelve bits hold an altitude in hundreds of feet (document 004, 4.1.17): document 01's form, and the other one of document 02, Ticket 5.
+-- Everything above takes the form as a parameter. Definitions only.
+use Prim.Native.Nat.{ℕ, _+_, _-_, _/_, _%_, _<_}
 use mathlib.Core.Path.{_≡_}
 use mathlib.Core.Bool.{Bool, true, false, cond}
 use mathlib.Core.List.{[], _∷_}
 use lib.Dec.{eqb, leb}
-use lib.IntN.{ℤ, pos, negsuc, negℤ, natAbs}
+use lib.IntN.{ℤ, pos, negsuc, negℤ, natAbs, _-ℤ_}
 use Rattle.words.specs.Tests.{all}
+use Rattle.reports.specs.declared.altitude.Form.{Form}
+use Rattle.reports.specs.declared.altitude.Form.the-variants as F
 
 pub record AltitudeForm : Type 0 where
   -- these twelve bits are no altitude (refusal 9)
@@ -43,3 +45,29 @@ signMagnitude = record {
   altitude = λ n. signed (sign n) (magnitude n);
   bitsOf = λ z. cond (leb (natAbs z) 2047) (cond (negative z) 2048 0 + natAbs z) 4096;
 }
+
+-- ---- document 02, Ticket 5: twelve bits in two's complement; -2048 to 2047, and every pattern is an altitude
+
+-- the first bit weighs -2048, the other eleven what they weigh in document 01's form
+abbrev pub twosComplement : AltitudeForm
+twosComplement = record {
+  refused = λ n. false;
+  altitude = λ n. cond (sign n) (pos (magnitude n) -ℤ pos 2048) (pos (magnitude n));
+  bitsOf = λ z. cond (negative z) (cond (leb (natAbs z) 2048) (4096 - natAbs z) 4096) (cond (leb (natAbs z) 2047) (natAbs z) 4096);
+}
+
+-- ---- the two by name and by number
+
+-- what the code's name of a form stands for
+abbrev pub formOf : Form → AltitudeForm
+formOf F.SignMagnitude = signMagnitude
+formOf F.TwosComplement = twosComplement
+
+-- the number that a C program passes for a form
+abbrev pub formNumber : Form → ℕ
+formNumber F.SignMagnitude = 0
+formNumber F.TwosComplement = 1
+
+-- and the form that any number stands for: 0 document 01's, any other the new one
+abbrev pub formNumbered : ℕ → Form
+formNumbered n = cond (eqb n 0) F.SignMagnitude F.TwosComplement

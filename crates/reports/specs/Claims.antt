@@ -11,15 +11,16 @@ use Rattle.refusals.specs.declared.LineRefusal.{LineRefusal}
 use Rattle.words.specs.Word.{tooWide, even, first}
 use Rattle.reports.specs.declared.Report.{Report}
 use Rattle.reports.specs.declared.RunAnswer.the-variants.{Accepted, Refused}
-use Rattle.reports.specs.Altitude.{AltitudeForm, Sound, signMagnitude}
+use Rattle.reports.specs.declared.altitude.Form.{Form}
+use Rattle.reports.specs.Altitude.{AltitudeForm, Sound, formOf}
 use Rattle.words.specs.Layout.{twelveEach}
 use Rattle.reports.specs.Layouts.{layoutOf, wordsOf, Fits, Takes, asWritten, written}
 use Rattle.reports.specs.Conditions.{HasLayout}
 use Rattle.reports.specs.Runs.{tableOf, judged, readRun}
 
--- document 01's form of the altitude is one of those of which the claims below speak
-abbrev pub DocumentForm : Type 0
-DocumentForm = Sound signMagnitude
+-- each form of the altitude that a call can be given, document 01's and the other one, is one of those of which the claims below speak
+abbrev pub FormsSound : Type 0
+FormsSound = (form : Form) → Sound (formOf form)
 
 -- ---- demand 2
 

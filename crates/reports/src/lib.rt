@@ -10,6 +10,7 @@ use measures::RunLength;
 use measures::Time;
 use refusals::LineRefusal;
 
+pub mod altitude; // altitude.rt: the two forms of the altitude
 pub mod forms; // forms.rt: the patterns that tell a report's form
 pub mod kinds; // kinds.rt: the lister's name of a report, and its number
 pub mod values; // values.rt: range, azimuth and time as floats
