@@ -5,7 +5,7 @@ use mathlib.Core.List.{List}
 use Rattle.report_reader.specs.declared.Content.{Content}
 use Rattle.report_reader.specs.declared.HeightContent.{HeightContent}
 use Rattle.reports.specs.declared.Report.{Report}
-use Rattle.reports.specs.Altitude.{signMagnitude}
+use Rattle.reports.specs.Altitude.{AltitudeForm}
 use Rattle.reports.specs.Records.{heightOf, fourOf, sevenOf, reportOf}
 use Rattle.reports.specs.Conditions.{fourZeros, heightSpares, sevenSpares, zeros}
 
@@ -15,11 +15,11 @@ content r n = record { report = r; spare = n }
 abbrev pub fourContent : List ℕ → Content
 fourContent ws = content (fourOf ws) (fourZeros ws)
 
-abbrev pub heightContent : List ℕ → HeightContent
-heightContent ws = record { height = heightOf signMagnitude ws; spare = heightSpares ws }
+abbrev pub heightContent : AltitudeForm → List ℕ → HeightContent
+heightContent form ws = record { height = heightOf form ws; spare = heightSpares ws }
 
-abbrev pub sevenContent : List ℕ → Content
-sevenContent ws = content (sevenOf signMagnitude ws) (sevenSpares ws)
+abbrev pub sevenContent : AltitudeForm → List ℕ → Content
+sevenContent form ws = content (sevenOf form ws) (sevenSpares ws)
 
-abbrev pub contentOf : List ℕ → Content
-contentOf ws = content (reportOf signMagnitude ws) (zeros ws)
+abbrev pub contentOf : AltitudeForm → List ℕ → Content
+contentOf form ws = content (reportOf form ws) (zeros ws)

@@ -3,7 +3,7 @@
 ghost use mathlib.Core.Path.{_≡_};
 ghost use mathlib.Core.Bool.{true, false};
 ghost use mathlib.Core.List.{[], _∷_};
-ghost use Rattle.reports.specs.Altitude.{signMagnitude};
+ghost use Rattle.reports.specs.Altitude.{formOf};
 ghost use Rattle.reports.specs.Forms.{isFour, isSeven, wordCount, radarCode};
 ghost use Rattle.reports.specs.Conditions.{unknownForm, unassigned, minusZero};
 ghost use Rattle.report_reader.specs.Content.{fourContent, heightContent, sevenContent, contentOf};
@@ -15,10 +15,11 @@ use refusals::LineRefusal;
 use reports::Height;
 use reports::Report;
 use reports::RunAnswer;
+use reports::altitude::Form;
 use reports::forms;
 use words::weights::*;
 
-mod altitude; // altitude.rt: the altitude of twelve bits
+mod altitude; // altitude.rt: the altitude of twelve bits, in each form
 mod records; // records.rt: what words hold, field by field
 
 // A report, and the sum of the bits that are zero in an accepted one.
@@ -87,9 +88,9 @@ fn radar_code(a: u16, g: u16) -> u16
 }
 
 // Bits 6, 12 and 79 to 90 of DABS and ATCRBS.
-fn height_of(a: u16, g: u16) -> HeightContent
+fn height_of(a: u16, g: u16, form: Form) -> HeightContent
     requires { ⌜ isSeven (a ∷ []) ≡ true ⌝ }
-    ensures { λ r. ⌜ r ≡ heightContent (a ∷ 0 ∷ 0 ∷ 0 ∷ 0 ∷ 0 ∷ g ∷ []) ⌝ }
+    ensures { λ r. ⌜ r ≡ heightContent (formOf form) (a ∷ 0 ∷ 0 ∷ 0 ∷ 0 ∷ 0 ∷ g ∷ []) ⌝ }
 {
     let code = radar_code(a, g);
     let mode_c = a / BIT_6 % ONE_BIT == 1; // 6
@@ -116,7 +117,7 @@ fn height_of(a: u16, g: u16) -> HeightContent
     }
     if a / BIT_6 % ONE_BIT == 1 {
         return HeightContent {
-            height: Height::Altitude(altitude::altitude_of(g / BIT_12 % TWELVE_BITS)), // 79-90
+            height: Height::Altitude(altitude::altitude_of(g / BIT_12 % TWELVE_BITS, form)), // 79-90
             spare: 0,
         };
     }
@@ -127,11 +128,11 @@ fn height_of(a: u16, g: u16) -> HeightContent
 }
 
 // The content of seven words: what is none of the first three is an ATCRBS.
-fn seven_of(a: u16, b: u16, c: u16, d: u16, e: u16, f: u16, g: u16) -> Content
+fn seven_of(a: u16, b: u16, c: u16, d: u16, e: u16, f: u16, g: u16, form: Form) -> Content
     requires { ⌜ isSeven (a ∷ []) ≡ true ⌝ }
-    ensures { λ r. ⌜ r ≡ sevenContent (a ∷ b ∷ c ∷ d ∷ e ∷ f ∷ g ∷ []) ⌝ }
+    ensures { λ r. ⌜ r ≡ sevenContent (formOf form) (a ∷ b ∷ c ∷ d ∷ e ∷ f ∷ g ∷ []) ⌝ }
 {
-    let last = height_of(a, g);
+    let last = height_of(a, g, form);
     let height = last.height;
     let code = radar_code(a, g);
     if a / BIT_4 % ONE_BIT == 1 {
@@ -168,12 +169,12 @@ fn seven_of(a: u16, b: u16, c: u16, d: u16, e: u16, f: u16, g: u16) -> Content
 }
 
 // The content of words of a known form.
-fn content_of(a: u16, b: u16, c: u16, d: u16, e: u16, f: u16, g: u16) -> Content
+fn content_of(a: u16, b: u16, c: u16, d: u16, e: u16, f: u16, g: u16, form: Form) -> Content
     requires { ⌜ unknownForm (a ∷ []) ≡ false ⌝ }
-    ensures { λ r. ⌜ r ≡ contentOf (a ∷ b ∷ c ∷ d ∷ e ∷ f ∷ g ∷ []) ⌝ }
+    ensures { λ r. ⌜ r ≡ contentOf (formOf form) (a ∷ b ∷ c ∷ d ∷ e ∷ f ∷ g ∷ []) ⌝ }
 {
     if a / BIT_3 % TWO_BITS == forms::SEVEN_WORDS {
-        seven_of(a, b, c, d, e, f, g)
+        seven_of(a, b, c, d, e, f, g, form)
     } else {
         four_of(a, b, c, d)
     }
@@ -253,21 +254,15 @@ fn is_unassigned(a: u16, g: u16) -> bool
     false
 }
 
-fn is_minus_zero(a: u16, g: u16) -> bool
-    ensures { λ r. ⌜ r ≡ minusZero signMagnitude (a ∷ 0 ∷ 0 ∷ 0 ∷ 0 ∷ 0 ∷ g ∷ []) ⌝ }
+fn is_minus_zero(a: u16, g: u16, form: Form) -> bool
+    ensures { λ r. ⌜ r ≡ minusZero (formOf form) (a ∷ 0 ∷ 0 ∷ 0 ∷ 0 ∷ 0 ∷ g ∷ []) ⌝ }
 {
     if a / BIT_3 % TWO_BITS == forms::SEVEN_WORDS {
         if a / BIT_12 % ONE_BIT == 1 {
             return false;
         }
         if a / BIT_6 % ONE_BIT == 1 {
-            if g / BIT_12 % TWELVE_BITS / ELEVEN_BITS == 1 {
-                if g / BIT_12 % TWELVE_BITS % ELEVEN_BITS == 0 {
-                    return true;
-                }
-                return false;
-            }
-            return false;
+            return altitude::is_refused(g / BIT_12 % TWELVE_BITS, form); // 79-90
         }
         return false;
     }
@@ -277,19 +272,28 @@ fn is_minus_zero(a: u16, g: u16) -> bool
 // ---- the answer
 
 // The answer to words of a known form, as many as it has.
-fn judge_words(a: u16, b: u16, c: u16, d: u16, e: u16, f: u16, g: u16) -> RunAnswer
+fn judge_words(
+    a: u16,
+    b: u16,
+    c: u16,
+    d: u16,
+    e: u16,
+    f: u16,
+    g: u16,
+    form: Form,
+) -> RunAnswer
     requires { ⌜ unknownForm (a ∷ []) ≡ false ⌝ }
-    ensures { λ r. ⌜ r ≡ firstOf (lastRows signMagnitude (a ∷ b ∷ c ∷ d ∷ e ∷ f ∷ g ∷ [])) (RunAnswer.Accepted (reportOf signMagnitude (a ∷ b ∷ c ∷ d ∷ e ∷ f ∷ g ∷ []))) ⌝ }
+    ensures { λ r. ⌜ r ≡ firstOf (lastRows (formOf form) (a ∷ b ∷ c ∷ d ∷ e ∷ f ∷ g ∷ [])) (RunAnswer.Accepted (reportOf (formOf form) (a ∷ b ∷ c ∷ d ∷ e ∷ f ∷ g ∷ []))) ⌝ }
 {
     if is_unassigned(a, g) {
         return RunAnswer::Refused(LineRefusal::UnassignedRadar, 0);
     }
-    let content = content_of(a, b, c, d, e, f, g);
+    let content = content_of(a, b, c, d, e, f, g, form);
     let spare = content.spare;
     if spare != 0 {
         return RunAnswer::Refused(LineRefusal::SpareBitSet, 0);
     }
-    if is_minus_zero(a, g) {
+    if is_minus_zero(a, g, form) {
         return RunAnswer::Refused(LineRefusal::MinusZero, 0);
     }
     let report = content.report;
@@ -298,6 +302,7 @@ fn judge_words(a: u16, b: u16, c: u16, d: u16, e: u16, f: u16, g: u16) -> RunAns
 
 // The answer to a run of `n` words whose first seven are given, with 0 for those past its end; its first word that is too wide is at
 // `too_wide` and its first word with an even number of ones at `even`, or these are `n`. Where a word is too wide, `even` does not matter.
+// Altitudes are read in the form.
 pub fn judge(
     a: u16,
     b: u16,
@@ -309,8 +314,9 @@ pub fn judge(
     n: usize,
     too_wide: usize,
     even: usize,
+    form: Form,
 ) -> RunAnswer
-    ensures { λ r. ⌜ r ≡ judged signMagnitude (a ∷ b ∷ c ∷ d ∷ e ∷ f ∷ g ∷ []) n «too_wide» even ⌝ }
+    ensures { λ r. ⌜ r ≡ judged (formOf form) (a ∷ b ∷ c ∷ d ∷ e ∷ f ∷ g ∷ []) n «too_wide» even ⌝ }
 {
     if too_wide < n {
         return RunAnswer::Refused(LineRefusal::WordTooWide, too_wide);
@@ -324,5 +330,5 @@ pub fn judge(
     if n != word_count(a) {
         return RunAnswer::Refused(LineRefusal::WrongLength, 0);
     }
-    judge_words(a, b, c, d, e, f, g)
+    judge_words(a, b, c, d, e, f, g, form)
 }

@@ -7,7 +7,7 @@ use Rattle.refusals.specs.declared.LineRefusal.the-variants.{MinusZero}
 use Rattle.reports.specs.declared.RunAnswer.{RunAnswer}
 use Rattle.reports.specs.declared.RunAnswer.the-variants.{Accepted, Refused}
 use Rattle.report_reader.specs.declared.Content.{Content}
-use Rattle.reports.specs.Altitude.{signMagnitude}
+use Rattle.reports.specs.Altitude.{AltitudeForm, formOf}
 use Rattle.reports.specs.Records.{reportOf}
 use Rattle.reports.specs.Conditions.{unassigned, zeros, minusZero}
 use Rattle.reports.specs.Runs.{lastRows}
@@ -18,14 +18,15 @@ use borrow.Author.Tests.{ne-eqb}
 use Rattle.report_reader.proofs.judge_words.Statement.{statement}
 use Rattle.report_reader.proofs.judge_words.Tie as tie
 
-abbrev answered : List ℕ → RunAnswer
-answered ws = firstOf (lastRows signMagnitude ws) (Accepted (reportOf signMagnitude ws))
+abbrev answered : AltitudeForm → List ℕ → RunAnswer
+answered form ws = firstOf (lastRows form ws) (Accepted (reportOf form ws))
 
-minus : (ws : List ℕ) → unassigned ws ≡ false → zeros ws ≡ 0 → minusZero signMagnitude ws ≡ true → Refused MinusZero 0 ≡ answered ws
-minus ws h7 h8 h9 = simp (h7, h8, h9)
+minus : (form : AltitudeForm) (ws : List ℕ) → unassigned ws ≡ false → zeros ws ≡ 0 → minusZero form ws ≡ true → Refused MinusZero 0 ≡ answered form ws
+minus form ws h7 h8 h9 = simp (h7, h8, h9)
 
-last : (ws : List ℕ) → unassigned ws ≡ false → zeros ws ≡ 0 → minusZero signMagnitude ws ≡ false → (x : Content) → x ≡ contentOf ws → Accepted (x .report) ≡ answered ws
-last ws h7 h8 h9 x p = simp (h7, h8, h9) (ap (λ (y : Content). Accepted (y .report)) p)
+last : (form : AltitudeForm) (ws : List ℕ) → unassigned ws ≡ false → zeros ws ≡ 0 → minusZero form ws ≡ false
+    → (x : Content) → x ≡ contentOf form ws → Accepted (x .report) ≡ answered form ws
+last form ws h7 h8 h9 x p = simp (h7, h8, h9) (ap (λ (y : Content). Accepted (y .report)) p)
 
 returns-2 : tie.Need-returns-2
 returns-2 c = simp (sym (c .before .before .before .is-unassigned .ensures) ∙ c .before .before .if1 .left, ne-eqb _ _ (λ e. c .if2 .taken (ap (λ (x : Content). x .spare) (c .before .content-of .ensures) ∙ e)))
@@ -33,7 +34,7 @@ returns-2 c = simp (sym (c .before .before .before .is-unassigned .ensures) ∙ 
 returns-3 : tie.Need-returns-3
 returns-3 c =
     let s = c .before .before .before .before .before .before in
-    minus (s .args .a ∷ s .args .b ∷ s .args .c ∷ s .args .d ∷ s .args .e ∷ s .args .f ∷ s .args .g ∷ [])
+    minus (formOf (s .args .form)) (s .args .a ∷ s .args .b ∷ s .args .c ∷ s .args .d ∷ s .args .e ∷ s .args .f ∷ s .args .g ∷ [])
     (sym (c .before .before .before .before .before .is-unassigned .ensures) ∙ c .before .before .before .before .if1 .left)
     (sym (ap (λ (x : Content). x .spare) (c .before .before .before .content-of .ensures)) ∙ c .before .before .if2 .left)
     (sym (c .before .is-minus-zero .ensures) ∙ c .if3 .taken)
@@ -41,7 +42,7 @@ returns-3 c =
 returns-4 : tie.Need-returns-4
 returns-4 c =
     let s = c .before .before .before .before .before .before in
-    last (s .args .a ∷ s .args .b ∷ s .args .c ∷ s .args .d ∷ s .args .e ∷ s .args .f ∷ s .args .g ∷ [])
+    last (formOf (s .args .form)) (s .args .a ∷ s .args .b ∷ s .args .c ∷ s .args .d ∷ s .args .e ∷ s .args .f ∷ s .args .g ∷ [])
     (sym (c .before .before .before .before .before .is-unassigned .ensures) ∙ c .before .before .before .before .if1 .left)
     (sym (ap (λ (x : Content). x .spare) (c .before .before .before .content-of .ensures)) ∙ c .before .before .if2 .left)
     (sym (c .before .is-minus-zero .ensures) ∙ c .if3 .left)

@@ -9,7 +9,7 @@ use Rattle.reports.specs.declared.Dabs.{Dabs}
 use Rattle.reports.specs.declared.Atcrbs.{Atcrbs}
 use Rattle.reports.specs.declared.Report.the-variants as R
 use Rattle.report_reader.specs.declared.HeightContent.{HeightContent}
-use Rattle.reports.specs.Altitude.{signMagnitude}
+use Rattle.reports.specs.Altitude.{AltitudeForm}
 use Rattle.reports.specs.Forms.{isCd, isMtd, isRdas}
 use Rattle.reports.specs.Records.{heightOf, dabsOf, atcrbsOf, sevenOf}
 use Rattle.reports.specs.Conditions.{heightSpares, sevenSpares}
@@ -21,9 +21,9 @@ use Rattle.report_reader.proofs.seven_of.Statement.{statement}
 use Rattle.report_reader.proofs.seven_of.Tie as tie
 
 -- the words between are not read
-same : (a b c d e f g : ℕ) → heightContent (a ∷ 0 ∷ 0 ∷ 0 ∷ 0 ∷ 0 ∷ g ∷ []) ≡ heightContent (a ∷ b ∷ c ∷ d ∷ e ∷ f ∷ g ∷ [])
+same : (form : AltitudeForm) (a b c d e f g : ℕ) → heightContent form (a ∷ 0 ∷ 0 ∷ 0 ∷ 0 ∷ 0 ∷ g ∷ []) ≡ heightContent form (a ∷ b ∷ c ∷ d ∷ e ∷ f ∷ g ∷ [])
 unfolding heightOf heightSpares
-same a b c d e f g = refl
+same form a b c d e f g = refl
 
 pick-small : (b : Bool) {x y : ℕ} → x < 128 → y < 128 → cond b x y < 128
 pick-small true p q = p
@@ -33,13 +33,13 @@ height-small : (ws : List ℕ) → heightSpares ws < 128
 unfolding heightSpares
 height-small ws = pick-small (isCd ws) (omega arith) (pick-small (isMtd ws) (omega arith) (pick-small (isRdas ws) (omega arith) (omega arith)))
 
-dabs : (ws : List ℕ) (h : HeightContent) (r : Dabs) → h ≡ heightContent ws → r ≡ dabsOf ws (h .height)
-    → content (R.Dabs r) (bits ws 45 46 + h .spare) ≡ content (R.Dabs (dabsOf ws (heightOf signMagnitude ws))) (bits ws 45 46 + heightSpares ws)
-dabs ws h r p q = rw (q, p)
+dabs : (form : AltitudeForm) (ws : List ℕ) (h : HeightContent) (r : Dabs) → h ≡ heightContent form ws → r ≡ dabsOf ws (h .height)
+    → content (R.Dabs r) (bits ws 45 46 + h .spare) ≡ content (R.Dabs (dabsOf ws (heightOf form ws))) (bits ws 45 46 + heightSpares ws)
+dabs form ws h r p q = rw (q, p)
 
-atcrbs : (ws : List ℕ) (h : HeightContent) (r : Atcrbs) → h ≡ heightContent ws → r ≡ atcrbsOf ws (h .height)
-    → content (R.Atcrbs r) (h .spare) ≡ content (R.Atcrbs (atcrbsOf ws (heightOf signMagnitude ws))) (heightSpares ws)
-atcrbs ws h r p q = rw (q, p)
+atcrbs : (form : AltitudeForm) (ws : List ℕ) (h : HeightContent) (r : Atcrbs) → h ≡ heightContent form ws → r ≡ atcrbsOf ws (h .height)
+    → content (R.Atcrbs r) (h .spare) ≡ content (R.Atcrbs (atcrbsOf ws (heightOf form ws))) (heightSpares ws)
+atcrbs form ws h r p q = rw (q, p)
 
 add-spare : tie.Need-add-spare
 add-spare c =
@@ -52,7 +52,7 @@ unfolding sevenOf sevenSpares
 returns c =
     let s = c .before .before .before .before .before in
     simp (s .pre, eq-eqb _ _ (c .before .before .if1 .taken))
-    (dabs _ _ _ (c .before .before .before .before .height-of .ensures ∙ same (s .args .a) (s .args .b) (s .args .c) (s .args .d) (s .args .e) (s .args .f) (s .args .g)) (c .dabs-of .ensures))
+    (dabs _ _ _ _ (c .before .before .before .before .height-of .ensures ∙ same _ (s .args .a) (s .args .b) (s .args .c) (s .args .d) (s .args .e) (s .args .f) (s .args .g)) (c .dabs-of .ensures))
 
 returns-2 : tie.Need-returns-2
 unfolding sevenOf sevenSpares
@@ -72,7 +72,7 @@ returns-4 c =
     let s = c .before .before .before .before .before .before in
     let e = c .before .before .before .before .radar-code .ensures in
     simp (s .pre, ne-eqb _ _ (c .before .before .before .if1 .left), not-by _ e (c .before .before .if2 .left), not-by _ e (c .before .if3 .left))
-    (atcrbs _ _ _ (c .before .before .before .before .before .height-of .ensures ∙ same (s .args .a) (s .args .b) (s .args .c) (s .args .d) (s .args .e) (s .args .f) (s .args .g)) (c .atcrbs-of .ensures))
+    (atcrbs _ _ _ _ (c .before .before .before .before .before .height-of .ensures ∙ same _ (s .args .a) (s .args .b) (s .args .c) (s .args .d) (s .args .e) (s .args .f) (s .args .g)) (c .atcrbs-of .ensures))
 
 pub seven-of-spec : {M : Type 1} → statement M
 seven-of-spec =
