@@ -1,10 +1,11 @@
-// Document 01's form of the altitude, in hundreds of feet, as it is written: a sign, 1 negative, and eleven bits.
-// Relies on the crate's names of bits; specs/Altitude.antt of reports says what the form is, and takes it as a parameter everywhere else.
+// The twelve bits of an altitude, in hundreds of feet, as it is written: in each form by a function of its own, and by the form's name.
+// Relies on the crate's names of bits; specs/Altitude.antt of reports says what each form is.
 ghost use mathlib.Core.Path.{_≡_};
 ghost use Prim.Native.Nat.{_<_};
 ghost use lib.IntN.{natAbs};
-ghost use Rattle.reports.specs.Altitude.{signMagnitude, negative};
+ghost use Rattle.reports.specs.Altitude.{signMagnitude, twosComplement, formOf, negative};
 use crate::weights;
+use reports::altitude::Form;
 
 // The largest magnitude, the first of twelve bits where it is one, and what no twelve bits are.
 const LARGEST: u32 = weights::ELEVEN_BITS - 1;
@@ -31,8 +32,8 @@ fn is_negative(z: i16) -> bool
     z < 0
 }
 
-// The twelve bits of an altitude; NO_BITS where it has none.
-pub fn altitude_bits(z: i16) -> u32
+// A sign, 1 negative, and eleven bits; NO_BITS where the altitude has none.
+fn sign_magnitude_bits(z: i16) -> u32
     ensures { λ r. ⌜ (r ≡ signMagnitude .bitsOf z) × (r < 4097) ⌝ }
 {
     let n = magnitude(z);
@@ -40,5 +41,29 @@ pub fn altitude_bits(z: i16) -> u32
         if is_negative(z) { MINUS + n } else { 0 + n }
     } else {
         NO_BITS
+    }
+}
+
+// Two's complement: below zero the altitude and 4096; NO_BITS where the altitude has none.
+fn twos_complement_bits(z: i16) -> u32
+    ensures { λ r. ⌜ (r ≡ twosComplement .bitsOf z) × (r < 4097) ⌝ }
+{
+    let n = magnitude(z);
+    if is_negative(z) {
+        if n <= MINUS {
+            return NO_BITS - n;
+        }
+        return NO_BITS;
+    }
+    if n <= LARGEST { n } else { NO_BITS }
+}
+
+// The twelve bits of an altitude; NO_BITS where it has none in the form.
+pub fn altitude_bits(z: i16, form: Form) -> u32
+    ensures { λ r. ⌜ (r ≡ formOf form .bitsOf z) × (r < 4097) ⌝ }
+{
+    match form {
+        Form::SignMagnitude => sign_magnitude_bits(z),
+        Form::TwosComplement => twos_complement_bits(z),
     }
 }

@@ -7,7 +7,7 @@ ghost use mathlib.Core.List.{[], _∷_};
 ghost use Prim.Native.Nat.{_/_, _<_, _^_};
 ghost use Rattle.words.specs.Word.{wordOf};
 ghost use Rattle.words.specs.Layout.{flag, count, rest, fixed, spare};
-ghost use Rattle.reports.specs.Altitude.{signMagnitude};
+ghost use Rattle.reports.specs.Altitude.{formOf};
 ghost use Rattle.reports.specs.Forms.{fourWords, sevenWords, mapPattern, cdCode, mtdCode, rdasCode, mtdSearchCode, rdasSearchCode};
 ghost use Rattle.reports.specs.Layouts.{lastWord, modeC, radar, searchLayout, strobeLayout, mapLayout, statusLayout, rtqcLayout, dabsLayout, atcrbsLayout, mtdLayout, rdasLayout, layoutOf, written};
 ghost use Rattle.report_writer.specs.Data.{dataOrMore, dataBy, fromData};
@@ -24,10 +24,11 @@ use reports::Search;
 use reports::Status;
 use reports::Strobe;
 use reports::Written;
+use reports::altitude::Form;
 use reports::forms;
 use weights::*;
 
-mod altitude; // altitude.rt: the twelve bits of an altitude
+mod altitude; // altitude.rt: the twelve bits of an altitude, in each form
 mod weights; // weights.rt: the data bits of a word by name
 
 // The data of a report's words, each 4096 or more where a value in it is too large.
@@ -248,11 +249,11 @@ fn rdas_quality_last(quality: u8) -> u32
     quality * DATA_4 + forms::RDAS_CODE as u32 + TOO_LARGE * (quality / FOUR_BITS)
 }
 
-fn height_last(h: Height) -> u32
-    ensures { λ r. ⌜ r ≡ dataOrMore (lastWord signMagnitude h) ⌝ }
+fn height_last(h: Height, form: Form) -> u32
+    ensures { λ r. ⌜ r ≡ dataOrMore (lastWord (formOf form) h) ⌝ }
 {
     match h {
-        Height::Altitude(z) => whole(altitude::altitude_bits(z)),
+        Height::Altitude(z) => whole(altitude::altitude_bits(z, form)),
         Height::Carried(n) => whole(n as u32),
         Height::Cd { mode_c: _, run } => cd_last(run.0),
         Height::Mtd { mode_c: _, quality } => mtd_quality_last(quality),
@@ -337,8 +338,8 @@ fn rtqc_data(s: Rtqc) -> Data
     )
 }
 
-fn dabs_data(d: Dabs) -> Data
-    ensures { λ r. ⌜ r ≡ dataBy (dabsLayout signMagnitude d) ⌝ }
+fn dabs_data(d: Dabs, form: Form) -> Data
+    ensures { λ r. ⌜ r ≡ dataBy (dabsLayout (formOf form) d) ⌝ }
 {
     let height = d.height;
     let first = beacon_first(
@@ -359,12 +360,12 @@ fn dabs_data(d: Dabs) -> Data
         dabs_fourth(d.azimuth.0, d.alert, d.relay, d.time.0),
         whole(d.address / TWELVE_BITS),
         lower_twelve(d.address),
-        height_last(height),
+        height_last(height, form),
     )
 }
 
-fn atcrbs_data(a: Atcrbs) -> Data
-    ensures { λ r. ⌜ r ≡ dataBy (atcrbsLayout signMagnitude a) ⌝ }
+fn atcrbs_data(a: Atcrbs, form: Form) -> Data
+    ensures { λ r. ⌜ r ≡ dataBy (atcrbsLayout (formOf form) a) ⌝ }
 {
     let height = a.height;
     let code = whole(a.code as u32);
@@ -395,7 +396,7 @@ fn atcrbs_data(a: Atcrbs) -> Data
         fourth,
         code,
         file,
-        height_last(height),
+        height_last(height, form),
     )
 }
 
@@ -427,8 +428,8 @@ fn rdas_data(r: Rdas) -> Data
     )
 }
 
-fn data_of(report: Report) -> Data
-    ensures { λ r. ⌜ r ≡ dataBy (layoutOf signMagnitude report) ⌝ }
+fn data_of(report: Report, form: Form) -> Data
+    ensures { λ r. ⌜ r ≡ dataBy (layoutOf (formOf form) report) ⌝ }
 {
     match report {
         Report::Search(s) => search_data(s),
@@ -436,8 +437,8 @@ fn data_of(report: Report) -> Data
         Report::Map(m) => map_data(m),
         Report::Status(s) => status_data(s),
         Report::Rtqc(s) => rtqc_data(s),
-        Report::Dabs(d) => dabs_data(d),
-        Report::Atcrbs(a) => atcrbs_data(a),
+        Report::Dabs(d) => dabs_data(d, form),
+        Report::Atcrbs(a) => atcrbs_data(a, form),
         Report::Mtd(m) => mtd_data(m),
         Report::Rdas(r) => rdas_data(r),
     }
@@ -487,11 +488,11 @@ fn seven_words(a: u32, b: u32, c: u32, d: u32, e: u32, f: u32, g: u32) -> Writte
     )
 }
 
-// A report's words, or refusal 11.
-pub fn words_of(report: Report) -> Written
-    ensures { λ r. ⌜ r ≡ written signMagnitude report ⌝ }
+// A report's words, its altitude in the form; or refusal 11.
+pub fn words_of(report: Report, form: Form) -> Written
+    ensures { λ r. ⌜ r ≡ written (formOf form) report ⌝ }
 {
-    let data = data_of(report);
+    let data = data_of(report, form);
     match data {
         Data::Four(a, b, c, d) => four_words(a, b, c, d),
         Data::Seven(a, b, c, d, e, f, g) => seven_words(a, b, c, d, e, f, g),
