@@ -4,17 +4,18 @@
  *
  * Input: cases, one behind the other, until the end. Every number has its high byte first. "bytes" is a length of four bytes and as many
  * bytes; "numbers" is a count of four bytes and as many numbers of eight.
- *   'L' bytes, step (4), numbers: a line; the places to look at beside the walk
- *   'W' bytes, count (4), count times: place (8), kind (4), items (bytes): a line, and the reports to write into it
+ *   'L' bytes, form (4), step (4), numbers: a line, and the form to read it in; the places to look at beside the walk, in the same form
+ *   'W' bytes, count (4), count times: place (8), form (4), kind (4), items (bytes): a line, and the reports to write into it
  *   'F' bytes, count (8), from_sensor (4), ask (1), numbers: a field; the indices to ask beside 0 to 31
  *   'G' bytes, type (4), items (bytes), list (bytes), text (bytes): a field to write
  *   'S' stream, numbers: a stream to walk; the counts and places, in turn, to look at beside the walk
  *   'T' stream, count (4), count times: count (8), place (8), from_sensor (4), control (1), field (bytes), length (8), count (8): a stream,
  *       the frames to write into it with the length and the count to pass with each field; then the walk
  *   'I' table, count (4), count times: bytes; count (4), count times a step: a table, the lines, and the calls in turn, each of them
- *       'e' line (4), place (8), scan (4): to enter what stands there, the line by its number among the lines
- *       'w' line (4), place (8), scan (4): to enter every outcome of the line from the place on
+ *       'e' line (4), place (8), form (4), scan (4): to enter what stands there, the line by its number among the lines
+ *       'w' line (4), place (8), form (4), scan (4): to enter every outcome of the line from the place on
  *       'f' number (4): to look for a number
+ * "form" is the argument form of siamrung.h, any number of 32 bits: it is passed on as it came.
  * "table" is front (4), entries (8), count (4), count times: number (2), kind (2), scan (4), place (8): the entries that are there. The
  * table begins behind as many of them as front says, and is passed with that number of entries; the others stand around it. A number of
  * entries over those that are there is only said, and more than 512 are there then. Where no entry is there, NULL is passed.
@@ -172,35 +173,35 @@ static void send_answer(void)
 
 /* ---- a line */
 
-static void put_items(const struct slice *line, size_t place)
+static void put_items(const struct slice *line, size_t place, uint32_t form)
 {
     uint32_t i;
     for (i = 0; i < ITEMS + NO_ITEMS; i++) {
         uint32_t item = i < ITEMS ? i : no_items[i - ITEMS];
-        put_yes(siamrung_has(line->bytes, line->length, place, item));
-        put_number((uint64_t)siamrung_item(line->bytes, line->length, place, item), 8);
+        put_yes(siamrung_has(line->bytes, line->length, place, form, item));
+        put_number((uint64_t)siamrung_item(line->bytes, line->length, place, form, item), 8);
     }
 }
 
 /* All answers about one place; gives siamrung_after, and sets end where the line is finished. */
-static size_t look(const struct slice *line, size_t place, uint64_t turn, uint64_t step, int *end)
+static size_t look(const struct slice *line, size_t place, uint32_t form, uint64_t turn, uint64_t step, int *end)
 {
-    uint32_t kind = siamrung_kind(line->bytes, line->length, place);
-    size_t after = siamrung_after(line->bytes, line->length, place);
+    uint32_t kind = siamrung_kind(line->bytes, line->length, place, form);
+    size_t after = siamrung_after(line->bytes, line->length, place, form);
     int report = kind != SIAMRUNG_KIND_REFUSED && kind != SIAMRUNG_KIND_END;
     int asked = turn % (report ? step : SELDOM * step) == 0;
     put_number(kind, 4);
-    put_number(siamrung_refusal(line->bytes, line->length, place), 4);
-    put_number(siamrung_first(line->bytes, line->length, place), 8);
+    put_number(siamrung_refusal(line->bytes, line->length, place, form), 4);
+    put_number(siamrung_first(line->bytes, line->length, place, form), 8);
     put_number(after, 8);
-    put_number(siamrung_named(line->bytes, line->length, place), 8);
-    put_number(siamrung_has_values(line->bytes, line->length, place), 4);
-    put_double(siamrung_nmi(line->bytes, line->length, place));
-    put_double(siamrung_degrees(line->bytes, line->length, place));
-    put_double(siamrung_seconds(line->bytes, line->length, place));
+    put_number(siamrung_named(line->bytes, line->length, place, form), 8);
+    put_number(siamrung_has_values(line->bytes, line->length, place, form), 4);
+    put_double(siamrung_nmi(line->bytes, line->length, place, form));
+    put_double(siamrung_degrees(line->bytes, line->length, place, form));
+    put_double(siamrung_seconds(line->bytes, line->length, place, form));
     put_number(asked ? 1 : 0, 1);
     if (asked) {
-        put_items(line, place);
+        put_items(line, place, form);
     }
     *end = kind == SIAMRUNG_KIND_END || after == place;
     return after;
@@ -209,6 +210,7 @@ static size_t look(const struct slice *line, size_t place, uint64_t turn, uint64
 static void answer_line(void)
 {
     struct slice line = get_slice();
+    uint32_t form = (uint32_t)get_number(4);
     uint64_t step = get_number(4);
     uint64_t places = get_number(4);
     uint64_t turn = 0;
@@ -216,11 +218,11 @@ static void answer_line(void)
     int end = 0;
     /* a library that never ends is stopped here: no line has more places to look at */
     while (!end && turn <= line.length / 2 + 1) {
-        place = look(&line, place, turn, step, &end);
+        place = look(&line, place, form, turn, step, &end);
         turn++;
     }
     for (turn = 0; turn < places; turn++) {
-        look(&line, (size_t)get_number(8), turn, 1, &end);
+        look(&line, (size_t)get_number(8), form, turn, 1, &end);
     }
     put_number(same(&line) ? 1 : 0, 1);
     drop(&line);
@@ -229,16 +231,17 @@ static void answer_line(void)
 static int write_one(struct slice *line)
 {
     size_t place = (size_t)get_number(8);
+    uint32_t form = (uint32_t)get_number(4);
     uint32_t kind = (uint32_t)get_number(4);
     struct slice items = get_slice();
     int unchanged;
     if (line->length > 0) {
         memcpy(line->copy, line->bytes, line->length);
     }
-    put_number(siamrung_write_refusal(line->bytes, line->length, place, kind, items.bytes, items.length), 4);
+    put_number(siamrung_write_refusal(line->bytes, line->length, place, form, kind, items.bytes, items.length), 4);
     unchanged = same(line);
-    put_number(siamrung_write(line->bytes, line->length, place, kind, items.bytes, items.length), 8);
-    put_number(siamrung_write_refusal(line->bytes, line->length, place, kind, items.bytes, items.length), 4);
+    put_number(siamrung_write(line->bytes, line->length, place, form, kind, items.bytes, items.length), 8);
+    put_number(siamrung_write_refusal(line->bytes, line->length, place, form, kind, items.bytes, items.length), 4);
     put(line->bytes, line->length);
     unchanged = unchanged && same(&items);
     drop(&items);
@@ -544,20 +547,20 @@ static void put_done(struct table *table, uint32_t number)
     put_changes(table);
 }
 
-static void enter(struct table *table, const struct slice *line, size_t place, uint32_t scan)
+static void enter(struct table *table, const struct slice *line, size_t place, uint32_t form, uint32_t scan)
 {
-    put_done(table, siamrung_index_enter(table->lent, table->entries, line->bytes, line->length, place, scan));
+    put_done(table, siamrung_index_enter(table->lent, table->entries, line->bytes, line->length, place, form, scan));
 }
 
-static void enter_all(struct table *table, const struct slice *line, size_t place, uint32_t scan)
+static void enter_all(struct table *table, const struct slice *line, size_t place, uint32_t form, uint32_t scan)
 {
     size_t turn = 0;
     int end = 0;
     /* a library that never ends is stopped here: no line has more places to look at */
     while (!end && turn <= line->length / 2 + 1) {
-        uint32_t kind = siamrung_kind(line->bytes, line->length, place);
-        size_t after = siamrung_after(line->bytes, line->length, place);
-        enter(table, line, place, scan);
+        uint32_t kind = siamrung_kind(line->bytes, line->length, place, form);
+        size_t after = siamrung_after(line->bytes, line->length, place, form);
+        enter(table, line, place, form, scan);
         put_number(after, 8);
         end = kind == SIAMRUNG_KIND_END || after == place;
         place = after;
@@ -573,14 +576,15 @@ static void answer_step(struct table *table, const struct slice *lines, size_t l
     } else {
         size_t line = (size_t)get_number(4);
         size_t place = (size_t)get_number(8);
+        uint32_t form = (uint32_t)get_number(4);
         uint32_t scan = (uint32_t)get_number(4);
         if (line >= lines_count || (tag != 'e' && tag != 'w')) {
             fail("no such step");
         }
         if (tag == 'w') {
-            enter_all(table, &lines[line], place, scan);
+            enter_all(table, &lines[line], place, form, scan);
         } else {
-            enter(table, &lines[line], place, scan);
+            enter(table, &lines[line], place, form, scan);
         }
     }
 }

@@ -84,6 +84,18 @@ pub fn paste(text: &mut String, spans: &[(usize, usize)], bits: &str) {
     assert!(rest.is_empty(), "spans and bits have one length");
 }
 
+/// The bits of the next number: the ones at the end become zeros, and the zero before them becomes a one; nothing where all are ones.
+pub fn next(text: &str) -> Option<String> {
+    let head = text.trim_end_matches('1');
+    let zeros = "0".repeat(text.len() - head.len());
+    head.strip_suffix('0').map(|start| format!("{}1{}", start, zeros))
+}
+
+/// The bits with all of them turned over.
+pub fn all_flipped(text: &str) -> String {
+    text.chars().map(|bit| if bit == '0' { '1' } else { '0' }).collect()
+}
+
 /// The bits with one of them turned over.
 pub fn flipped(text: &str, bit: usize) -> String {
     let mut changed = text.to_string();

@@ -13,25 +13,38 @@ use crate::totals::Totals;
 
 /// The layouts of reports and fields.
 pub struct Tables {
+    /// with the altitude in document 01's form
     pub reports: Vec<Layout>,
+    /// the same with the altitude in two's complement
+    in_complement: Vec<Layout>,
     pub fields: Vec<Field>,
 }
 
 impl Tables {
     pub fn new() -> Tables {
-        Tables { reports: report::layouts(), fields: field::fields() }
+        Tables { reports: report::layouts(report::SIGNED), in_complement: report::layouts(report::COMPLEMENT), fields: field::fields() }
+    }
+
+    /// The reports in the form that a number of C means: 0 is document 01's form, any other number is two's complement.
+    pub fn of(&self, form: u32) -> &[Layout] {
+        if form == 0 {
+            &self.reports
+        } else {
+            &self.in_complement
+        }
     }
 }
 
 pub struct Write {
     pub place: u64,
+    pub form: u32,
     pub kind: u32,
     pub items: Vec<u8>,
 }
 
 pub enum Case {
-    /// A line is walked, and then looked at from the places. Items are asked of every step-th report.
-    Line { bytes: Vec<u8>, step: u32, places: Vec<u64> },
+    /// A line is walked in a form, and then looked at from the places. Items are asked of every step-th report.
+    Line { bytes: Vec<u8>, form: u32, step: u32, places: Vec<u64> },
     /// Reports are written into a line one after the other.
     Write { bytes: Vec<u8>, writes: Vec<Write> },
     /// A field is read. Items are asked where it is accepted or ask is set; entries 0 to 31 and those at the indices.
@@ -71,8 +84,9 @@ impl Case {
     pub fn message(&self) -> Vec<u8> {
         let mut message = vec![self.tag()];
         match self {
-            Case::Line { bytes, step, places } => {
+            Case::Line { bytes, form, step, places } => {
                 put_bytes(&mut message, bytes);
+                message.extend_from_slice(&form.to_be_bytes());
                 message.extend_from_slice(&step.to_be_bytes());
                 put_numbers(&mut message, places);
             }
@@ -81,6 +95,7 @@ impl Case {
                 message.extend_from_slice(&(writes.len() as u32).to_be_bytes());
                 for write in writes {
                     message.extend_from_slice(&write.place.to_be_bytes());
+                    message.extend_from_slice(&write.form.to_be_bytes());
                     message.extend_from_slice(&write.kind.to_be_bytes());
                     put_bytes(&mut message, &write.items);
                 }
@@ -122,7 +137,7 @@ impl Case {
     pub fn expect(&self, tables: &Tables, totals: &mut Totals, naming: bool) -> Answer {
         let mut answer = Answer::new(naming);
         match self {
-            Case::Line { bytes, step, places } => expect_line(tables, &mut answer, totals, bytes, *step, places),
+            Case::Line { bytes, form, step, places } => expect_line(tables, &mut answer, totals, bytes, (*form, *step), places),
             Case::Write { bytes, writes } => expect_writes(tables, &mut answer, totals, bytes, writes),
             Case::Field { bytes, count, from_sensor, ask, indices } => {
                 let read = field::read(&tables.fields, bytes, *count, *from_sensor != 0);
@@ -136,7 +151,7 @@ impl Case {
             }
             Case::Frames(reading) => reading.expect(&mut answer, &mut totals.frames),
             Case::FrameWrites(writing) => writing.expect(&mut answer, &mut totals.frames),
-            Case::Index(indexing) => indexing.expect(tables, &mut answer, &mut totals.index),
+            Case::Index(indexing) => indexing.expect(tables, &mut answer, totals),
         }
         answer.u8("bytes that are only read stay (1)", 0, 0, 1);
         answer
@@ -159,9 +174,14 @@ impl Case {
     /// The case in words, for a difference.
     pub fn shown(&self) -> String {
         match self {
-            Case::Line { bytes, places, .. } => format!("line, {} bytes {}; places {:?}", bytes.len(), hex(bytes), places),
+            Case::Line { bytes, form, places, .. } => {
+                format!("line in form {}, {} bytes {}; places {:?}", form, bytes.len(), hex(bytes), places)
+            }
             Case::Write { bytes, writes } => {
-                let one = |write: &Write| format!("; at place {} kind {} items {}", write.place, write.kind, hex(&write.items));
+                let one = |write: &Write| {
+                    let what = format!("kind {} items {}", write.kind, hex(&write.items));
+                    format!("; at place {} in form {} {}", write.place, write.form, what)
+                };
                 let all: String = writes.iter().map(one).collect();
                 format!("writing into {} bytes {}{}", bytes.len(), hex(bytes), all)
             }
@@ -180,15 +200,17 @@ impl Case {
 }
 
 /// The walk from place 0, stopped at the end of the line or where a place gives itself back; then the other places.
-fn expect_line(tables: &Tables, answer: &mut Answer, totals: &mut Totals, bytes: &[u8], step: u32, places: &[u64]) {
+fn expect_line(tables: &Tables, answer: &mut Answer, totals: &mut Totals, bytes: &[u8], (form, step): (u32, u32), places: &[u64]) {
+    let layouts = tables.of(form);
     let words = line::words(bytes);
     totals.line(bytes.len());
     let mut place = 0;
     let mut turn = 0;
     loop {
-        let look = line::look(&tables.reports, bytes.len(), &words, place);
+        let look = line::look(layouts, bytes.len(), &words, place);
         expect_look(answer, &look, place, turn, u64::from(step));
         totals.look(&look, true);
+        totals.altitudes.look(form, &look);
         if look.kind == line::END || look.after == place {
             break;
         }
@@ -196,9 +218,10 @@ fn expect_line(tables: &Tables, answer: &mut Answer, totals: &mut Totals, bytes:
         turn += 1;
     }
     for (turn, &place) in places.iter().enumerate() {
-        let look = line::look(&tables.reports, bytes.len(), &words, place);
+        let look = line::look(layouts, bytes.len(), &words, place);
         expect_look(answer, &look, place, turn as u64, 1);
         totals.look(&look, false);
+        totals.altitudes.look(form, &look);
     }
 }
 
@@ -230,8 +253,10 @@ fn expect_look(answer: &mut Answer, look: &Look, place: u64, turn: u64, step: u6
 fn expect_writes(tables: &Tables, answer: &mut Answer, totals: &mut Totals, bytes: &[u8], writes: &[Write]) {
     let mut now = bytes.to_vec();
     for write in writes {
-        let (refusal, after) = line::write(&tables.reports, &mut now, write.place, write.kind, &write.items);
+        let layouts = tables.of(write.form);
+        let (refusal, after) = line::write(layouts, &mut now, write.place, write.kind, &write.items);
         totals.write(refusal);
+        totals.altitudes.write(layouts, write, refusal);
         answer.u32("siamrung_write_refusal before", write.place, refusal);
         answer.u64("siamrung_write", write.place, 0, after);
         answer.u32("siamrung_write_refusal after", write.place, refusal);

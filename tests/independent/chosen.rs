@@ -40,7 +40,7 @@ fn items(layout: &Layout, end: End) -> Vec<(u64, u64)> {
 // ---- lines
 
 fn line_of(words: &[u16], step: u32) -> Case {
-    Case::Line { bytes: line::to_bytes(words), step, places: vec![0, words.len() as u64] }
+    Case::Line { bytes: line::to_bytes(words), form: 0, step, places: vec![0, words.len() as u64] }
 }
 
 /// Every number of sixteen bits, an idle word behind each; the idle word itself is there too, and no run.
@@ -55,14 +55,14 @@ fn layout_at(tables: &Tables, layout: &Layout, (end, name): (End, &str)) -> Vec<
     let words = report::write(&tables.reports, layout.number, &items).expect("values at their ends are written");
     let mut cases = vec![(format!("{}, {}", layout.name, name), line_of(&words, 1))];
     for room in [words.len() + 1, words.len()] {
-        let writes = vec![Write { place: 0, kind: layout.number, items: item_bytes(&items) }];
+        let writes = vec![Write { place: 0, form: 0, kind: layout.number, items: item_bytes(&items) }];
         cases.push((format!("{}, {}, into {} words", layout.name, name, room), Case::Write { bytes: vec![0xFF; 2 * room], writes }));
     }
     cases
 }
 
 /// Runs: document 01's worked cases, and each refusal beside its nearest neighbour.
-const RUNS: &[&[u16]] = &[
+pub const RUNS: &[&[u16]] = &[
     // C1 to C9
     &[868, 1281, 2048, 647],
     &[3973, 1281, 256, 7, 5175, 1414, 4102],

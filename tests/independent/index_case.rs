@@ -3,16 +3,17 @@
 use crate::answer::{hex, Answer};
 use crate::case::{put_bytes, Tables};
 use crate::index::{self, Done, Entry, Index};
-use crate::index_totals::{Call, IndexTotals};
+use crate::index_totals::Call;
 use crate::line::{self, Look, END};
+use crate::totals::Totals;
 
 /// One call, or the calls of a walk. A line is named by its place among the case's lines.
 #[derive(Clone, Copy, Debug)]
 pub enum Step {
     /// The report at the place is entered.
-    Enter { line: usize, place: u64, scan: u32 },
+    Enter { line: usize, place: u64, form: u32, scan: u32 },
     /// From the place on every outcome of the line is entered.
-    Walk { line: usize, place: u64, scan: u32 },
+    Walk { line: usize, place: u64, form: u32, scan: u32 },
     /// A number is looked for.
     Find { number: u32 },
 }
@@ -49,8 +50,8 @@ impl Indexing {
         message.extend_from_slice(&(self.steps.len() as u32).to_be_bytes());
         for step in &self.steps {
             match *step {
-                Step::Enter { line, place, scan } => put_entering(message, b'e', line, place, scan),
-                Step::Walk { line, place, scan } => put_entering(message, b'w', line, place, scan),
+                Step::Enter { line, place, form, scan } => put_entering(message, b'e', line, place, [form, scan]),
+                Step::Walk { line, place, form, scan } => put_entering(message, b'w', line, place, [form, scan]),
                 Step::Find { number } => {
                     message.push(b'f');
                     message.extend_from_slice(&number.to_be_bytes());
@@ -59,7 +60,7 @@ impl Indexing {
         }
     }
 
-    pub fn expect(&self, tables: &Tables, answer: &mut Answer, totals: &mut IndexTotals) {
+    pub fn expect(&self, tables: &Tables, answer: &mut Answer, totals: &mut Totals) {
         let now = self.run(tables, answer, totals);
         now.finish(self, totals);
         let bytes: Vec<u8> = now.entries.iter().flat_map(Entry::bytes).collect();
@@ -68,30 +69,30 @@ impl Indexing {
 
     /// What the calls answer, one behind the other, and the table at the end.
     pub fn worked_out(&self, tables: &Tables) -> (Vec<Done>, Vec<Entry>) {
-        let now = self.run(tables, &mut Answer::new(false), &mut IndexTotals::default());
+        let now = self.run(tables, &mut Answer::new(false), &mut Totals::default());
         let table = now.entries[now.lent()].to_vec();
         (now.dones, table)
     }
 
-    fn run(&self, tables: &Tables, answer: &mut Answer, totals: &mut IndexTotals) -> Now {
+    fn run(&self, tables: &Tables, answer: &mut Answer, totals: &mut Totals) -> Now {
         let lines: Vec<Vec<u16>> = self.lines.iter().map(|bytes| line::words(bytes)).collect();
         let mut now = Now::of(self);
-        totals.table(self, &now.index.faults);
+        totals.index.table(self, &now.index.faults);
         for (turn, step) in self.steps.iter().enumerate() {
             let turn = turn as u64;
             match *step {
-                Step::Enter { line, place, scan } => {
-                    let at = Place { length: self.lines[line].len(), words: &lines[line], place, scan };
+                Step::Enter { line, place, form, scan } => {
+                    let at = Place { length: self.lines[line].len(), words: &lines[line], place, form, scan };
                     now.enter(tables, answer, totals, turn, &at);
                 }
-                Step::Walk { line, place, scan } => {
-                    let at = Place { length: self.lines[line].len(), words: &lines[line], place, scan };
+                Step::Walk { line, place, form, scan } => {
+                    let at = Place { length: self.lines[line].len(), words: &lines[line], place, form, scan };
                     now.walk(tables, answer, totals, turn, at);
                 }
                 Step::Find { number } => {
                     let done = now.index.find(number);
                     now.dones.push(done);
-                    totals.find(&now.entries[now.lent()], number, done, &now.index.faults);
+                    totals.index.find(&now.entries[now.lent()], number, done, &now.index.faults);
                     expect_done(answer, "siamrung_index_find", turn, done);
                     answer.u32("entries changed by siamrung_index_find", turn, 0);
                 }
@@ -113,10 +114,11 @@ impl Indexing {
     }
 }
 
-fn put_entering(message: &mut Vec<u8>, tag: u8, line: usize, place: u64, scan: u32) {
+fn put_entering(message: &mut Vec<u8>, tag: u8, line: usize, place: u64, [form, scan]: [u32; 2]) {
     message.push(tag);
     message.extend_from_slice(&(line as u32).to_be_bytes());
     message.extend_from_slice(&place.to_be_bytes());
+    message.extend_from_slice(&form.to_be_bytes());
     message.extend_from_slice(&scan.to_be_bytes());
 }
 
@@ -125,6 +127,7 @@ struct Place<'a> {
     length: usize,
     words: &'a [u16],
     place: u64,
+    form: u32,
     scan: u32,
 }
 
@@ -153,12 +156,13 @@ impl Now {
     }
 
     /// One call; answers what stands at the place.
-    fn enter(&mut self, tables: &Tables, answer: &mut Answer, totals: &mut IndexTotals, turn: u64, at: &Place) -> Look {
-        let look = line::look(&tables.reports, at.length, at.words, at.place);
+    fn enter(&mut self, tables: &Tables, answer: &mut Answer, totals: &mut Totals, turn: u64, at: &Place) -> Look {
+        let look = line::look(tables.of(at.form), at.length, at.words, at.place);
         let entry = index::entry_of(&look, at.scan);
         let done = self.index.enter(entry);
         let table = &self.entries[self.lent()];
-        totals.enter(&Call { table, faults: &self.index.faults, words: at.words, place: at.place, look: &look, entry, done });
+        totals.altitudes.enter(at.form, &look, done);
+        totals.index.enter(&Call { table, faults: &self.index.faults, words: at.words, place: at.place, look: &look, entry, done });
         self.seen.extend(entry);
         self.dones.push(done);
         expect_done(answer, "siamrung_index_enter", turn, done);
@@ -180,28 +184,28 @@ impl Now {
     }
 
     /// Every outcome from the place on, up to the end or to a place that gives itself back.
-    fn walk(&mut self, tables: &Tables, answer: &mut Answer, totals: &mut IndexTotals, turn: u64, mut at: Place) {
+    fn walk(&mut self, tables: &Tables, answer: &mut Answer, totals: &mut Totals, turn: u64, mut at: Place) {
         let mut outcomes = 0;
         loop {
             let look = self.enter(tables, answer, totals, turn, &at);
             answer.u64("siamrung_after", at.place, turn, look.after);
             outcomes += 1;
             if look.kind == END || look.after == at.place {
-                return totals.walk(at.words.len(), outcomes);
+                return totals.index.walk(at.words.len(), outcomes);
             }
             at.place = look.after;
         }
     }
 
     /// The table of the calls has to be the one that the index holds; and where no entry was used at first, the one worked out afresh.
-    fn finish(&self, case: &Indexing, totals: &mut IndexTotals) {
+    fn finish(&self, case: &Indexing, totals: &mut Totals) {
         let table = &self.entries[self.lent()];
         assert_eq!(self.index.table(), table, "{}", case.shown());
         if !self.index.faults.any() && !case.table().iter().any(Entry::used) {
             let used = table.iter().take_while(|entry| entry.used()).count();
             assert_eq!(index::afresh(case.size, &self.seen), table[..used], "{}", case.shown());
             assert_eq!(case.table()[used..], table[used..], "{}", case.shown());
-            totals.afresh(case, used, &self.seen);
+            totals.index.afresh(case, used, &self.seen);
         }
     }
 }

@@ -331,18 +331,18 @@ fn around(rng: &mut Rng, pool: &[u16]) -> Entry {
 }
 
 /// The table among other entries, or alone.
-fn lend(rng: &mut Rng, pool: &[u16], table: Vec<Entry>, lines: &[Made], steps: Vec<Step>) -> Case {
+fn lend(rng: &mut Rng, pool: &[u16], table: Vec<Entry>, lines: &[Made], steps: Vec<Step>) -> Indexing {
     let lines: Vec<Vec<u8>> = lines.iter().map(Made::bytes).collect();
     lend_bytes(rng, pool, table, lines, steps)
 }
 
-fn lend_bytes(rng: &mut Rng, pool: &[u16], table: Vec<Entry>, lines: Vec<Vec<u8>>, steps: Vec<Step>) -> Case {
+fn lend_bytes(rng: &mut Rng, pool: &[u16], table: Vec<Entry>, lines: Vec<Vec<u8>>, steps: Vec<Step>) -> Indexing {
     let size = table.len() as u64;
     let (front, behind) = if rng.once_in(3) { (0, 0) } else { (rng.index(3), rng.index(3)) };
     let mut entries: Vec<Entry> = (0..front).map(|_| around(rng, pool)).collect();
     entries.extend(table);
     entries.extend((0..behind).map(|_| around(rng, pool)));
-    Case::Index(Indexing { entries, front, size, lines, steps })
+    Indexing { entries, front, size, lines, steps }
 }
 
 /// Calls that enter from the lines, and some that look for numbers between them.
@@ -351,7 +351,7 @@ fn calls(rng: &mut Rng, pool: &[u16], table: &[Entry], lines: &[Made], enters: u
     for _ in 0..enters {
         let line = rng.index(lines.len());
         let place = place(rng, &lines[line]);
-        steps.push(Step::Enter { line, place, scan: scan(rng) });
+        steps.push(Step::Enter { line, place, form: 0, scan: scan(rng) });
     }
     for _ in 0..finds {
         let at = rng.index(steps.len() + 1);
@@ -361,7 +361,7 @@ fn calls(rng: &mut Rng, pool: &[u16], table: &[Entry], lines: &[Made], enters: u
 }
 
 /// A small sound table, and calls on it.
-fn small(rng: &mut Rng, tables: &Tables) -> Case {
+fn small(rng: &mut Rng, tables: &Tables) -> Indexing {
     let more = rng.below(5);
     let pool = pool(rng, more);
     let size = *rng.pick(&[0, 0, 1, 1, 2, 3, 4, 5, 6, 8]);
@@ -373,7 +373,7 @@ fn small(rng: &mut Rng, tables: &Tables) -> Case {
 }
 
 /// A table that every call refuses.
-fn refusing(rng: &mut Rng, tables: &Tables, make: fn(&mut Rng, &[u16]) -> Vec<Entry>, enters: u64) -> Case {
+fn refusing(rng: &mut Rng, tables: &Tables, make: fn(&mut Rng, &[u16]) -> Vec<Entry>, enters: u64) -> Indexing {
     let more = rng.below(4);
     let pool = pool(rng, more);
     let table = make(rng, &pool);
@@ -385,14 +385,14 @@ fn refusing(rng: &mut Rng, tables: &Tables, make: fn(&mut Rng, &[u16]) -> Vec<En
 
 /// A table of up to 512 entries of which as many are used as the turn says, three quarters of the time 255 or more. Two numbers are
 /// entered, found and replaced; a third finds no room if the table has no more entries.
-fn large(rng: &mut Rng, tables: &Tables, turn: u64) -> Case {
+fn large(rng: &mut Rng, tables: &Tables, turn: u64) -> Indexing {
     let used = if turn % 4 == 0 { turn / 2 % 256 } else { 255 + (turn - turn / 4) % 257 } as usize;
     let size = if rng.once_in(2) { MOST_ENTRIES } else { MOST_ENTRIES.min(used + 2) };
     let base = rng.between(1, MOST_FILE - 2) as u16;
     let pool = [base, base + 1, base + 2];
     let table = sound_without(rng, &pool, &pool, size, used);
     let made = apart(rng, tables, &pool);
-    let enter = |rng: &mut Rng, which: usize| Step::Enter { line: 0, place: made.starts[which], scan: scan(rng) };
+    let enter = |rng: &mut Rng, which: usize| Step::Enter { line: 0, place: made.starts[which], form: 0, scan: scan(rng) };
     let mut steps = vec![enter(rng, 0), Step::Find { number: u32::from(base) }, enter(rng, 0), enter(rng, 1), enter(rng, 1)];
     steps.extend([Step::Find { number: u32::from(base + 1) }, enter(rng, 2), Step::Find { number: sought(rng, &pool, &table) }]);
     if used > 0 {
@@ -402,32 +402,32 @@ fn large(rng: &mut Rng, tables: &Tables, turn: u64) -> Case {
 }
 
 /// A full table of 512. The number in the entry that the turn says is replaced; others find no room.
-fn full(rng: &mut Rng, tables: &Tables, turn: u64) -> Case {
+fn full(rng: &mut Rng, tables: &Tables, turn: u64) -> Indexing {
     let base = rng.between(1, MOST_FILE - 3) as u16;
     let pool = [base, base + 1, base + 2, base + 3];
     let mut table = sound_without(rng, &pool, &pool, MOST_ENTRIES, MOST_ENTRIES);
     table[(turn / 2 * 5 % 512) as usize].number = base;
     let made = apart(rng, tables, &pool);
-    let mut steps: Vec<Step> = made.starts.iter().map(|&place| Step::Enter { line: 0, place, scan: scan(rng) }).collect();
+    let mut steps: Vec<Step> = made.starts.iter().map(|&place| Step::Enter { line: 0, place, form: 0, scan: scan(rng) }).collect();
     steps.push(Step::Find { number: u32::from(*rng.pick(&pool)) });
     lend(rng, &pool, table, &[made], steps)
 }
 
 /// Six file numbers in turn, on a line that is walked: each is entered, for the table has room and other numbers only.
-fn in_turn(rng: &mut Rng, tables: &Tables, turn: u64) -> Case {
+fn in_turn(rng: &mut Rng, tables: &Tables, turn: u64) -> Indexing {
     let pool: Vec<u16> = (0..6).map(|k| 1 + ((6 * turn + k) % MOST_FILE) as u16).collect();
     let used = rng.index(4);
     let mut table: Vec<Entry> = (1..=used as u16).map(|k| entry(rng, pool[0] + 4096 * k)).collect();
     table.extend((0..6 + rng.index(3)).map(|_| unused(rng)));
     let made = apart(rng, tables, &pool);
-    let mut steps = vec![Step::Walk { line: 0, place: 0, scan: scan(rng) }];
+    let mut steps = vec![Step::Walk { line: 0, place: 0, form: 0, scan: scan(rng) }];
     steps.extend([Step::Find { number: u32::from(pool[5]) }, Step::Find { number: u32::from(pool[0]) }]);
     lend(rng, &pool, table, &[made], steps)
 }
 
 /// Lines walked one behind the other, each as a scan, mostly from a table without a used entry. The table has room for all numbers, just
 /// room, or too little.
-fn walked(rng: &mut Rng, tables: &Tables, numbers: u64, segments: u64) -> Case {
+fn walked(rng: &mut Rng, tables: &Tables, numbers: u64, segments: u64) -> Indexing {
     let pool = pool(rng, numbers);
     let count = if rng.once_in(2) { 1 } else { rng.between(2, 4) };
     let lines: Vec<Made> = (0..count).map(|_| line_of(rng, tables, &pool, segments)).collect();
@@ -439,17 +439,17 @@ fn walked(rng: &mut Rng, tables: &Tables, numbers: u64, segments: u64) -> Case {
     let first = scan(rng);
     let step = *rng.pick(&[1, 1, 0, u32::MAX]);
     let scan = |line: usize| first.wrapping_add(step.wrapping_mul(line as u32));
-    let mut steps: Vec<Step> = (0..lines.len()).map(|line| Step::Walk { line, place: 0, scan: scan(line) }).collect();
+    let mut steps: Vec<Step> = (0..lines.len()).map(|line| Step::Walk { line, place: 0, form: 0, scan: scan(line) }).collect();
     if rng.once_in(8) {
         let place = place(rng, &lines[0]);
-        steps.push(Step::Walk { line: 0, place, scan: first });
+        steps.push(Step::Walk { line: 0, place, form: 0, scan: first });
     }
     steps.extend((0..2).map(|_| Step::Find { number: u32::from(*rng.pick(&pool)) }));
     lend(rng, &pool, table, &lines, steps)
 }
 
 /// A line that is refused for its length, or just not, with reports on it; entered from anywhere.
-fn refused_line(rng: &mut Rng, tables: &Tables, turn: u64) -> Case {
+fn refused_line(rng: &mut Rng, tables: &Tables, turn: u64) -> Indexing {
     let more = rng.below(3);
     let pool = pool(rng, more);
     let mut made = line_of(rng, tables, &pool, 4);
@@ -470,7 +470,7 @@ fn refused_line(rng: &mut Rng, tables: &Tables, turn: u64) -> Case {
     let mut steps = calls(rng, &pool, &table, std::slice::from_ref(&made), if turn % 8 == 0 { 20 } else { 8 }, 1);
     if turn % 2 == 0 {
         let (words, start) = (made.words.len() as u64, made.starts[0]);
-        steps.extend((0..4).map(|_| Step::Enter { line: 0, place: beyond(rng, words, start), scan: scan(rng) }));
+        steps.extend((0..4).map(|_| Step::Enter { line: 0, place: beyond(rng, words, start), form: 0, scan: scan(rng) }));
     }
     let mut bytes = made.bytes();
     if odd {
@@ -479,9 +479,13 @@ fn refused_line(rng: &mut Rng, tables: &Tables, turn: u64) -> Case {
     lend_bytes(rng, &pool, table, vec![bytes], steps)
 }
 
-/// The table with that number, and the calls on it.
+/// The table with that number, and the calls on it, in document 01's form.
 pub fn table(tables: &Tables, seed: u64, number: u64) -> Case {
-    let rng = &mut Rng::new(seed, INDEX, number);
+    Case::Index(table_of(&mut Rng::new(seed, INDEX, number), tables, number))
+}
+
+/// A table whose sort goes by the number, and the calls on it, in document 01's form.
+pub fn table_of(rng: &mut Rng, tables: &Tables, number: u64) -> Indexing {
     let turn = number / 16;
     match number % 16 {
         0 => in_turn(rng, tables, turn),

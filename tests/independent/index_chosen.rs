@@ -53,7 +53,7 @@ fn words_of(text: &str) -> Vec<u16> {
 
 /// The entries of a table in text: 0 is an unused entry, _ one that holds other things, 7 a used one, 7:110:4:9 one with its kind, scan and
 /// place, 0*5 an entry five times, 1..5 used ones from 1 to 5.
-fn table_of(text: &str) -> Vec<Entry> {
+pub fn table_of(text: &str) -> Vec<Entry> {
     let number = |word: &str| word.parse::<u16>().expect("a number");
     let one = |word: &str| match word {
         "_" => Entry { number: 0, kind: 113, scan: 7, place: 77 },
@@ -79,25 +79,25 @@ fn table_of(text: &str) -> Vec<Entry> {
     text.split_whitespace().flat_map(entries).collect()
 }
 
-fn bytes_of(text: &str) -> Vec<u8> {
+pub fn bytes_of(text: &str) -> Vec<u8> {
     line::to_bytes(&words_of(text))
 }
 
 const fn enter(line: usize, place: u64, scan: u32) -> Step {
-    Step::Enter { line, place, scan }
+    Step::Enter { line, place, form: 0, scan }
 }
 
 const fn walk(line: usize, scan: u32) -> Step {
-    Step::Walk { line, place: 0, scan }
+    Step::Walk { line, place: 0, form: 0, scan }
 }
 
-const fn find(number: u32) -> Step {
+pub const fn find(number: u32) -> Step {
     Step::Find { number }
 }
 
 /// The case, alone and with entries around it; its answers have to be those worked out by hand. The entries around the table are an unused
 /// one in front, and behind it one with its first number and one with number 1.
-fn checked(tables: &Tables, name: &str, indexing: Indexing, dones: &[Done]) -> Vec<Named> {
+pub fn checked(tables: &Tables, name: &str, indexing: Indexing, dones: &[Done]) -> Vec<Named> {
     let (worked_out, _) = indexing.worked_out(tables);
     assert_eq!(worked_out, dones, "{}", name);
     let first = indexing.entries.first().map_or(5, |entry| entry.number);

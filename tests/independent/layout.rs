@@ -22,6 +22,8 @@ pub enum Rule {
     Advisory,
     /// a sign (1 negative) and a magnitude; minus zero is not in use
     Signed,
+    /// a number in two's complement
+    Complement,
 }
 
 #[derive(Clone, PartialEq)]
@@ -57,6 +59,7 @@ fn rule(word: Option<&str>) -> Rule {
         Some("delivery") => Rule::Delivery,
         Some("advisory") => Rule::Advisory,
         Some("signed") => Rule::Signed,
+        Some("complement") => Rule::Complement,
         Some(other) => panic!("no rule: {}", other),
     }
 }
@@ -198,6 +201,7 @@ pub fn decode(text: &str, rule: Rule) -> Option<i64> {
         Rule::Delivery => plain <= 5,
         Rule::Advisory => !text.ends_with("111"),
         Rule::Signed => return decode_signed(text),
+        Rule::Complement => return Some(decode_complement(text)),
     };
     if in_use {
         Some(plain)
@@ -215,6 +219,23 @@ fn decode_signed(text: &str) -> Option<i64> {
     }
 }
 
+/// What each of twelve bits weighs in two's complement.
+const WEIGHTS: [i64; 12] = [-2048, 1024, 512, 256, 128, 64, 32, 16, 8, 4, 2, 1];
+
+/// The weights of the bits that are one, added up.
+fn decode_complement(text: &str) -> i64 {
+    assert_eq!(text.len(), WEIGHTS.len(), "a number in two's complement");
+    let ones = text.chars().zip(WEIGHTS).filter(|(bit, _)| *bit == '1');
+    ones.map(|(_, weight)| weight).sum()
+}
+
+/// The magnitude's bits; below zero they are all turned over, and the next number is taken. The first bit has to tell what is below zero.
+fn encode_complement(value: i64, width: usize) -> Option<String> {
+    let magnitude = bits::of_number(value.unsigned_abs(), width)?;
+    let text = if value < 0 { bits::next(&bits::all_flipped(&magnitude))? } else { magnitude };
+    Some(text).filter(|text| text.starts_with('1') == (value < 0))
+}
+
 /// The bits of a value as it was given, 64 bits in two's complement; nothing where it is too large or not in use.
 pub fn encode(value: u64, width: usize, rule: Rule) -> Option<String> {
     if rule == Rule::Signed {
@@ -222,6 +243,9 @@ pub fn encode(value: u64, width: usize, rule: Rule) -> Option<String> {
         let magnitude = bits::of_number(signed.unsigned_abs(), width - 1)?;
         let sign = if signed < 0 { "1" } else { "0" };
         return Some(format!("{}{}", sign, magnitude));
+    }
+    if rule == Rule::Complement {
+        return encode_complement(value as i64, width);
     }
     let text = bits::of_number(value, width)?;
     decode(&text, rule).map(|_| text)

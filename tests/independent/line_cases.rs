@@ -32,16 +32,17 @@ fn any_value(rng: &mut Rng, width: usize, rule: Rule) -> u64 {
         3 => largest - 1,
         _ => rng.between(0, largest),
     };
-    if rule == Rule::Signed && rng.once_in(2) {
-        value.wrapping_neg()
-    } else {
-        value
+    match rule {
+        Rule::Signed if rng.once_in(2) => value.wrapping_neg(),
+        // -1 to the least that there is
+        Rule::Complement if rng.once_in(2) => (value + 1).wrapping_neg(),
+        _ => value,
     }
 }
 
-/// The largest number of the bits, or of the magnitude.
+/// The largest number of the bits, or of those behind the sign.
 pub fn largest(width: usize, rule: Rule) -> u64 {
-    let digits = if rule == Rule::Signed { width - 1 } else { width };
+    let digits = if matches!(rule, Rule::Signed | Rule::Complement) { width - 1 } else { width };
     bits::number(&"1".repeat(digits))
 }
 
@@ -280,22 +281,26 @@ fn places(rng: &mut Rng, words: usize) -> Vec<u64> {
     places
 }
 
-fn case_of(rng: &mut Rng, bytes: Vec<u8>) -> Case {
+fn case_of(rng: &mut Rng, bytes: Vec<u8>, form: u32) -> Case {
     let words = bytes.len() / 2;
     // On long lines items are asked of some reports only, to keep the number of calls down.
     let step = if words > 600 { 12 } else { 1 };
-    Case::Line { step, places: places(rng, words), bytes }
+    Case::Line { form, step, places: places(rng, words), bytes }
 }
 
-/// The line with that number.
+/// The line with that number, read in document 01's form.
 pub fn line(tables: &Tables, seed: u64, number: u64) -> Case {
-    let rng = &mut Rng::new(seed, LINE, number);
+    line_in(&mut Rng::new(seed, LINE, number), tables, number, 0)
+}
+
+/// A line whose sort goes by the number, read in a form.
+pub fn line_in(rng: &mut Rng, tables: &Tables, number: u64, form: u32) -> Case {
     if number % 4 == 0 {
         let turn = (number / 4) as usize;
         let all = bits_of_all(tables);
         let made = if turn < all { each_bit(rng, tables, turn) } else { each_first_word(rng, turn - all) };
         if let Some(words) = made {
-            return case_of(rng, line::to_bytes(&words));
+            return case_of(rng, line::to_bytes(&words), form);
         }
     }
     let words = if number % 800 == 7 {
@@ -312,7 +317,7 @@ pub fn line(tables: &Tables, seed: u64, number: u64) -> Case {
     if number % 50 == 9 || (number % 160 == 5 && rng.once_in(2)) {
         bytes.push(rng.below(256) as u8);
     }
-    case_of(rng, bytes)
+    case_of(rng, bytes, form)
 }
 
 // ---- writing
@@ -390,9 +395,9 @@ pub fn shuffled_bytes(rng: &mut Rng, items: &mut [(u64, u64)], torn: bool) -> Ve
     bytes
 }
 
-/// A report to write, right or wrong, and the words that it takes with its idle word.
-fn written(rng: &mut Rng, tables: &Tables, place: u64) -> (Write, usize) {
-    let layout = rng.pick(&tables.reports);
+/// A report to write in a form, right or wrong, and the words that it takes with its idle word.
+fn written(rng: &mut Rng, tables: &Tables, place: u64, form: u32) -> (Write, usize) {
+    let layout = rng.pick(tables.of(form));
     let mut kind = layout.number;
     let mut items = valid_items(rng, layout);
     if rng.below(5) < 2 {
@@ -400,18 +405,18 @@ fn written(rng: &mut Rng, tables: &Tables, place: u64) -> (Write, usize) {
     }
     let torn = rng.once_in(24);
     let items = shuffled_bytes(rng, &mut items, torn);
-    (Write { place, kind, items }, layout.bits / WORD_BITS + 1)
+    (Write { place, form, kind, items }, layout.bits / WORD_BITS + 1)
 }
 
 /// The same with each item of each layout spoilt in each way, by turns.
-fn written_in_turn(rng: &mut Rng, tables: &Tables, turn: usize, place: u64) -> (Write, usize) {
+fn written_in_turn(rng: &mut Rng, tables: &Tables, turn: usize, place: u64, form: u32) -> (Write, usize) {
     let choices: Vec<(&Layout, usize)> =
-        tables.reports.iter().flat_map(|layout| (0..layout.items().len()).map(move |at| (layout, at))).collect();
+        tables.of(form).iter().flat_map(|layout| (0..layout.items().len()).map(move |at| (layout, at))).collect();
     let (layout, at) = choices[turn / WAYS % choices.len()];
     let mut items = valid_items(rng, layout);
     spoil_in_turn(layout, &mut items, at, turn % WAYS);
     let items = shuffled_bytes(rng, &mut items, false);
-    (Write { place, kind: layout.number, items }, layout.bits / WORD_BITS + 1)
+    (Write { place, form, kind: layout.number, items }, layout.bits / WORD_BITS + 1)
 }
 
 /// The length of the line, in words, around a report that takes so many from a place.
@@ -440,14 +445,22 @@ fn before(rng: &mut Rng, words: usize) -> Vec<u8> {
     }
 }
 
-/// The writing with that number: mostly one report, sometimes several one behind the other.
+/// The writing with that number, in document 01's form.
 pub fn write(tables: &Tables, seed: u64, number: u64) -> Case {
-    let rng = &mut Rng::new(seed, WRITE, number);
+    write_in(&mut Rng::new(seed, WRITE, number), tables, number, |_| 0)
+}
+
+/// Gives a form for each report to write.
+pub type Forms = fn(&mut Rng) -> u32;
+
+/// A writing whose sort goes by the number: mostly one report, sometimes several one behind the other.
+pub fn write_in(rng: &mut Rng, tables: &Tables, number: u64, forms: Forms) -> Case {
+    let form = forms(rng);
     let place = if rng.once_in(3) { 0 } else { rng.index(12) };
     let (mut first, needed) = if number % 3 == 0 {
-        written_in_turn(rng, tables, (number / 3) as usize, place as u64)
+        written_in_turn(rng, tables, (number / 3) as usize, place as u64, form)
     } else {
-        written(rng, tables, place as u64)
+        written(rng, tables, place as u64, form)
     };
     let mut words = room(rng, place, needed);
     let over = number % 75 == 57;
@@ -468,17 +481,18 @@ pub fn write(tables: &Tables, seed: u64, number: u64) -> Case {
     }
     let mut writes = vec![first];
     if chained {
-        chain(rng, tables, &bytes, &mut writes);
+        chain(rng, tables, &bytes, &mut writes, forms);
     }
     Case::Write { bytes, writes }
 }
 
 /// More reports, each at the place that the one before answered.
-fn chain(rng: &mut Rng, tables: &Tables, bytes: &[u8], writes: &mut Vec<Write>) {
+fn chain(rng: &mut Rng, tables: &Tables, bytes: &[u8], writes: &mut Vec<Write>, forms: Forms) {
     let mut line = bytes.to_vec();
     for _ in 0..rng.between(1, 5) {
         let last = &writes[writes.len() - 1];
-        let (_, place) = line::write(&tables.reports, &mut line, last.place, last.kind, &last.items);
-        writes.push(written(rng, tables, place).0);
+        let (_, place) = line::write(tables.of(last.form), &mut line, last.place, last.kind, &last.items);
+        let form = forms(rng);
+        writes.push(written(rng, tables, place, form).0);
     }
 }

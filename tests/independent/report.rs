@@ -1,5 +1,5 @@
-//! The seventeen layouts of a report, and the reading and writing of one, from document 01 ("Formats and fields") and the tables 4-1 to 4-3
-//! of document 004. Kinds and items have the numbers of siamrung.h.
+//! The seventeen layouts of a report, and the reading and writing of one, from document 01 ("Formats and fields"), Ticket 5 of document 02 and
+//! the tables 4-1 to 4-3 of document 004. Kinds and items have the numbers of siamrung.h.
 //!
 //! A run is read by comparing it with the fixed patterns of all layouts; nothing branches on single bits.
 
@@ -49,10 +49,11 @@ pub const RANGE: u32 = 4;
 pub const AZIMUTH: u32 = 5;
 pub const TIME: u32 = 6;
 pub const START: u32 = 11;
+pub const ALTITUDE: u32 = 31;
+pub const CARRIED: u32 = 32;
 
 const PLACED: &str = "25 zero, 27-38 AZIMUTH";
-const SEARCH: &str =
-    "1 TEST, 2-10 =001101100, 11 FAA, 12 AF, 14-24 RANGE, 40 AIMS, 41-42 AIMS_CODE, 43-45 RUN, 46-51 TIME";
+const SEARCH: &str = "1 TEST, 2-10 =001101100, 11 FAA, 12 AF, 14-24 RANGE, 40 AIMS, 41-42 AIMS_CODE, 43-45 RUN, 46-51 TIME";
 const STROBE: &str = "1 TEST, 2-10 =001100000, 11 FAA, 12 AF, 14-24 RANGE, 40-46 RUN, 47-51 TIME";
 const MAP: &str = "1 TEST, 2-8 =0000000, 9-10 VARIATION, 11 FAA, 12 AF, 14-24 START, 40-50 STOP, 51 zero";
 const STATUS: &str = "1 TEST, 2-10 =000110000, 11 FAA, 12 AF, 14-25 SECOND, 27-38 THIRD, 40-51 FOURTH";
@@ -61,46 +62,45 @@ const RTQC: &str = "1-10 =1001001000, 11 FAA, 12 AF, 14-24 RANGE, 40-46 RUN, 47-
 const SEVEN: &str = "1 TEST, 11 FAA, 14-25+27-29 RANGE, 30-38+40-43 AZIMUTH";
 const BEACON: &str = "7 SPI, 8 REINFORCED, 9 CODE7700, 10 CODE7600, 47 RELAY, 48-51 TIME";
 const DABS: &str = "2-4 =111, 5 PRIMARY, 44 ALERT, 45-46 zero, 53-64+66-77 ADDRESS";
-const ATCRBS: &str =
-    "2-4 =110, 5 MODE3A, 44 CONFIDENCE, 45 TRANSITION, 46 FALSE_TARGET, 53-64 CODE, 66-77 FILE";
-const ALTITUDE: &str = "12 =0, 6 =1, 79-90 ALTITUDE signed";
-const CARRIED: &str = "12 =0, 6 =0, 79-90 CARRIED";
+const ATCRBS: &str = "2-4 =110, 5 MODE3A, 44 CONFIDENCE, 45 TRANSITION, 46 FALSE_TARGET, 53-64 CODE, 66-77 FILE";
+/// The altitude in document 01's form, and in that of Ticket 5 of document 02.
+pub const SIGNED: &str = "12 =0, 6 =1, 79-90 ALTITUDE signed";
+pub const COMPLEMENT: &str = "12 =0, 6 =1, 79-90 ALTITUDE complement";
+const NO_ALTITUDE: &str = "12 =0, 6 =0, 79-90 CARRIED";
 const BY_CD: &str = "12 =1, 6 MODE_C, 79-81 RUN, 82-87 zero, 88-90 =100";
 const BY_MTD: &str = "12 =1, 6 MODE_C, 79-80 QUALITY, 81-87 zero, 88-90 =110";
 const BY_RDAS: &str = "12 =1, 6 MODE_C, 79-82 QUALITY, 83-87 zero, 88-90 =101";
 const RADAR: &str = "2-4 =110, 5-10 zero, 12 =1, 44 AIMS, 45 zero, 46-51 TIME, 66-77 FILE, 85 FALSE_TARGET";
-const MTD: &str =
-    "53-58 DOPPLER1, 59-64 DOPPLER2, 79-80 QUALITY, 81-84 CONFIDENCE, 86 GROUND, 87 zero, 88-90 =010";
+const MTD: &str = "53-58 DOPPLER1, 59-64 DOPPLER2, 79-80 QUALITY, 81-84 CONFIDENCE, 86 GROUND, 87 zero, 88-90 =010";
 const RDAS: &str = "53-64 zero, 79-82 QUALITY, 83-84 zero, 86-87 zero, 88-90 =001";
-
-const LAYOUTS: &[(u32, &str, usize, &[&str])] = &[
-    (101, "SEARCH", 4, &[SEARCH, PLACED]),
-    (102, "STROBE", 4, &[STROBE, PLACED]),
-    (103, "MAP", 4, &[MAP, PLACED]),
-    (104, "STATUS", 4, &[STATUS]),
-    (105, "RTQC", 4, &[RTQC, PLACED]),
-    (106, "DABS with altitude", 7, &[SEVEN, BEACON, DABS, ALTITUDE]),
-    (106, "DABS carried", 7, &[SEVEN, BEACON, DABS, CARRIED]),
-    (107, "DABS-CD", 7, &[SEVEN, BEACON, DABS, BY_CD]),
-    (108, "DABS-MTD", 7, &[SEVEN, BEACON, DABS, BY_MTD]),
-    (109, "DABS-RDAS", 7, &[SEVEN, BEACON, DABS, BY_RDAS]),
-    (110, "ATCRBS with altitude", 7, &[SEVEN, BEACON, ATCRBS, ALTITUDE]),
-    (110, "ATCRBS carried", 7, &[SEVEN, BEACON, ATCRBS, CARRIED]),
-    (111, "ATCRBS-CD", 7, &[SEVEN, BEACON, ATCRBS, BY_CD]),
-    (112, "ATCRBS-MTD", 7, &[SEVEN, BEACON, ATCRBS, BY_MTD]),
-    (113, "ATCRBS-RDAS", 7, &[SEVEN, BEACON, ATCRBS, BY_RDAS]),
-    (114, "MTD", 7, &[SEVEN, RADAR, MTD]),
-    (115, "RDAS", 7, &[SEVEN, RADAR, RDAS]),
-];
 
 pub const WORD_BITS: usize = 13;
 
-/// The seventeen layouts.
-pub fn layouts() -> Vec<Layout> {
+/// The seventeen layouts, with the altitude in one of the two forms: SIGNED or COMPLEMENT.
+pub fn layouts(altitude: &str) -> Vec<Layout> {
+    let rows: &[(u32, &'static str, usize, &[&str])] = &[
+        (101, "SEARCH", 4, &[SEARCH, PLACED]),
+        (102, "STROBE", 4, &[STROBE, PLACED]),
+        (103, "MAP", 4, &[MAP, PLACED]),
+        (104, "STATUS", 4, &[STATUS]),
+        (105, "RTQC", 4, &[RTQC, PLACED]),
+        (106, "DABS with altitude", 7, &[SEVEN, BEACON, DABS, altitude]),
+        (106, "DABS carried", 7, &[SEVEN, BEACON, DABS, NO_ALTITUDE]),
+        (107, "DABS-CD", 7, &[SEVEN, BEACON, DABS, BY_CD]),
+        (108, "DABS-MTD", 7, &[SEVEN, BEACON, DABS, BY_MTD]),
+        (109, "DABS-RDAS", 7, &[SEVEN, BEACON, DABS, BY_RDAS]),
+        (110, "ATCRBS with altitude", 7, &[SEVEN, BEACON, ATCRBS, altitude]),
+        (110, "ATCRBS carried", 7, &[SEVEN, BEACON, ATCRBS, NO_ALTITUDE]),
+        (111, "ATCRBS-CD", 7, &[SEVEN, BEACON, ATCRBS, BY_CD]),
+        (112, "ATCRBS-MTD", 7, &[SEVEN, BEACON, ATCRBS, BY_MTD]),
+        (113, "ATCRBS-RDAS", 7, &[SEVEN, BEACON, ATCRBS, BY_RDAS]),
+        (114, "MTD", 7, &[SEVEN, RADAR, MTD]),
+        (115, "RDAS", 7, &[SEVEN, RADAR, RDAS]),
+    ];
     let make = |&(kind, name, words, parts): &(u32, &'static str, usize, &[&str])| {
         Layout::new(kind, name, WORD_BITS * words, WORD_BITS, &parts.join(", "), ITEMS)
     };
-    LAYOUTS.iter().map(make).collect()
+    rows.iter().map(make).collect()
 }
 
 #[derive(Clone)]

@@ -1,5 +1,6 @@
 //! What a run of the program met: counts, and the quotas that a full run has to reach.
 
+use crate::altitude_totals::AltitudeTotals;
 use crate::field::{Record, RELAY};
 use crate::frame_totals::FrameTotals;
 use crate::index_totals::IndexTotals;
@@ -28,6 +29,7 @@ pub struct Totals {
     pub frames: FrameTotals,
     pub index: IndexTotals,
     pub segments: SegmentTotals,
+    pub altitudes: AltitudeTotals,
     /// reports by place in the list of layouts
     layouts: Tally,
     types: Tally,

@@ -3,7 +3,7 @@
 ghost use mathlib.Core.Path.{_≡_};
 ghost use Prim.Native.Nat.{_*_, _≤_, _<_};
 ghost use lib.ListN.{length, getD};
-ghost use Rattle.reports.specs.Altitude.{signMagnitude};
+ghost use Rattle.reports.specs.Altitude.{formOf};
 ghost use Rattle.reports.specs.Runs.{readRun};
 ghost use Rattle.lines.specs.Line.{runAt};
 ghost use Rattle.lines.specs.Bytes.{wordsIn, readBytes};
@@ -15,6 +15,7 @@ use crate::run::stops;
 use lines::MOST_BYTES;
 use lines::Outcome;
 use refusals::LineRefusal;
+use reports::altitude::Form;
 
 // A byte as a number of 16 bits.
 fn widened(b: u8) -> u16
@@ -85,14 +86,14 @@ fn word(bytes: &[u8], run: Places, k: usize) -> u16
 }
 
 // The answer to the run at a place, or behind the idle words there.
-fn run_at(bytes: &[u8], place: usize) -> Outcome
+fn run_at(bytes: &[u8], place: usize, form: Form) -> Outcome
     requires { ⌜ place ≤ length (wordsIn (now bytes)) ⌝ }
-    ensures { λ r. ⌜ r ≡ runAt (readRun signMagnitude) (wordsIn (now (bytes .entry))) place ⌝ }
+    ensures { λ r. ⌜ r ≡ runAt (readRun (formOf form)) (wordsIn (now (bytes .entry))) place ⌝ }
 {
     let run = places(bytes, place);
     // a run with a fault is refused whatever its words hold, so they are not fetched
     if run.fault < run.after {
-        return run.answer(0, 0, 0, 0, 0, 0, 0);
+        return run.answer(0, 0, 0, 0, 0, 0, 0, form);
     }
     run.answer(
         word(bytes, run, 0),
@@ -102,12 +103,13 @@ fn run_at(bytes: &[u8], place: usize) -> Outcome
         word(bytes, run, 4),
         word(bytes, run, 5),
         word(bytes, run, 6),
+        form,
     )
 }
 
-// The answer at a place.
-pub fn read(bytes: &[u8], place: usize) -> Outcome
-    ensures { λ r. ⌜ r ≡ readBytes signMagnitude (now (bytes .entry)) place ⌝ }
+// The answer at a place; altitudes are read in the form.
+pub fn read(bytes: &[u8], place: usize, form: Form) -> Outcome
+    ensures { λ r. ⌜ r ≡ readBytes (formOf form) (now (bytes .entry)) place ⌝ }
 {
     if MOST_BYTES < bytes.len() {
         return not_taken(LineRefusal::LineTooLong, place);
@@ -118,5 +120,5 @@ pub fn read(bytes: &[u8], place: usize) -> Outcome
     if count_words(bytes) < place {
         return not_taken(LineRefusal::PlaceBeyondLine, place);
     }
-    run_at(bytes, place)
+    run_at(bytes, place, form)
 }

@@ -4,7 +4,7 @@
 ghost use mathlib.Core.Path.{_≡_};
 ghost use mathlib.Core.List.{[], _∷_};
 ghost use Prim.Native.Nat.{_+_, _≤_, _<_, _^_};
-ghost use Rattle.reports.specs.Altitude.{signMagnitude};
+ghost use Rattle.reports.specs.Altitude.{formOf};
 ghost use Rattle.reports.specs.Runs.{answerOffset};
 ghost use Rattle.lines.specs.Line.{placed, notTaken};
 ghost use Rattle.line_reader.specs.Places.{stopsAt, answered};
@@ -12,6 +12,7 @@ use lines::Outcome;
 use lines::What;
 use refusals::LineRefusal;
 use reports::RunAnswer;
+use reports::altitude::Form;
 
 // What a search along the words of a line stops at. A fault is a word that is too wide or an even one. An idle word is even, so a search for a
 // fault needs no test of its own to stop at the end of the run.
@@ -72,10 +73,20 @@ fn set_at(first: usize, n: usize, answer: RunAnswer) -> Outcome
 
 impl Places {
     // The answer to the run, whose first seven words are handed in, with 0 for those past its end; the end where it has no word. Where the run
-    // has a fault its words do not matter.
-    pub fn answer(self, a: u16, b: u16, c: u16, d: u16, e: u16, f: u16, g: u16) -> Outcome
+    // has a fault its words do not matter. Altitudes are read in the form.
+    pub fn answer(
+        self,
+        a: u16,
+        b: u16,
+        c: u16,
+        d: u16,
+        e: u16,
+        f: u16,
+        g: u16,
+        form: Form,
+    ) -> Outcome
         requires { ⌜ (self .first ≤ self .fault) × (self .fault ≤ self .«too_wide») × (self .«too_wide» ≤ self .after) ⌝ }
-        ensures { λ r. ⌜ r ≡ answered signMagnitude self (a ∷ b ∷ c ∷ d ∷ e ∷ f ∷ g ∷ []) ⌝ }
+        ensures { λ r. ⌜ r ≡ answered (formOf form) self (a ∷ b ∷ c ∷ d ∷ e ∷ f ∷ g ∷ []) ⌝ }
     {
         let first = self.first;
         let n = self.after - first;
@@ -93,6 +104,7 @@ impl Places {
             n,
             self.too_wide - first,
             self.fault - first,
+            form,
         );
         set_at(first, n, answer)
     }

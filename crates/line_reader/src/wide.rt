@@ -3,7 +3,7 @@
 ghost use mathlib.Core.Path.{_≡_};
 ghost use Prim.Native.Nat.{_≤_, _<_};
 ghost use lib.ListN.{length, getD};
-ghost use Rattle.reports.specs.Altitude.{signMagnitude};
+ghost use Rattle.reports.specs.Altitude.{formOf};
 ghost use Rattle.reports.specs.Runs.{readRun};
 ghost use Rattle.lines.specs.Line.{runAt, readAt};
 ghost use Rattle.line_reader.specs.Places.{Ended, RunPlaces, runWords};
@@ -14,6 +14,7 @@ use crate::run::stops;
 use lines::MOST;
 use lines::Outcome;
 use refusals::LineRefusal;
+use reports::altitude::Form;
 
 // The word at i.
 fn word_at(line: &[u16], i: usize) -> u16
@@ -70,14 +71,14 @@ fn word(line: &[u16], run: Places, k: usize) -> u16
 }
 
 // The answer to the run at a place, or behind the idle words there.
-fn run_at(line: &[u16], place: usize) -> Outcome
+fn run_at(line: &[u16], place: usize, form: Form) -> Outcome
     requires { ⌜ place ≤ length (now line) ⌝ }
-    ensures { λ r. ⌜ r ≡ runAt (readRun signMagnitude) (now (line .entry)) place ⌝ }
+    ensures { λ r. ⌜ r ≡ runAt (readRun (formOf form)) (now (line .entry)) place ⌝ }
 {
     let run = places(line, place);
     // a run with a fault is refused whatever its words hold, so they are not fetched
     if run.fault < run.after {
-        return run.answer(0, 0, 0, 0, 0, 0, 0);
+        return run.answer(0, 0, 0, 0, 0, 0, 0, form);
     }
     run.answer(
         word(line, run, 0),
@@ -87,12 +88,13 @@ fn run_at(line: &[u16], place: usize) -> Outcome
         word(line, run, 4),
         word(line, run, 5),
         word(line, run, 6),
+        form,
     )
 }
 
-// The answer at a place.
-pub fn read(line: &[u16], place: usize) -> Outcome
-    ensures { λ r. ⌜ r ≡ readAt signMagnitude (now (line .entry)) place ⌝ }
+// The answer at a place; altitudes are read in the form.
+pub fn read(line: &[u16], place: usize, form: Form) -> Outcome
+    ensures { λ r. ⌜ r ≡ readAt (formOf form) (now (line .entry)) place ⌝ }
 {
     let n = line.len();
     if MOST < n {
@@ -101,5 +103,5 @@ pub fn read(line: &[u16], place: usize) -> Outcome
     if n < place {
         return not_taken(LineRefusal::PlaceBeyondLine, place);
     }
-    run_at(line, place)
+    run_at(line, place, form)
 }

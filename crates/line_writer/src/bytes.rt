@@ -4,7 +4,7 @@ ghost use mathlib.Core.Path.{_≡_};
 ghost use mathlib.Core.List.{_++_};
 ghost use Prim.Native.Nat.{_+_, _*_, _/_, _≤_, _<_};
 ghost use lib.ListN.{length, take, drop, replicate};
-ghost use Rattle.reports.specs.Altitude.{signMagnitude};
+ghost use Rattle.reports.specs.Altitude.{formOf};
 ghost use Rattle.words.specs.Word.{idle};
 ghost use Rattle.lines.specs.Bytes.{bytesOf};
 ghost use Rattle.lines.specs.ByteWriting.{writeBytes, WritesBytes};
@@ -15,6 +15,7 @@ use lines::Wrote;
 use refusals::LineRefusal;
 use reports::Report;
 use reports::Written;
+use reports::altitude::Form;
 use words::IDLE;
 
 // ---- the leaves
@@ -77,18 +78,18 @@ fn answer_to(size: usize, place: usize, made: Written) -> Wrote
 }
 
 // What `write` answers to the same arguments; nothing is written.
-pub fn answer(bytes: &[u8], place: usize, report: Report) -> Wrote
-    ensures { λ w. ⌜ w ≡ writeBytes signMagnitude (now (bytes .entry)) place report ⌝ }
+pub fn answer(bytes: &[u8], place: usize, form: Form, report: Report) -> Wrote
+    ensures { λ w. ⌜ w ≡ writeBytes (formOf form) (now (bytes .entry)) place report ⌝ }
 {
-    let made = report_writer::words_of(report);
+    let made = report_writer::words_of(report, form);
     answer_to(bytes.len(), place, made)
 }
 
-// A report's words and one idle word, from a place on.
-pub fn write(bytes: &mut [u8], place: usize, report: Report) -> Wrote
-    ensures { λ w. ⌜ WritesBytes signMagnitude (now (bytes .entry)) place report w (now (bytes .exit)) ⌝ }
+// A report's words, its altitude in the form, and one idle word, from a place on.
+pub fn write(bytes: &mut [u8], place: usize, form: Form, report: Report) -> Wrote
+    ensures { λ w. ⌜ WritesBytes (formOf form) (now (bytes .entry)) place report w (now (bytes .exit)) ⌝ }
 {
-    let made = report_writer::words_of(report);
+    let made = report_writer::words_of(report, form);
     let answer = answer_to(bytes.len(), place, made);
     if let Wrote::Refused(why, at) = answer {
         return Wrote::Refused(why, at);

@@ -4,7 +4,7 @@ ghost use mathlib.Core.Path.{_≡_};
 ghost use mathlib.Core.List.{_++_};
 ghost use Prim.Native.Nat.{_+_, _≤_, _<_};
 ghost use lib.ListN.{length, take, drop, replicate};
-ghost use Rattle.reports.specs.Altitude.{signMagnitude};
+ghost use Rattle.reports.specs.Altitude.{formOf};
 ghost use Rattle.words.specs.Word.{idle};
 ghost use Rattle.lines.specs.Writing.{Writes};
 ghost use Rattle.line_writer.specs.Deciding.{wideAnswer, Puts};
@@ -14,6 +14,7 @@ use lines::Wrote;
 use refusals::LineRefusal;
 use reports::Report;
 use reports::Written;
+use reports::altitude::Form;
 use words::IDLE;
 
 // ---- the leaves
@@ -66,11 +67,11 @@ fn answer_to(size: usize, place: usize, made: Written) -> Wrote
     deciding::decide(size, place, made)
 }
 
-// A report's words and one idle word, from a place on.
-pub fn write(line: &mut [u16], place: usize, report: Report) -> Wrote
-    ensures { λ w. ⌜ Writes signMagnitude (now (line .entry)) place report w (now (line .exit)) ⌝ }
+// A report's words, its altitude in the form, and one idle word, from a place on.
+pub fn write(line: &mut [u16], place: usize, form: Form, report: Report) -> Wrote
+    ensures { λ w. ⌜ Writes (formOf form) (now (line .entry)) place report w (now (line .exit)) ⌝ }
 {
-    let made = report_writer::words_of(report);
+    let made = report_writer::words_of(report, form);
     let answer = answer_to(line.len(), place, made);
     if let Wrote::Refused(why, at) = answer {
         return Wrote::Refused(why, at);

@@ -4,7 +4,7 @@ use mathlib.Core.Path.{ap, sym, _∙_, subst}
 use mathlib.Core.List.{[], _∷_}
 use borrow.Author.Tests.{eq-eqb, ne-eqb}
 use Rattle.reports.specs.declared.RunAnswer.{RunAnswer}
-use Rattle.reports.specs.Altitude.{signMagnitude}
+use Rattle.reports.specs.Altitude.{formOf}
 use Rattle.reports.specs.Runs.{answerOffset}
 use Rattle.lines.specs.Line.{placed}
 use Rattle.words.proofs.Tests.{picked, passed}
@@ -23,7 +23,7 @@ set-at-requires c κs =
     let s = x .self in (
       omega arith,
       subst (λ (r : RunAnswer). answerOffset r ≤ s .after - s .first) (sym (c .judge .ensures))
-          (offset-within signMagnitude (x .a ∷ x .b ∷ x .c ∷ x .d ∷ x .e ∷ x .f ∷ x .g ∷ []) (s .after - s .first) (s .«too_wide» - s .first) (s .fault - s .first)),
+          (offset-within (formOf (x .form)) (x .a ∷ x .b ∷ x .c ∷ x .d ∷ x .e ∷ x .f ∷ x .g ∷ []) (s .after - s .first) (s .«too_wide» - s .first) (s .fault - s .first)),
     )
 
 returns-2 : tie.Need-returns-2
