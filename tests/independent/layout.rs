@@ -33,7 +33,7 @@ pub enum Role {
     Zero,
 }
 
-#[derive(Clone)]
+#[derive(Clone, PartialEq)]
 pub struct Piece {
     pub spans: Vec<(usize, usize)>,
     pub role: Role,

@@ -55,7 +55,7 @@ pub fn item_bytes(items: &[(u64, u64)]) -> Vec<u8> {
     items.iter().flat_map(|(number, value)| [number.to_be_bytes(), value.to_be_bytes()].concat()).collect()
 }
 
-fn valid_text(rng: &mut Rng, layout: &Layout) -> String {
+pub fn valid_text(rng: &mut Rng, layout: &Layout) -> String {
     let text = layout.write(&valid_items(rng, layout)).expect("valid values are written");
     report::with_parity(&text)
 }
@@ -281,7 +281,7 @@ fn places(rng: &mut Rng, words: usize) -> Vec<u64> {
     places
 }
 
-fn case_of(rng: &mut Rng, bytes: Vec<u8>, form: u32) -> Case {
+pub fn case_of(rng: &mut Rng, bytes: Vec<u8>, form: u32) -> Case {
     let words = bytes.len() / 2;
     // On long lines items are asked of some reports only, to keep the number of calls down.
     let step = if words > 600 { 12 } else { 1 };

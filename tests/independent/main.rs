@@ -5,16 +5,23 @@
 //!
 //!   independent SEED LINES FIELDS FRAMES TABLES COMMAND..   compares LINES lines, FIELDS fields and FRAMES streams of frames, and half as
 //!                                                           many writings of each; then half as many ELMs of one segment as fields, read
-//!                                                           and written; then the calls of the index on TABLES tables; from 20,000 lines
-//!                                                           and 50,000 fields on (ELMs: 50,000 fields), from 20,000 streams on, and from
-//!                                                           20,000 tables on, the quotas have to be met; 0 leaves a part out
+//!                                                           and written; then the calls of the index on TABLES tables; all these in
+//!                                                           document 01's form of the altitude; then as many lines, writings of reports
+//!                                                           and tables in both forms, and more whose altitudes stand at the limits; from
+//!                                                           20,000 lines and 50,000 fields on (ELMs: 50,000 fields; both forms: 20,000
+//!                                                           lines), from 20,000 streams on, and from 20,000 tables on, the quotas have
+//!                                                           to be met; 0 leaves a part out
 //!   independent chosen COMMAND..                            compares nmi, degrees and seconds for every count of every field, and the
-//!                                                           cases of chosen.rs, segment_chosen.rs, frame_chosen.rs and index_chosen.rs
+//!                                                           cases of chosen.rs, segment_chosen.rs, altitude_chosen.rs, frame_chosen.rs
+//!                                                           and index_chosen.rs
 //!   independent chosen-frames COMMAND..                     compares the cases of frame_chosen.rs alone
 //!   independent chosen-index COMMAND..                      compares the cases of index_chosen.rs alone, those that take long left out
 //!
 //! A difference is printed with its case, and the program then ends with 1.
 
+mod altitude_cases;
+mod altitude_chosen;
+mod altitude_totals;
 mod answer;
 mod bits;
 mod case;
@@ -46,9 +53,10 @@ mod tally;
 mod totals;
 mod worked;
 
-use case::Tables;
+use case::{Case, Tables};
 use run::Named;
 use std::process::exit;
+use std::rc::Rc;
 
 /// The cases of a run, in order.
 fn cases(seed: u64, lines: u64, fields: u64) -> impl Iterator<Item = Named> {
@@ -98,6 +106,26 @@ fn cases_of_index(seed: u64, count: u64) -> impl Iterator<Item = Named> {
     (0..count).map(move |number| (format!("seed {}, table {}", seed, number), index_cases::table(&tables, seed, number)))
 }
 
+/// Lines, writings and tables in both forms of the altitude: a name, how many there are, and what makes the one with a number.
+type Sort = (&'static str, u64, fn(&Tables, u64, u64) -> Case);
+
+/// The cases of both forms, in order.
+fn cases_of_forms(seed: u64, lines: u64, count: u64) -> impl Iterator<Item = Named> {
+    let sorts: [Sort; 6] = [
+        ("line in a form", lines, altitude_cases::line),
+        ("line of altitudes", lines / 2, altitude_cases::line_of_altitudes),
+        ("writing in a form", lines / 2, altitude_cases::write),
+        ("writing of an altitude", lines, altitude_cases::write_of_altitude),
+        ("table in both forms", count, altitude_cases::table),
+        ("table of altitudes", count / 4, altitude_cases::table_of_altitudes),
+    ];
+    let tables = Rc::new(Tables::new());
+    sorts.into_iter().flat_map(move |(name, count, make)| {
+        let tables = Rc::clone(&tables);
+        (0..count).map(move |number| (format!("seed {}, {} {}", seed, name, number), make(&tables, seed, number)))
+    })
+}
+
 fn compare(seed: u64, [lines, fields, frames, tables]: [u64; 4], command: &[String]) -> Result<(), String> {
     println!("seed {}", seed);
     let all = move || cases(seed, lines, fields).chain(cases_of_frames(seed, frames)).chain(cases_of_index(seed, tables));
@@ -120,6 +148,13 @@ fn compare(seed: u64, [lines, fields, frames, tables]: [u64; 4], command: &[Stri
         let below = totals.index.report();
         short.extend(below.into_iter().filter(|_| tables >= 20_000));
     }
+    if lines + tables > 0 {
+        // A run of their own: the quotas of lines and tables have to be met in document 01's form alone.
+        let altitudes = run::run(command, move || cases_of_forms(seed, lines, tables))?.altitudes;
+        let (of_lines, of_index) = (altitudes.report_lines(), altitudes.report_index());
+        short.extend(of_lines.into_iter().filter(|_| lines >= 20_000));
+        short.extend(of_index.into_iter().filter(|_| tables >= 20_000));
+    }
     if !short.is_empty() {
         return Err(format!("below the quota: {}", short.join("; ")));
     }
@@ -134,8 +169,15 @@ fn chosen(command: &[String]) -> Result<(), String> {
     let totals = run::run(command, || chosen::cases().chain(segment_chosen::cases()))?;
     let (reads, writes) = (totals.runs + totals.fields, totals.writes + totals.field_writes);
     println!("chosen cases: {} runs and fields read, {} written, no difference", reads, writes);
+    chosen_altitudes(command)?;
     chosen_frames(command)?;
     chosen_index(command, true)
+}
+
+fn chosen_altitudes(command: &[String]) -> Result<(), String> {
+    let (reads, writes, enters) = run::run(command, altitude_chosen::cases)?.altitudes.all();
+    println!("chosen cases of altitudes: {} places looked at, {} writings, {} calls that enter, no difference", reads, writes, enters);
+    Ok(())
 }
 
 fn chosen_frames(command: &[String]) -> Result<(), String> {

@@ -1,6 +1,7 @@
-//! The worked cases of document 01 (C1 to C12, the lister's example, the flipped bit of "Three easy errors"), an ELM of one segment, known
-//! frames and a small index, run on this program itself: before it judges the library it has to agree with the paper.
+//! The worked cases of document 01 (C1 to C12, the lister's example, the flipped bit of "Three easy errors"), an ELM of one segment, both forms
+//! of every altitude, known frames and a small index, run on this program itself: before it judges the library it has to agree with the paper.
 
+use crate::altitude_cases::FORMS;
 use crate::bits;
 use crate::case::Tables;
 use crate::field::{self, Given};
@@ -8,6 +9,7 @@ use crate::frame::{self, Frame, Stream};
 use crate::frame_chosen::KNOWN;
 use crate::index::{self, Entry, Index};
 use crate::index_plain;
+use crate::layout::{decode, encode, Rule};
 use crate::line;
 use crate::line_cases::{item_bytes, valid_items};
 use crate::report;
@@ -86,19 +88,68 @@ fn segments(tables: &Tables) {
     }
 }
 
-/// Of every layout, some records written and read give the same items, and written again the same words.
+/// Of every layout, in both forms, some records written and read give the same items, and written again the same words.
 fn both_ways(tables: &Tables) {
     let rng = &mut Rng::new(0, 0, 0);
-    for (index, layout) in tables.reports.iter().enumerate() {
-        for _ in 0..40 {
-            let items = valid_items(rng, layout);
-            let words = report::write(&tables.reports, layout.number, &items).expect("valid values are written");
-            let read = look(tables, &words, 0).report.expect("what is written is read");
-            let again: Vec<(u64, u64)> = read.items.iter().map(|&(number, value)| (u64::from(number), value as u64)).collect();
-            assert_eq!((read.layout, &again), (index, &items));
-            assert_eq!(report::write(&tables.reports, layout.number, &again), Some(words));
+    for layouts in [0, 1].map(|form| tables.of(form)) {
+        for (index, layout) in layouts.iter().enumerate() {
+            for _ in 0..40 {
+                let items = valid_items(rng, layout);
+                let words = report::write(layouts, layout.number, &items).expect("valid values are written");
+                let read = line::look(layouts, 2 * words.len(), &words, 0).report.expect("what is written is read");
+                let again: Vec<(u64, u64)> = read.items.iter().map(|&(number, value)| (u64::from(number), value as u64)).collect();
+                assert_eq!((read.layout, &again), (index, &items));
+                assert_eq!(report::write(layouts, layout.number, &again), Some(words));
+            }
         }
     }
+}
+
+/// The forms agree on every pattern of bits 79-90 whose first bit is zero. If it is one, an altitude v of document 01's form is -2048 - v in two's
+/// complement, and minus zero is -2048 (Ticket 5 of document 02). Writing undoes reading in both.
+fn patterns() {
+    for number in 0..4096 {
+        let text = format!("{:012b}", number);
+        let (signed, complement) = (decode(&text, Rule::Signed), decode(&text, Rule::Complement).expect("every pattern is in use"));
+        let wanted = match signed {
+            None => -2048,
+            Some(altitude) if text.starts_with('1') => -2048 - altitude,
+            Some(altitude) => altitude,
+        };
+        assert_eq!((complement, signed.is_none()), (wanted, number == 2048), "{}", text);
+        assert_eq!(complement.rem_euclid(4096), number, "{}", text);
+        assert_eq!(encode(complement as u64, 12, Rule::Complement), Some(text.clone()));
+        assert_eq!(signed.and_then(|altitude| encode(altitude as u64, 12, Rule::Signed)), signed.map(|_| text));
+    }
+}
+
+/// An altitude is written exactly within its form's range, and reading undoes writing; far ones are not equal to one in their low bits.
+fn altitudes() {
+    let near = (-5_000..=5_000i64).chain((12..63).flat_map(|bit| (-2_050..=2_050).map(move |altitude| altitude + (1 << bit))));
+    for altitude in near.chain([i64::MIN, i64::MIN + 1, i64::MIN + 2_048, i64::MAX - 2_048, i64::MAX]) {
+        for (rule, least) in [(Rule::Signed, -2047), (Rule::Complement, -2048)] {
+            let written = encode(altitude as u64, 12, rule);
+            assert_eq!(written.is_some(), (least..=2047).contains(&altitude), "{}", altitude);
+            assert!(written.iter().all(|text| text.len() == 12 && decode(text, rule) == Some(altitude)), "{}", altitude);
+        }
+    }
+}
+
+/// C2 and C3, in each number that a form may be, and a report whose bits 79-90 are carried.
+fn forms(tables: &Tables) {
+    let carried = [3844, 1281, 256, 7, 5175, 1414, 4096];
+    let c3 = [3973, 1281, 256, 7, 5175, 1414, 4096];
+    for form in FORMS {
+        let item = |words: &[u16], number: u32| match line::look(tables.of(form), 14, words, 0) {
+            line::Look { report: Some(report), .. } => report.item(number),
+            refused => Some(i64::from(refused.refusal)),
+        };
+        let wanted = if form == 0 { [-3, 9, 2048] } else { [-2045, -2048, 2048] };
+        assert_eq!([item(&C2, 31), item(&c3, 31), item(&carried, 32)], wanted.map(Some), "form {}", form);
+        assert_eq!(item(&carried, 31), None);
+    }
+    let unlike = tables.of(0).iter().zip(tables.of(1)).filter(|(one, other)| one.pieces != other.pieces).map(|pair| pair.0.name);
+    assert_eq!(unlike.collect::<Vec<_>>(), ["DABS with altitude", "ATCRBS with altitude"]);
 }
 
 /// The known frames are read and written; a check sequence over nine octets; no one or two neighbouring bits may be turned over.
@@ -141,5 +192,8 @@ pub fn check(tables: &Tables) {
     segments(tables);
     frames();
     index(tables);
+    patterns();
+    altitudes();
+    forms(tables);
     both_ways(tables);
 }

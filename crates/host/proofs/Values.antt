@@ -3,15 +3,15 @@ use Prim.Native.Nat.{ℕ}
 use mathlib.Core.Path.{_≡_, refl}
 use mathlib.Core.List.{List}
 use Rattle.measures.specs.declared.Measured.{Measured}
-use Rattle.reports.specs.Altitude.{signMagnitude}
+use Rattle.reports.specs.Altitude.{chosen}
 use Rattle.reports.specs.Values.{Counted, counts, none, Yields}
 use Rattle.reports.specs.declared.values.Values.the-variants as Y
 use Rattle.lines.specs.Bytes.{readBytes}
 use Rattle.host.specs.Line.{countedAt, has, Shows}
 
 -- what is counted at a place
-abbrev pub at : List ℕ → ℕ → Counted
-at bytes place = countedAt (readBytes signMagnitude bytes place .what)
+abbrev pub at : List ℕ → ℕ → ℕ → Counted
+at bytes place form = countedAt (readBytes (chosen form) bytes place .what)
 
 -- where values are yielded, they are there and exact
 pub measured : (k : Counted) (m : Measured) → Yields k (Y.Measured m) → (has k ≡ 1) × Shows k m

@@ -1,13 +1,14 @@
 // The calls that read a line lent as bytes, two a word, high byte first, at a place counted in words. Each answers one thing about the run
-// at or behind the place, and reads that run and no more. Any bytes and any place are taken.
+// at or behind the place, and reads that run and no more. Any bytes, any place and any number of an altitude form are taken.
 // Relies on line_reader for the outcome, report_items for the fields, reports for kinds and values.
 ghost use mathlib.Core.Path.{_≡_};
 ghost use Rattle.measures.specs.Exact.{Exact};
 ghost use Rattle.lines.specs.Bytes.{readBytes};
-ghost use Rattle.reports.specs.Altitude.{signMagnitude};
+ghost use Rattle.reports.specs.Altitude.{chosen};
 ghost use Rattle.reports.specs.Values.{Yields};
 ghost use Rattle.report_items.specs.Items.{isOf, valueOf};
 ghost use Rattle.host.specs.Line.{version, kindNumberOf, refusalOf, itemAt, countedAt, has, rangeOf, azimuthOf, timeOf, Shows};
+use lines::Outcome;
 use lines::What;
 use measures::CoarseAzimuth;
 use measures::CoarseRange;
@@ -15,6 +16,7 @@ use measures::Measured;
 use measures::Time;
 use report_items::items;
 use report_items::items::Item;
+use reports::altitude::Form;
 use reports::kinds;
 use reports::values;
 use reports::values::Values;
@@ -28,7 +30,7 @@ const END: u32 = 121;
 // ---- the version of these calls
 
 // It grows with each new call, and whenever a call is changed or accepts more than before.
-const VERSION: u32 = 5;
+const VERSION: u32 = 6;
 
 // Numbers keep their meaning. A call that accepts more than before keeps its name; any other change of its meaning gives it a new name.
 #[no_mangle]
@@ -39,6 +41,13 @@ pub extern "C" fn siamrung_version() -> u32
 }
 
 // ---- what stands at a place
+
+// The outcome there; altitudes are read in the form of this number.
+fn outcome_at(bytes: &[u8], place: usize, form: u32) -> Outcome
+    ensures { λ r. ⌜ r ≡ readBytes (chosen form) (now (bytes .entry)) place ⌝ }
+{
+    line_reader::bytes::read(bytes, place, Form::numbered(form))
+}
 
 fn kind_number(what: What) -> u32
     ensures { λ r. ⌜ r ≡ kindNumberOf what ⌝ }
@@ -61,53 +70,53 @@ fn refusal_number(what: What) -> u32
 }
 
 #[no_mangle]
-pub extern "C" fn siamrung_kind(bytes: &[u8], place: usize) -> u32
-    ensures { λ r. ⌜ r ≡ kindNumberOf (readBytes signMagnitude (now (bytes .entry)) place .what) ⌝ }
+pub extern "C" fn siamrung_kind(bytes: &[u8], place: usize, form: u32) -> u32
+    ensures { λ r. ⌜ r ≡ kindNumberOf (readBytes (chosen form) (now (bytes .entry)) place .what) ⌝ }
 {
-    let o = line_reader::bytes::read(bytes, place);
+    let o = outcome_at(bytes, place, form);
     let what = o.what;
     kind_number(what)
 }
 
 #[no_mangle]
-pub extern "C" fn siamrung_refusal(bytes: &[u8], place: usize) -> u32
-    ensures { λ r. ⌜ r ≡ refusalOf (readBytes signMagnitude (now (bytes .entry)) place .what) ⌝ }
+pub extern "C" fn siamrung_refusal(bytes: &[u8], place: usize, form: u32) -> u32
+    ensures { λ r. ⌜ r ≡ refusalOf (readBytes (chosen form) (now (bytes .entry)) place .what) ⌝ }
 {
-    let o = line_reader::bytes::read(bytes, place);
+    let o = outcome_at(bytes, place, form);
     let what = o.what;
     refusal_number(what)
 }
 
 #[no_mangle]
-pub extern "C" fn siamrung_first(bytes: &[u8], place: usize) -> usize
-    ensures { λ r. ⌜ r ≡ readBytes signMagnitude (now (bytes .entry)) place .first ⌝ }
+pub extern "C" fn siamrung_first(bytes: &[u8], place: usize, form: u32) -> usize
+    ensures { λ r. ⌜ r ≡ readBytes (chosen form) (now (bytes .entry)) place .first ⌝ }
 {
-    let o = line_reader::bytes::read(bytes, place);
+    let o = outcome_at(bytes, place, form);
     o.first
 }
 
 #[no_mangle]
-pub extern "C" fn siamrung_after(bytes: &[u8], place: usize) -> usize
-    ensures { λ r. ⌜ r ≡ readBytes signMagnitude (now (bytes .entry)) place .after ⌝ }
+pub extern "C" fn siamrung_after(bytes: &[u8], place: usize, form: u32) -> usize
+    ensures { λ r. ⌜ r ≡ readBytes (chosen form) (now (bytes .entry)) place .after ⌝ }
 {
-    let o = line_reader::bytes::read(bytes, place);
+    let o = outcome_at(bytes, place, form);
     o.after
 }
 
 #[no_mangle]
-pub extern "C" fn siamrung_named(bytes: &[u8], place: usize) -> usize
-    ensures { λ r. ⌜ r ≡ readBytes signMagnitude (now (bytes .entry)) place .named ⌝ }
+pub extern "C" fn siamrung_named(bytes: &[u8], place: usize, form: u32) -> usize
+    ensures { λ r. ⌜ r ≡ readBytes (chosen form) (now (bytes .entry)) place .named ⌝ }
 {
-    let o = line_reader::bytes::read(bytes, place);
+    let o = outcome_at(bytes, place, form);
     o.named
 }
 
 // ---- the fields of a report
 
-fn item_at(bytes: &[u8], place: usize, item: u32) -> Item
-    ensures { λ r. ⌜ r ≡ itemAt (readBytes signMagnitude (now (bytes .entry)) place .what) item ⌝ }
+fn item_at(bytes: &[u8], place: usize, form: u32, item: u32) -> Item
+    ensures { λ r. ⌜ r ≡ itemAt (readBytes (chosen form) (now (bytes .entry)) place .what) item ⌝ }
 {
-    let o = line_reader::bytes::read(bytes, place);
+    let o = outcome_at(bytes, place, form);
     let what = o.what;
     match what {
         What::Accepted(report) => items::item_of(report, item as usize),
@@ -117,10 +126,10 @@ fn item_at(bytes: &[u8], place: usize, item: u32) -> Item
 }
 
 #[no_mangle]
-pub extern "C" fn siamrung_has(bytes: &[u8], place: usize, item: u32) -> u32
-    ensures { λ r. ⌜ r ≡ isOf (itemAt (readBytes signMagnitude (now (bytes .entry)) place .what) item) ⌝ }
+pub extern "C" fn siamrung_has(bytes: &[u8], place: usize, form: u32, item: u32) -> u32
+    ensures { λ r. ⌜ r ≡ isOf (itemAt (readBytes (chosen form) (now (bytes .entry)) place .what) item) ⌝ }
 {
-    let own = item_at(bytes, place, item);
+    let own = item_at(bytes, place, form, item);
     match own {
         Item::Of(_) => 1,
         Item::Missing => 0,
@@ -129,10 +138,10 @@ pub extern "C" fn siamrung_has(bytes: &[u8], place: usize, item: u32) -> u32
 
 // 0 where the report has no such item, which siamrung_has tells.
 #[no_mangle]
-pub extern "C" fn siamrung_item(bytes: &[u8], place: usize, item: u32) -> i64
-    ensures { λ r. ⌜ r ≡ valueOf (itemAt (readBytes signMagnitude (now (bytes .entry)) place .what) item) ⌝ }
+pub extern "C" fn siamrung_item(bytes: &[u8], place: usize, form: u32, item: u32) -> i64
+    ensures { λ r. ⌜ r ≡ valueOf (itemAt (readBytes (chosen form) (now (bytes .entry)) place .what) item) ⌝ }
 {
-    let own = item_at(bytes, place, item);
+    let own = item_at(bytes, place, form, item);
     match own {
         Item::Of(z) => z,
         Item::Missing => 0,
@@ -141,10 +150,10 @@ pub extern "C" fn siamrung_item(bytes: &[u8], place: usize, item: u32) -> i64
 
 // ---- range, azimuth and time as floats
 
-fn values_at(bytes: &[u8], place: usize) -> Values
-    ensures { λ r. ⌜ Yields (countedAt (readBytes signMagnitude (now (bytes .entry)) place .what)) r ⌝ }
+fn values_at(bytes: &[u8], place: usize, form: u32) -> Values
+    ensures { λ r. ⌜ Yields (countedAt (readBytes (chosen form) (now (bytes .entry)) place .what)) r ⌝ }
 {
-    let o = line_reader::bytes::read(bytes, place);
+    let o = outcome_at(bytes, place, form);
     let what = o.what;
     match what {
         What::Accepted(report) => values::values_of(report),
@@ -154,10 +163,10 @@ fn values_at(bytes: &[u8], place: usize) -> Values
 }
 
 #[no_mangle]
-pub extern "C" fn siamrung_has_values(bytes: &[u8], place: usize) -> u32
-    ensures { λ r. ⌜ r ≡ has (countedAt (readBytes signMagnitude (now (bytes .entry)) place .what)) ⌝ }
+pub extern "C" fn siamrung_has_values(bytes: &[u8], place: usize, form: u32) -> u32
+    ensures { λ r. ⌜ r ≡ has (countedAt (readBytes (chosen form) (now (bytes .entry)) place .what)) ⌝ }
 {
-    let values = values_at(bytes, place);
+    let values = values_at(bytes, place, form);
     match values {
         Values::Measured(_) => 1,
         Values::Nothing => 0,
@@ -165,10 +174,10 @@ pub extern "C" fn siamrung_has_values(bytes: &[u8], place: usize) -> u32
 }
 
 // All plus zero where there are none, which siamrung_has_values tells.
-fn measured_at(bytes: &[u8], place: usize) -> Measured
-    ensures { λ r. ⌜ Shows (countedAt (readBytes signMagnitude (now (bytes .entry)) place .what)) r ⌝ }
+fn measured_at(bytes: &[u8], place: usize, form: u32) -> Measured
+    ensures { λ r. ⌜ Shows (countedAt (readBytes (chosen form) (now (bytes .entry)) place .what)) r ⌝ }
 {
-    let values = values_at(bytes, place);
+    let values = values_at(bytes, place, form);
     match values {
         Values::Measured(m) => m,
         Values::Nothing => Measured::coarse(CoarseRange(0), CoarseAzimuth(0), Time(0)),
@@ -176,25 +185,25 @@ fn measured_at(bytes: &[u8], place: usize) -> Measured
 }
 
 #[no_mangle]
-pub extern "C" fn siamrung_nmi(bytes: &[u8], place: usize) -> f64
-    ensures { λ r. ⌜ Exact (rangeOf (countedAt (readBytes signMagnitude (now (bytes .entry)) place .what))) r ⌝ }
+pub extern "C" fn siamrung_nmi(bytes: &[u8], place: usize, form: u32) -> f64
+    ensures { λ r. ⌜ Exact (rangeOf (countedAt (readBytes (chosen form) (now (bytes .entry)) place .what))) r ⌝ }
 {
-    let m = measured_at(bytes, place);
+    let m = measured_at(bytes, place, form);
     m.range
 }
 
 #[no_mangle]
-pub extern "C" fn siamrung_degrees(bytes: &[u8], place: usize) -> f64
-    ensures { λ r. ⌜ Exact (azimuthOf (countedAt (readBytes signMagnitude (now (bytes .entry)) place .what))) r ⌝ }
+pub extern "C" fn siamrung_degrees(bytes: &[u8], place: usize, form: u32) -> f64
+    ensures { λ r. ⌜ Exact (azimuthOf (countedAt (readBytes (chosen form) (now (bytes .entry)) place .what))) r ⌝ }
 {
-    let m = measured_at(bytes, place);
+    let m = measured_at(bytes, place, form);
     m.azimuth
 }
 
 #[no_mangle]
-pub extern "C" fn siamrung_seconds(bytes: &[u8], place: usize) -> f64
-    ensures { λ r. ⌜ Exact (timeOf (countedAt (readBytes signMagnitude (now (bytes .entry)) place .what))) r ⌝ }
+pub extern "C" fn siamrung_seconds(bytes: &[u8], place: usize, form: u32) -> f64
+    ensures { λ r. ⌜ Exact (timeOf (countedAt (readBytes (chosen form) (now (bytes .entry)) place .what))) r ⌝ }
 {
-    let m = measured_at(bytes, place);
+    let m = measured_at(bytes, place, form);
     m.time
 }

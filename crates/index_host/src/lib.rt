@@ -5,13 +5,14 @@ ghost use mathlib.Core.Path.{_≡_};
 ghost use Rattle.index.specs.Entries.{entryOf};
 ghost use Rattle.index.specs.Indexing.{found};
 ghost use Rattle.lines.specs.Bytes.{readBytes};
-ghost use Rattle.reports.specs.Altitude.{signMagnitude};
+ghost use Rattle.reports.specs.Altitude.{chosen};
 ghost use Rattle.index_host.specs.Calls.{answerNumber, foundNumber, fileNumber, Enters};
 use index::Entry;
 use index::Found;
 use index::Indexed;
 use index::entering;
 use index::seen;
+use reports::altitude::Form;
 
 // ---- an answer as one number: what was done, and behind it, counted in 256, the entry where it was done. A refusal is its number.
 
@@ -51,10 +52,10 @@ fn found_number(answer: Found) -> u32
 // ---- entering
 
 // What the outcome at a place of the line brings.
-fn brought(bytes: &[u8], place: usize, scan: u32) -> Entry
-    ensures { λ r. ⌜ r ≡ entryOf (readBytes signMagnitude (now (bytes .entry)) place) scan ⌝ }
+fn brought(bytes: &[u8], place: usize, form: u32, scan: u32) -> Entry
+    ensures { λ r. ⌜ r ≡ entryOf (readBytes (chosen form) (now (bytes .entry)) place) scan ⌝ }
 {
-    let o = line_reader::bytes::read(bytes, place);
+    let o = line_reader::bytes::read(bytes, place, Form::numbered(form));
     seen::entry_of(o, scan)
 }
 
@@ -63,11 +64,12 @@ pub extern "C" fn siamrung_index_enter(
     table: &mut [Entry],
     bytes: &[u8],
     place: usize,
+    form: u32,
     scan: u32,
 ) -> u32
-    ensures { λ r. ⌜ Enters signMagnitude (now (table .entry)) (now (bytes .entry)) place scan r (now (table .exit)) ⌝ }
+    ensures { λ r. ⌜ Enters (chosen form) (now (table .entry)) (now (bytes .entry)) place scan r (now (table .exit)) ⌝ }
 {
-    let e = brought(bytes, place, scan);
+    let e = brought(bytes, place, form, scan);
     let answer = entering::enter(table, e);
     answer_number(answer)
 }

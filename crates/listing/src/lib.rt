@@ -9,10 +9,14 @@ use line_reader::bytes;
 use lines::MOST_BYTES;
 use lines::Outcome;
 use lines::What;
+use reports::altitude::Form;
 use reports::kinds;
 
 mod letters; // letters.rt: texts and numbers into a buffer
 mod said; // said.rt: the lines of a listing
+
+// The lister reads altitudes in document 01's form: a recording does not tell its own.
+const FORM: Form = Form::SignMagnitude;
 
 // No line of a listing is longer, so a buffer of that many bytes holds each.
 pub const LONGEST: usize = 64;
@@ -134,5 +138,5 @@ pub fn next(recording: &[u8], walk: Walk, out: &mut [u8]) -> Piece
     if walk.place - walk.reported < walk.refused {
         return Piece::Astray;
     }
-    say(walk, n, bytes::read(recording, walk.place), out)
+    say(walk, n, bytes::read(recording, walk.place, FORM), out)
 }

@@ -71,3 +71,6 @@ formNumber F.TwosComplement = 1
 -- and the form that any number stands for: 0 document 01's, any other the new one
 abbrev pub formNumbered : ℕ → Form
 formNumbered n = cond (eqb n 0) F.SignMagnitude F.TwosComplement
+
+abbrev pub chosen : ℕ → AltitudeForm
+chosen n = formOf (formNumbered n)

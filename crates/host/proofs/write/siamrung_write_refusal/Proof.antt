@@ -9,9 +9,10 @@ siamrung-write-refusal-spec =
     (tie.spec
     (λ c κs. search needs)
     (λ c κs. search needs)
+    (λ c κs. search needs)
     (λ c. search needs)
     (λ c. search needs)
     (λ c κs. search needs)
     (λ c. search needs)
-    (λ c. rw (← c .before .before .before .given .ensures, ← c .before .before .answer .ensures, c .enum-told .given .1))
-    (λ c. rw (← c .before .before .before .before .before .given .ensures, ← c .before .before .before .before .answer .ensures, c .before .before .answer2 .given .1) (c .number .ensures)))
+    (λ c. rw (← c .before .before .before .before .given .ensures, ← c .before .before .before .numbered .ensures, ← c .before .before .answer .ensures, c .enum-told .given .1))
+    (λ c. rw (← c .before .before .before .before .before .before .given .ensures, ← c .before .before .before .before .before .numbered .ensures, ← c .before .before .before .before .answer .ensures, c .before .before .answer2 .given .1) (c .number .ensures)))
