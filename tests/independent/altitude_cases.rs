@@ -1,7 +1,7 @@
 //! Cases for the forms of the altitude (Ticket 5 of document 02): the lines, writings and tables of the other files in two's complement or in
 //! both forms; and more of each whose altitudes stand at the limits of the forms.
 //!
-//! A case is made from the seed and its number alone.
+//! A case is made from the seed and its number alone. Of writings the sort goes by the number, so that every seed reaches the quotas.
 
 use crate::bits;
 use crate::case::{Case, Tables, Write};
@@ -108,32 +108,35 @@ pub fn line_of_altitudes(tables: &Tables, seed: u64, number: u64) -> Case {
 
 // ---- writing
 
-/// An altitude that both forms take, one of them, or neither; at times one that differs from such a one in a high bit.
-fn altitude(rng: &mut Rng) -> i64 {
-    let near = *rng.pick(&[-2050, -2049, -2048, -2047, -2046, -3, -1, 0, 1, 5, 2046, 2047, 2048, 2049]);
-    match rng.below(8) {
-        0..=2 => near,
-        3 => -2048,
+/// An altitude at a limit or next to it, any other near one, or a far one, of which some differ from a near one in one high bit.
+fn altitude(rng: &mut Rng, turn: u64) -> i64 {
+    let near = *rng.pick(&[-2050, -2047, -2046, -3, -1, 0, 1, 5, 2046, 2047, 2049]);
+    match turn % 8 {
+        0 => -2048,
+        1 => -2049,
+        2 => 2048,
+        3 => near,
         4 | 5 => rng.between(0, 8_400) as i64 - 4_200,
         6 => near ^ (1 << rng.between(12, 63)),
         _ => rng.next() as i64,
     }
 }
 
-/// A writing as document 01's form has them, in either form.
+/// A writing as document 01's form has them, in two's complement; where several reports are written, the later ones in either form.
 pub fn write(tables: &Tables, seed: u64, number: u64) -> Case {
     let rng = &mut Rng::new(seed, WRITE, number);
-    write_in(rng, tables, number, either)
+    let form = complement(rng);
+    write_in(rng, tables, number, form, either)
 }
 
-/// One report with an altitude, in either form, mostly with room enough.
+/// One report with an altitude, in document 01's form and in two's complement by turns, mostly with room enough.
 pub fn write_of_altitude(tables: &Tables, seed: u64, number: u64) -> Case {
     let rng = &mut Rng::new(seed, WRITE_OF_ALTITUDE, number);
-    let form = either(rng);
+    let form = if number % 2 == 0 { 0 } else { complement(rng) };
     let layout = *rng.pick(&with_item(tables.of(form), &[ALTITUDE]));
     let mut items = valid_items(rng, layout);
     for item in items.iter_mut().filter(|item| item.0 == u64::from(ALTITUDE)) {
-        item.1 = altitude(rng) as u64;
+        item.1 = altitude(rng, number / 2) as u64;
     }
     let items = shuffled_bytes(rng, &mut items, false);
     let place = rng.index(3);
@@ -160,7 +163,8 @@ pub fn table(tables: &Tables, seed: u64, number: u64) -> Case {
 /// A small table, and a line of ATCRBS reports with few file numbers whose altitudes stand at limits. Each is entered in either form.
 pub fn table_of_altitudes(tables: &Tables, seed: u64, number: u64) -> Case {
     let rng = &mut Rng::new(seed, TABLE_OF_ALTITUDES, number);
-    let layout = *rng.pick(&with_item(&tables.reports, &[FILE]).into_iter().filter(|layout| layout.number == 110).collect::<Vec<_>>());
+    let layouts = with_item(&tables.reports, &[ALTITUDE]).into_iter().filter(|layout| layout.items().contains(&FILE));
+    let layout = *rng.pick(&layouts.collect::<Vec<&Layout>>());
     let (mut words, mut steps) = (Vec::new(), Vec::new());
     for _ in 0..rng.between(1, 6) {
         let mut text = valid_text(rng, layout);
@@ -175,6 +179,6 @@ pub fn table_of_altitudes(tables: &Tables, seed: u64, number: u64) -> Case {
     steps.extend((1..=3).map(|number| Step::Find { number }));
     let used = rng.below(3) as u16;
     let mut table: Vec<Entry> = (1..=used).map(|number| Entry { number, kind: 114, scan: 9, place: 90 }).collect();
-    table.extend(vec![Entry::default(); rng.index(4)]);
+    table.extend(vec![Entry::default(); rng.index(5)]);
     Case::Index(Indexing::alone(table, vec![line::to_bytes(&words)], steps))
 }

@@ -55,9 +55,9 @@ const WRITING: &[Row] = &[
     ("complement, writing 11 for the altitude alone, -2049", &[], 1_000),
     ("complement, writing 11 for the altitude alone, 2048", &[], 1_000),
     ("complement, writing 11 for the altitude alone, 2048 or more", &[], 1_000),
-    ("complement, writing 11 for the altitude alone, right in its low N bits", &[16, 32], 500),
+    ("complement, writing 11 for the altitude alone, right in its low N bits", &[16, 32], 100),
     ("complement, writing, refusal N", &[2, 14, 1, 11, 10], 100),
-    ("form N, altitude below zero written", NUMBERS, 500),
+    ("form N, altitude below zero written", NUMBERS, 100),
     ("form above 1, altitude below zero written", &[], 1_000),
 ];
 

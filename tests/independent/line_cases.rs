@@ -447,15 +447,14 @@ fn before(rng: &mut Rng, words: usize) -> Vec<u8> {
 
 /// The writing with that number, in document 01's form.
 pub fn write(tables: &Tables, seed: u64, number: u64) -> Case {
-    write_in(&mut Rng::new(seed, WRITE, number), tables, number, |_| 0)
+    write_in(&mut Rng::new(seed, WRITE, number), tables, number, 0, |_| 0)
 }
 
-/// Gives a form for each report to write.
+/// Gives the form of one report after the other.
 pub type Forms = fn(&mut Rng) -> u32;
 
-/// A writing whose sort goes by the number: mostly one report, sometimes several one behind the other.
-pub fn write_in(rng: &mut Rng, tables: &Tables, number: u64, forms: Forms) -> Case {
-    let form = forms(rng);
+/// A writing whose sort goes by the number: mostly one report, in a form, sometimes several one behind the other, the later ones in other forms.
+pub fn write_in(rng: &mut Rng, tables: &Tables, number: u64, form: u32, forms: Forms) -> Case {
     let place = if rng.once_in(3) { 0 } else { rng.index(12) };
     let (mut first, needed) = if number % 3 == 0 {
         written_in_turn(rng, tables, (number / 3) as usize, place as u64, form)

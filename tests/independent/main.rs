@@ -117,7 +117,7 @@ fn cases_of_forms(seed: u64, lines: u64, count: u64) -> impl Iterator<Item = Nam
         ("writing in a form", lines / 2, altitude_cases::write),
         ("writing of an altitude", lines, altitude_cases::write_of_altitude),
         ("table in both forms", count, altitude_cases::table),
-        ("table of altitudes", count / 4, altitude_cases::table_of_altitudes),
+        ("table of altitudes", count / 2, altitude_cases::table_of_altitudes),
     ];
     let tables = Rc::new(Tables::new());
     sorts.into_iter().flat_map(move |(name, count, make)| {
