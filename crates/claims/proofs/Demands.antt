@@ -96,7 +96,7 @@ one-value none Y.Nothing Y.Nothing d e p q = refl
 meaning : MeanWhatIsPrinted
 meaning = record {
   runs = demand2.demand-2;
-  form = reports.document-form;
+  forms = reports.each-sound;
   layouts = words.laid-out;
   of-twelve-bits = reports.twelve-bits-a-word;
   of-four-or-seven = demand2.words-length;

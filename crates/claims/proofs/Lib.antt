@@ -1,5 +1,6 @@
 pub mod Numbers
 pub mod Twelve
+pub mod TwoForms
 pub mod Printed
 pub mod OneSegment
 pub mod Folds

@@ -125,7 +125,7 @@ Doubles Y.Nothing = Unit {0}
 -- the printed ones, a report's counts have one range, azimuth and time in doubles, and the worked cases hold
 pub record MeanWhatIsPrinted : Type 0 where
   pub runs : reports.Demand2
-  pub form : reports.DocumentForm
+  pub forms : reports.FormsSound
   pub layouts : words.LaidOut
   pub of-twelve-bits : reports.TwelveBitsAWord
   pub of-four-or-seven : reports.FourOrSeven

@@ -15,7 +15,7 @@ use Rattle.lines.specs.Bytes.{mostBytes, wordsIn}
 use Rattle.lines.specs.Stretches.{Run, runs, idleWords, reportedWords, refusedWords}
 use Rattle.listing.specs.Letters.{text, reportLine, refusedLine, totalsLine}
 
--- the lister reads altitudes in document 01's listerForm
+-- the lister reads altitudes in document 01's form: a recording does not tell its own
 abbrev pub listerForm : AltitudeForm
 listerForm = signMagnitude
 
