@@ -1,26 +1,29 @@
 -- The two forms of the altitude: what the new one answers by what document 01's answers (specs/TwoForms.antt). What is read of a report goes by one
 -- law on any two forms (`mapped`). Assumes nothing.
-use Prim.Native.Nat.{ℕ, zero, suc, _-_, _/_, _%_, _≤_, _<_}
+use Prim.Native.Nat.{ℕ, zero, suc, _+_, _-_, _/_, _%_, _≤_, _<_}
 use mathlib.Core.Path.{_≡_, refl, sym, ap, _∙_, subst}
 use mathlib.Core.Bool.{Bool, true, false, not, cond}
-use mathlib.Core.List.{List, [], _∷_}
+use mathlib.Core.List.{List, [], _∷_, _++_}
 use mathlib.Core.Logic.{_↔_}
+use native.Mathlib.Nat.{zero-add}
 use native.Mathlib.Omega.{arith}
 use borrow.Author.Tests.{eq-eqb, ne-eqb, eqb-true, eqb-false, le-leb, lt-leb, leb-true, leb-false}
 use lib.Dec.{eqb, leb, ltb}
 use lib.IntN.{ℤ, pos, negsuc, negℤ, _-ℤ_}
-use lib.ListN.{drop}
+use lib.ListN.{length, getD, take}
 use Rattle.rows.specs.Rows.{Row, row, firstOf, each}
-use Rattle.rows.specs.Claims.{NoneHolds}
+use Rattle.rows.specs.Claims.{NoneHolds, Refusing}
 use Rattle.rows.proofs.Claims as rows
-use Rattle.refusals.specs.declared.LineRefusal.the-variants.{WordTooWide, EvenWord, UnknownForm, WrongLength, UnassignedRadar, SpareBitSet, MinusZero}
+use Rattle.refusals.specs.declared.LineRefusal.the-variants.{WordTooWide, EvenWord, UnknownForm, WrongLength, UnassignedRadar, SpareBitSet, MinusZero, ValueTooLarge}
 use Rattle.words.specs.Tests.{all, any}
 use Rattle.words.specs.Word.{bits, bit, tooWide, even, first}
-use Rattle.words.specs.Layout.{Field, fittingAll, fittingBy}
+use Rattle.words.specs.Layout.{Field, count, wordsBy, fittingAll, fittingBy}
 use Rattle.words.proofs.Layouts.{both}
 use Rattle.words.proofs.Tests.{picked, passed, by-test}
 use Rattle.reports.specs.declared.Height.{Height}
 use Rattle.reports.specs.declared.Height.the-variants as H
+use Rattle.reports.specs.declared.Dabs.{Dabs}
+use Rattle.reports.specs.declared.Atcrbs.{Atcrbs}
 use Rattle.reports.specs.declared.Report.{Report}
 use Rattle.reports.specs.declared.Report.the-variants as R
 use Rattle.reports.specs.declared.RunAnswer.{RunAnswer}
@@ -31,12 +34,18 @@ use Rattle.reports.specs.Altitude.{AltitudeForm, sign, magnitude, negative, sig
 use Rattle.reports.specs.Forms.{isSeven, isSearch, isStrobe, isStatus, isMap, isDabs, isCd, isMtd, isRdas, isMtdSearch, isRdasSearch, radarCode}
 use Rattle.reports.specs.Records.{heightOf, dabsOf, atcrbsOf, mtdOf, rdasOf, fourOf, sevenOf, reportOf}
 use Rattle.reports.specs.Conditions.{tooWideWord, evenWord, unknownForm, wrongLength, unassigned, spareSet, minusZero}
-use Rattle.reports.specs.Layouts.{wordsOf, Fits, takes, written}
+use Rattle.reports.specs.declared.Written.the-variants as M
+use Rattle.reports.specs.Layouts.{lastWord, layoutOf, wordsOf, Fits, takes, asWritten, written}
 use Rattle.reports.specs.Runs.{readRun, tableOf, answerOffset}
 use Rattle.reports.proofs.Altitudes.{weighed, forms-sound}
-use Rattle.reports.proofs.Tests.{by-cond, holds-not}
+use Rattle.reports.proofs.Tests.{by-cond, by-conds, holds-not}
 use Rattle.reports.proofs.Demand2.{demand-2}
-use Rattle.claims.specs.TwoForms.{Has, Within, RangeOfEach, EveryPatternValid, NumbersOfForms, heightBy, altitudeBy, ofAltitude, turn, turned, lowest, answerAnew, NewReading, lowAltitude, EqualReadings, NeverMinusZero, NeverMinusZeroInBytes, whatAnew, outcomeAnew, runFrom, NewOutcome, NewOutcomeOfBytes, ElevenFollows, EqualWriting, SameWords}
+use Rattle.lines.specs.declared.What.{What}
+use Rattle.lines.specs.declared.What.the-variants as W
+use Rattle.lines.specs.declared.Outcome.{Outcome}
+use Rattle.lines.specs.Line.{outcomeOf, whatOf, placed, outcomeAt, runAt, lineRows, readBy}
+use Rattle.lines.specs.Bytes.{wordsIn, byteRows, readBytes}
+use Rattle.claims.specs.TwoForms.{Has, Within, RangeOfEach, EveryPatternValid, NumbersOfForms, dabsWith, atcrbsWith, heightBy, altitudeBy, ofHeight, ofAltitude, turn, turned, lowest, isMinusZero, answerAnew, NewReading, lowAltitude, EqualReadings, NeverMinusZero, NeverMinusZeroInBytes, whatAnew, outcomeAnew, runFrom, NewOutcome, NewOutcomeOfBytes, ElevenFollows, EqualWriting, SameWords}
 
 -- ---- the forms
 
@@ -80,11 +89,11 @@ module _ (f g : AltitudeForm) (by : ℤ → ℤ) (ws : List ℕ) where
 
   -- the altitudes that the twelve bits are, where they are one
   abbrev Plain : Type 0
-  Plain = bit ws 12 ≡ false → bit ws 6 ≡ true → by (f .altitude n) ≡ g .altitude n
+  Plain = isSeven ws ≡ true → bit ws 12 ≡ false → bit ws 6 ≡ true → by (f .altitude n) ≡ g .altitude n
 
-  height-by : (isCd ws ≡ false → isMtd ws ≡ false → isRdas ws ≡ false → bit ws 12 ≡ false) → Plain → heightBy by (heightOf f ws) ≡ heightOf g ws
+  height-by : isSeven ws ≡ true → (isCd ws ≡ false → isMtd ws ≡ false → isRdas ws ≡ false → bit ws 12 ≡ false) → Plain → heightBy by (heightOf f ws) ≡ heightOf g ws
   unfolding heightOf
-  height-by none plain = go (isCd ws) (isMtd ws) (isRdas ws) (bit ws 6) refl refl refl refl
+  height-by seven none plain = go (isCd ws) (isMtd ws) (isRdas ws) (bit ws 6) refl refl refl refl
     where
       height : AltitudeForm → Bool → Bool → Bool → Bool → Height
       height form a b c d =
@@ -97,7 +106,7 @@ module _ (f g : AltitudeForm) (by : ℤ → ℤ) (ws : List ℕ) where
       go true b c d k l m p = refl
       go false true c d k l m p = refl
       go false false true d k l m p = refl
-      go false false false true k l m p = ap H.Altitude (plain (none k l m) p)
+      go false false false true k l m p = ap H.Altitude (plain seven (none k l m) p)
       go false false false false k l m p = refl
 
   seven-by : isSeven ws ≡ true → unassigned ws ≡ false → Plain → altitudeBy by (sevenOf f ws) ≡ sevenOf g ws
@@ -114,10 +123,10 @@ module _ (f g : AltitudeForm) (by : ℤ → ℤ) (ws : List ℕ) where
       go : (a b c : Bool) → isDabs ws ≡ a → isMtdSearch ws ≡ b → isRdasSearch ws ≡ c → altitudeBy by (report f a b c) ≡ report g a b c
       go true b c k l m =
           let four = both (bit ws 4) _ (both (isSeven ws) _ k .1) .0 in
-          ap (λ (h : Height). R.Dabs (dabsOf ws h)) (height-by (no-radar ws seven assigned (simp (seven, four)) (simp (seven, four))) plain)
+          ap (λ (h : Height). R.Dabs (dabsOf ws h)) (height-by seven (no-radar ws seven assigned (simp (seven, four)) (simp (seven, four))) plain)
       go false true c k l m = refl
       go false false true k l m = refl
-      go false false false k l m = ap (λ (h : Height). R.Atcrbs (atcrbsOf ws h)) (height-by (no-radar ws seven assigned l m) plain)
+      go false false false k l m = ap (λ (h : Height). R.Atcrbs (atcrbsOf ws h)) (height-by seven (no-radar ws seven assigned l m) plain)
 
   -- four words have no altitude
   four-by : altitudeBy by (fourOf ws) ≡ fourOf ws
@@ -205,3 +214,253 @@ no-minus ws = go (isSeven ws) (not (bit ws 12)) (bit ws 6)
     go true true false = refl
     go true false c = refl
     go false b c = refl
+
+-- of four tests the last, where the others hold
+fourth : (a b c d : Bool) → all (a ∷ b ∷ c ∷ d ∷ []) ≡ true → d ≡ true
+fourth a b c d h = both d true (both c _ (both b _ (both a _ h .1) .1) .1) .0
+
+fourth-not : (a b c d : Bool) → a ≡ true → b ≡ false → c ≡ true → all (a ∷ not b ∷ c ∷ d ∷ []) ≡ false → d ≡ false
+fourth-not a b c d i j k h = holds-not d (simp (i, j, k) at h)
+
+module _ (ws : List ℕ) where
+  abbrev twelve : ℕ
+  twelve = bits ws 79 90
+
+  accepted : lastOf twosComplement ws ≡ A.Accepted (reportOf twosComplement ws)
+  accepted = passed _ _ (no-minus ws)
+
+  last-anew : NoneHolds (common ws) → lastOf twosComplement ws ≡ answerAnew ws (lastOf signMagnitude ws)
+  last-anew none =
+      let assigned = none .1 .1 .1 .1 .0 in
+      by-test (minusZero signMagnitude ws)
+      (λ t.
+      accepted
+      ∙ ap A.Accepted (sym (mapped signMagnitude twosComplement (λ z. negℤ (pos 2048)) ws assigned (λ s r c. lowest-plain twelve (fourth (isSeven ws) (not (bit ws 12)) (bit ws 6) _ t))))
+      ∙ sym (ap (answerAnew ws) (picked _ _ t)))
+      (λ t.
+      accepted
+      ∙ ap A.Accepted (sym (mapped signMagnitude twosComplement turn ws assigned (λ s r c. turn-plain twelve (fourth-not (isSeven ws) (bit ws 12) (bit ws 6) _ s r c t))))
+      ∙ sym (ap (answerAnew ws) (passed _ _ t)))
+
+pub new-reading : NewReading
+new-reading ws = alike (common ws) _ _ (last-anew ws) ∙ rows.each-of RunAnswer RunAnswer (answerAnew ws) (common ws) (lastOf signMagnitude ws)
+
+-- ---- where the first bit is not one
+
+-- a report stays where f leaves each altitude that it can have
+height-stays : (f : ℤ → ℤ) (test : ℤ → Bool) → ((z : ℤ) → test z ≡ false → f z ≡ z) → (h : Height) → ofHeight test h ≡ false → heightBy f h ≡ h
+height-stays f test e (H.Altitude z) k = ap H.Altitude (e z k)
+height-stays f test e (H.Carried n) k = refl
+height-stays f test e (H.Cd c n) k = refl
+height-stays f test e (H.Mtd c n) k = refl
+height-stays f test e (H.Rdas c n) k = refl
+
+report-stays : (f : ℤ → ℤ) (test : ℤ → Bool) → ((z : ℤ) → test z ≡ false → f z ≡ z) → (r : Report) → ofAltitude test r ≡ false → altitudeBy f r ≡ r
+report-stays f test e (R.Search s) k = refl
+report-stays f test e (R.Strobe s) k = refl
+report-stays f test e (R.Map m) k = refl
+report-stays f test e (R.Status s) k = refl
+report-stays f test e (R.Rtqc s) k = refl
+report-stays f test e (R.Dabs d) k = ap (λ (h : Height). R.Dabs (dabsWith d h)) (height-stays f test e (d .height) k)
+report-stays f test e (R.Atcrbs a) k = ap (λ (h : Height). R.Atcrbs (atcrbsWith a h)) (height-stays f test e (a .height) k)
+report-stays f test e (R.Mtd m) k = refl
+report-stays f test e (R.Rdas r) k = refl
+
+-- a test that never holds
+height-none : (h : Height) → ofHeight (λ z. false) h ≡ false
+height-none (H.Altitude z) = refl
+height-none (H.Carried n) = refl
+height-none (H.Cd c n) = refl
+height-none (H.Mtd c n) = refl
+height-none (H.Rdas c n) = refl
+
+report-none : (r : Report) → ofAltitude (λ z. false) r ≡ false
+report-none (R.Search s) = refl
+report-none (R.Strobe s) = refl
+report-none (R.Map m) = refl
+report-none (R.Status s) = refl
+report-none (R.Rtqc s) = refl
+report-none (R.Dabs d) = height-none (d .height)
+report-none (R.Atcrbs a) = height-none (a .height)
+report-none (R.Mtd m) = refl
+report-none (R.Rdas r) = refl
+
+-- four tests of which the last is of two do not all hold where its first does not stand for it
+not-both : (a b c d e : Bool) → all (a ∷ b ∷ c ∷ d ∷ []) ≡ false → all (a ∷ b ∷ c ∷ all (d ∷ e ∷ []) ∷ []) ≡ false
+not-both true true true true e h = let z : _≡_ {A = ℕ} 0 1 = cc in absurd (omega arith)
+not-both true true true false e h = refl
+not-both true true false d e h = refl
+not-both true false c d e h = refl
+not-both false b c d e h = refl
+
+last-same : (ws : List ℕ) → lowAltitude ws ≡ false → NoneHolds (common ws) → lastOf twosComplement ws ≡ lastOf signMagnitude ws
+last-same ws low none =
+    let n = bits ws 79 90 in
+    let low-sign : all (isSeven ws ∷ not (bit ws 12) ∷ bit ws 6 ∷ sign n ∷ []) ≡ false = ap (λ (b : Bool). all (isSeven ws ∷ not (bit ws 12) ∷ bit ws 6 ∷ b ∷ [])) (first-bit ws) ∙ low in
+    let report : reportOf signMagnitude ws ≡ reportOf twosComplement ws =
+    sym (report-stays (λ z. z) (λ z. false) (λ z e. refl) (reportOf signMagnitude ws) (report-none (reportOf signMagnitude ws)))
+    ∙ mapped signMagnitude twosComplement (λ z. z) ws (none .1 .1 .1 .1 .0) (λ s r c. same-plain n (fourth-not (isSeven ws) (bit ws 12) (bit ws 6) (sign n) s r c low-sign)) in
+    accepted ws ∙ ap A.Accepted (sym report) ∙ sym (passed (A.Refused MinusZero 0) _ (not-both (isSeven ws) (not (bit ws 12)) (bit ws 6) (sign n) (eqb (magnitude n) 0) low-sign))
+
+pub equal-readings : EqualReadings
+equal-readings = record {
+  by-bits = λ ws low. alike (common ws) _ _ (last-same ws low);
+  by-record = report-stays turn negative (λ z e. passed _ _ e);
+}
+
+-- ---- 9 is never given in the new form
+
+-- no row's answer and not the other one: not the answer
+never : {X : Type 0} (test : X → Bool) (rs : List (Row X)) (x : X) → Refusing test rs → test x ≡ false → test (firstOf rs x) ≡ false
+never test [] x none e = e
+never test (r ∷ rs) x none e = by-cond (λ y. test y ≡ false) (r .holds) (λ t. none .0) (λ t. never test rs x (none .1) e)
+
+abbrev nine : What → Bool
+nine (W.Accepted r) = false
+nine (W.Refused q) = isMinusZero q
+nine W.End = false
+
+run-not-nine : (ws : List ℕ) → nine (whatOf (readRun twosComplement ws)) ≡ false
+run-not-nine ws =
+    never (λ a. nine (whatOf a)) (common ws) (lastOf twosComplement ws) (refl, (refl, (refl, (refl, (refl, (refl, tt))))))
+    (ap (λ (a : RunAnswer). nine (whatOf a)) (accepted ws))
+
+there-not-nine : (n f : ℕ) (run : List ℕ) → nine (outcomeAt (readRun twosComplement) n f run .what) ≡ false
+there-not-nine n f [] = refl
+there-not-nine n f (w ∷ ws) = run-not-nine (w ∷ ws)
+
+no-nine : {X : Type 0} (w : What) → nine w ≡ false → w ≡ W.Refused MinusZero → X
+no-nine w e k = let q : true ≡ false = sym (ap nine k) ∙ e in let z : _≡_ {A = ℕ} 0 1 = cc in absurd (omega arith)
+
+pub never-minus-zero : NeverMinusZero
+unfolding readBy
+never-minus-zero line place =
+    no-nine _ (never (λ (o : Outcome). nine (o .what)) (lineRows line place) (runAt (readRun twosComplement) line place) (refl, (refl, tt)) (there-not-nine _ _ (runFrom line place)))
+
+pub never-minus-zero-in-bytes : NeverMinusZeroInBytes
+unfolding readBytes
+never-minus-zero-in-bytes bytes place =
+    no-nine _ (never (λ (o : Outcome). nine (o .what)) (byteRows bytes place) (runAt (readRun twosComplement) (wordsIn bytes) place) (refl, (refl, (refl, tt))) (there-not-nine _ _ (runFrom (wordsIn bytes) place)))
+
+-- ---- the outcome at a place
+
+-- no refusal's place moves: minus zero is named at its first word, as a report is
+offset-stays : (ws : List ℕ) → answerOffset (answerAnew ws (readRun signMagnitude ws)) ≡ answerOffset (readRun signMagnitude ws)
+offset-stays ws =
+    sym (rows.each-of RunAnswer ℕ (λ a. answerOffset (answerAnew ws a)) (tableOf signMagnitude ws) (A.Accepted (reportOf signMagnitude ws)))
+    ∙ rows.each-of RunAnswer ℕ answerOffset (tableOf signMagnitude ws) (A.Accepted (reportOf signMagnitude ws))
+
+what-anew : (ws : List ℕ) (a : RunAnswer) → whatOf (answerAnew ws a) ≡ whatAnew ws (whatOf a)
+what-anew ws (A.Accepted r) = refl
+what-anew ws (A.Refused q o) = by-conds (λ x y. whatOf x ≡ y) (isMinusZero q) (λ t. refl) (λ t. refl)
+
+run-anew : (n f : ℕ) (run : List ℕ) → outcomeAt (readRun twosComplement) n f run ≡ outcomeAnew run (outcomeAt (readRun signMagnitude) n f run)
+run-anew n f [] = refl
+run-anew n f (w ∷ ws) =
+    let run = w ∷ ws in
+    let a = readRun signMagnitude run in
+    ap (placed f (length run)) (new-reading run) ∙ (λ i. outcomeOf (what-anew run a i) f (f + length run) (f + offset-stays run i))
+
+pub new-outcome : NewOutcome
+unfolding readBy
+new-outcome line place =
+    let run = runFrom line place in
+    ap (firstOf (lineRows line place)) (run-anew _ _ run) ∙ rows.each-of Outcome Outcome (outcomeAnew run) (lineRows line place) (runAt (readRun signMagnitude) line place)
+
+pub new-outcome-of-bytes : NewOutcomeOfBytes
+unfolding readBytes
+new-outcome-of-bytes bytes place =
+    let run = runFrom (wordsIn bytes) place in
+    ap (firstOf (byteRows bytes place)) (run-anew _ _ run) ∙ rows.each-of Outcome Outcome (outcomeAnew run) (byteRows bytes place) (runAt (readRun signMagnitude) (wordsIn bytes) place)
+
+-- ---- writing
+
+pub same-words : SameWords
+same-words r fits =
+    let ws = wordsOf signMagnitude r in
+    let old = demand-2 signMagnitude (forms-sound F.SignMagnitude) ws r .1 (refl, fits) in
+    let new = demand-2 twosComplement (forms-sound F.TwosComplement) ws (turned r) .0 (new-reading ws ∙ ap (answerAnew ws) old) in
+    (new .1, sym (new .0))
+
+-- ---- what is too large
+
+-- seven tests of which the last is of one: the first six, and it
+six-and : (a b c d e f t : Bool) → cond a (cond b (cond c (cond d (cond e (cond f (cond (cond t true false) true false) false) false) false) false) false) false
+    ≡ all (cond a (cond b (cond c (cond d (cond e (cond f true false) false) false) false) false) false ∷ t ∷ [])
+six-and true true true true true true true = refl
+six-and true true true true true true false = refl
+six-and true true true true true false t = refl
+six-and true true true true false f t = refl
+six-and true true true false e f t = refl
+six-and true true false d e f t = refl
+six-and true false c d e f t = refl
+six-and false b c d e f t = refl
+
+-- seven words of which the last is this number in twelve bits
+abbrev ending : List (List Field) → ℕ → List (List Field)
+ending l n = getD l 0 [] ∷ getD l 1 [] ∷ getD l 2 [] ∷ getD l 3 [] ∷ getD l 4 [] ∷ getD l 5 [] ∷ (count 12 n ∷ []) ∷ []
+
+fits-and : (l : List (List Field)) (n : ℕ) → fittingBy (ending l n) ≡ all (fittingBy (ending l 0) ∷ ltb n 4096 ∷ [])
+fits-and l n =
+    six-and (fittingAll (getD l 0 [])) (fittingAll (getD l 1 [])) (fittingAll (getD l 2 [])) (fittingAll (getD l 3 [])) (fittingAll (getD l 4 [])) (fittingAll (getD l 5 [])) (ltb n 4096)
+
+-- a height that is an altitude, and one that is none
+by-altitude : (P : Height → Type 0) → ((z : ℤ) → P (H.Altitude z)) → (h : Height) → ofHeight (λ v. true) h ≡ true → P h
+by-altitude P p (H.Altitude z) e = p z
+by-altitude P p (H.Carried n) e = let z : _≡_ {A = ℕ} 0 1 = cc in absurd (omega arith)
+by-altitude P p (H.Cd c n) e = let z : _≡_ {A = ℕ} 0 1 = cc in absurd (omega arith)
+by-altitude P p (H.Mtd c n) e = let z : _≡_ {A = ℕ} 0 1 = cc in absurd (omega arith)
+by-altitude P p (H.Rdas c n) e = let z : _≡_ {A = ℕ} 0 1 = cc in absurd (omega arith)
+
+module _ (form : AltitudeForm) (z : ℤ) where
+  abbrev Ranges : Report → Type 0
+  Ranges r = takes form (altitudeBy (λ v. z) r) ≡ all (takes signMagnitude (altitudeBy (λ v. pos 0) r) ∷ ltb (form .bitsOf z) 4096 ∷ [])
+
+  range : (r : Report) → ofAltitude (λ v. true) r ≡ true → Ranges r
+  range (R.Search s) e = let z : _≡_ {A = ℕ} 0 1 = cc in absurd (omega arith)
+  range (R.Strobe s) e = let z : _≡_ {A = ℕ} 0 1 = cc in absurd (omega arith)
+  range (R.Map m) e = let z : _≡_ {A = ℕ} 0 1 = cc in absurd (omega arith)
+  range (R.Status s) e = let z : _≡_ {A = ℕ} 0 1 = cc in absurd (omega arith)
+  range (R.Rtqc s) e = let z : _≡_ {A = ℕ} 0 1 = cc in absurd (omega arith)
+  range (R.Dabs d) e =
+      by-altitude (λ h. Ranges (R.Dabs (dabsWith d h))) (λ v. fits-and (layoutOf form (R.Dabs (dabsWith d (H.Altitude z)))) (form .bitsOf z)) (d .height) e
+  range (R.Atcrbs a) e =
+      by-altitude (λ h. Ranges (R.Atcrbs (atcrbsWith a h))) (λ v. fits-and (layoutOf form (R.Atcrbs (atcrbsWith a (H.Altitude z)))) (form .bitsOf z)) (a .height) e
+  range (R.Mtd m) e = let z : _≡_ {A = ℕ} 0 1 = cc in absurd (omega arith)
+  range (R.Rdas r) e = let z : _≡_ {A = ℕ} 0 1 = cc in absurd (omega arith)
+
+-- where two forms have the same bits for each altitude that the test passes, a report that it passes has the same words in both
+module _ (f g : AltitudeForm) (test : ℤ → Bool) (same : (z : ℤ) → test z ≡ false → f .bitsOf z ≡ g .bitsOf z) where
+  last-alike : (h : Height) → ofHeight test h ≡ false → lastWord f h ≡ lastWord g h
+  last-alike (H.Altitude z) e = ap (λ (n : ℕ). count 12 n ∷ []) (same z e)
+  last-alike (H.Carried n) e = refl
+  last-alike (H.Cd c n) e = refl
+  last-alike (H.Mtd c n) e = refl
+  last-alike (H.Rdas c n) e = refl
+
+  layout-alike : (r : Report) → ofAltitude test r ≡ false → layoutOf f r ≡ layoutOf g r
+  layout-alike (R.Search s) e = refl
+  layout-alike (R.Strobe s) e = refl
+  layout-alike (R.Map m) e = refl
+  layout-alike (R.Status s) e = refl
+  layout-alike (R.Rtqc s) e = refl
+  layout-alike (R.Dabs d) e = ap (λ (l : List Field). take 6 (layoutOf f (R.Dabs d)) ++ (l ∷ [])) (last-alike (d .height) e)
+  layout-alike (R.Atcrbs a) e = ap (λ (l : List Field). take 6 (layoutOf f (R.Atcrbs a)) ++ (l ∷ [])) (last-alike (a .height) e)
+  layout-alike (R.Mtd m) e = refl
+  layout-alike (R.Rdas r) e = refl
+
+never-holds : (z : ℤ) → true ≡ false → {X : Type 0} → X
+never-holds z e = absurd (let k : _≡_ {A = ℕ} 0 1 = cc in omega arith)
+
+pub eleven-follows : ElevenFollows
+eleven-follows = record {
+  range = λ form r z. range (formOf form) z r;
+  no-altitude = λ form r e. ap fittingBy (layout-alike (formOf form) signMagnitude (λ v. true) (λ z k. never-holds z k) r e);
+}
+
+same-plus : (z : ℤ) → negative z ≡ false → twosComplement .bitsOf z ≡ signMagnitude .bitsOf z
+same-plus (pos n) e = ap (λ (k : ℕ). cond (leb n 2047) k 4096) (sym (zero-add n))
+same-plus (negsuc n) e = never-holds (pos 0) e
+
+pub equal-writing : EqualWriting
+equal-writing r e = ap (λ (l : List (List Field)). cond (fittingBy l) (asWritten (wordsBy l)) (M.Refused ValueTooLarge)) (layout-alike twosComplement signMagnitude negative same-plus r e)

@@ -62,7 +62,7 @@ pub record NumbersOfForms : Type 0 where
 -- ---- a report with another altitude
 
 -- the record with this height
-abbrev dabsWith : Dabs → Height → Dabs
+abbrev pub dabsWith : Dabs → Height → Dabs
 dabsWith d h = record {
   test = d .test;
   primary = d .primary;
@@ -80,7 +80,7 @@ dabsWith d h = record {
   height = h;
 }
 
-abbrev atcrbsWith : Atcrbs → Height → Atcrbs
+abbrev pub atcrbsWith : Atcrbs → Height → Atcrbs
 atcrbsWith a h = record {
   test = a .test;
   mode3a = a .mode3a;
@@ -122,7 +122,7 @@ altitudeBy f (R.Mtd m) = R.Mtd m
 altitudeBy f (R.Rdas r) = R.Rdas r
 
 -- whether a report has an altitude of which a test holds
-abbrev ofHeight : (ℤ → Bool) → Height → Bool
+abbrev pub ofHeight : (ℤ → Bool) → Height → Bool
 ofHeight test (H.Altitude z) = test z
 ofHeight test (H.Carried n) = false
 ofHeight test (H.Cd c n) = false
@@ -153,7 +153,7 @@ turned r = altitudeBy turn r
 abbrev pub lowest : Report → Report
 lowest r = altitudeBy (λ z. negℤ (pos 2048)) r
 
-abbrev isMinusZero : LineRefusal → Bool
+abbrev pub isMinusZero : LineRefusal → Bool
 isMinusZero q = eqb (lineNumber q) (lineNumber MinusZero)
 
 -- the answer to a run in the new form, from the one in document 01's
