@@ -6,7 +6,7 @@ use lib.ListN.{length}
 use Rattle.words.proofs.Claims as words
 use Rattle.measures.proofs.Claims as measures
 use Rattle.reports.specs.declared.Report.{Report}
-use Rattle.reports.specs.Altitude.{AltitudeForm}
+use Rattle.reports.specs.Altitude.{AltitudeForm, formOf}
 use Rattle.reports.specs.Layouts.{wordsOf}
 use Rattle.reports.specs.Runs.{readRun}
 use Rattle.reports.specs.Values.{Counted, counts, none, Yields}
@@ -29,7 +29,7 @@ use Rattle.lines.proofs.Back as lists
 use Rattle.lines.proofs.Written as written
 use Rattle.fields.proofs.Claims as fields
 use Rattle.fields.proofs.Exactly as exactly
-use Rattle.claims.specs.Demands.{TakeEveryInputAndEnd, OneNumberedRefusal, NoSkipWithoutAName, GivenExactly, LeavesUntouched, MeanWhatIsPrinted, AcceptedExactly, WrittenAgain, ReadAgain, EqualLinesEqualLists, ReadingGivesTheList, OneOutcomeEach, Doubles, reportsIn, Demands}
+use Rattle.claims.specs.Demands.{TakeEveryInputAndEnd, OneNumberedRefusal, NoSkipWithoutAName, GivenExactly, LeavesUntouched, MeanWhatIsPrinted, AcceptedExactly, WrittenAgain, ReadAgain, EqualLinesEqualLists, ReadingGivesTheList, OneOutcomeEach, Doubles, reportsIn, InEachForm, Demands}
 use Rattle.claims.proofs.Numbers.{numbers-differ, no-number-is-zero}
 use Rattle.claims.proofs.Twelve.{twelve}
 use Rattle.claims.proofs.Printed.{as-printed, only-printed, entries-as-printed, rules-as-printed, all-have-rules}
@@ -156,6 +156,19 @@ list-back = record {
 one-each : OneOutcomeEach
 one-each = record { outcomes-are = outcomes.one-each; stretches = runs-are }
 
+-- ---- in each form
+
+in-each-form : InEachForm
+in-each-form form =
+    let sound = reports.each-sound form in
+    record {
+      runs = demand2.demand-2 (formOf form) sound;
+      on-a-line = read-written (formOf form) sound;
+      in-bytes = read-written-bytes (formOf form) sound;
+      equal-lists = lists.equal-lists (formOf form) sound;
+      list-back = list-back .list (formOf form) sound;
+    }
+
 -- ---- all of them
 
 pub demands : Demands
@@ -173,4 +186,5 @@ demands = record {
   list-back = list-back;
   one-each = one-each;
   replaced = parts.replaced;
+  each-form = in-each-form;
 }

@@ -2,6 +2,7 @@
 use mathlib.Core.Path.{refl}
 use native.Mathlib.Omega.{arith}
 use Rattle.words.proofs.Claims as words
+use Rattle.reports.proofs.Altitudes as altitudes
 use Rattle.frames.proofs.Back as back
 use Rattle.frames.proofs.Checked as checked
 use Rattle.frames.proofs.Ends as ends
@@ -10,10 +11,13 @@ use Rattle.frames.proofs.Lists as lists
 use Rattle.frames.proofs.Refused as refused
 use Rattle.frames.proofs.Zeros as zeros
 use Rattle.index.proofs.Claims as index
-use Rattle.claims.specs.Requests.{ReadAndWriteThem, FlagsAndIdle, PlacesAnswered, TheWriter, TheirOwnRoundTrip, FrameRefusals, Ticket1, OneSegmentAccepted, UplinkKeepsItsMinimum, RefusalsLoseThisCase, TakesReportsWithANumber, EntersAndReplaces, EqualsTheOneWorkedOutAfresh, IndexRefusals, CountsTheOnes, ItsPromiseStays, Requests}
+use Rattle.claims.specs.Requests.{ReadAndWriteThem, FlagsAndIdle, PlacesAnswered, TheWriter, TheirOwnRoundTrip, FrameRefusals, Ticket1, OneSegmentAccepted, UplinkKeepsItsMinimum, RefusalsLoseThisCase, TakesReportsWithANumber, EntersAndReplaces, EqualsTheOneWorkedOutAfresh, IndexRefusals, CountsTheOnes, ItsPromiseStays, TheFormAsAnInput, RangeAndPatterns, RefusalsOfAltitudes, Requests}
 use Rattle.claims.proofs.Numbers.{numbers-differ, no-number-is-zero}
 use Rattle.claims.proofs.OneSegment as segment
 use Rattle.claims.proofs.Folds.{folds-answer-the-same}
+use Rattle.claims.proofs.Twelve as twelve
+use Rattle.claims.proofs.TwoForms as forms
+use Rattle.claims.proofs.Demands.{demands}
 
 -- ---- Ticket 1
 
@@ -142,6 +146,29 @@ counts = record { counted = words.ones-by-bits; asked = words.odd-by-bits; each-
 stays : ItsPromiseStays
 stays = record { folds = folds-answer-the-same }
 
+-- ---- Ticket 5
+
+input : TheFormAsAnInput
+input = record {
+  run = forms.new-reading;
+  place = forms.new-outcome;
+  place-of-bytes = forms.new-outcome-of-bytes;
+  same = forms.equal-readings;
+  written = forms.equal-writing;
+  words = forms.same-words;
+}
+
+range : RangeAndPatterns
+range = record {
+  ranges = altitudes.range-of-each;
+  patterns = altitudes.every-pattern-valid;
+  cases = twelve.in-the-new-form;
+  written-cases = twelve.written-in-the-new-form;
+}
+
+altitude-refusals : RefusalsOfAltitudes
+altitude-refusals = record { never-9 = forms.never-minus-zero; never-9-in-bytes = forms.never-minus-zero-in-bytes; eleven = forms.eleven-follows }
+
 -- ---- all of them
 
 pub requests : Requests
@@ -163,4 +190,11 @@ requests = record {
     refusals = index-refusals;
   };
   ticket-4 = record { counts = counts; stays = stays };
+  ticket-5 = record {
+    input = input;
+    from-c = altitudes.numbers-of-forms;
+    range = range;
+    one-form = record { demands = demands .each-form; sound = altitudes.forms-sound };
+    refusals = altitude-refusals;
+  };
 }

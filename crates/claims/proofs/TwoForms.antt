@@ -4,7 +4,6 @@ use Prim.Native.Nat.{ℕ, zero, suc, _+_, _-_, _/_, _%_, _≤_, _<_}
 use mathlib.Core.Path.{_≡_, refl, sym, ap, _∙_, subst}
 use mathlib.Core.Bool.{Bool, true, false, not, cond}
 use mathlib.Core.List.{List, [], _∷_, _++_}
-use mathlib.Core.Logic.{_↔_}
 use native.Mathlib.Nat.{zero-add}
 use native.Mathlib.Omega.{arith}
 use borrow.Author.Tests.{eq-eqb, ne-eqb, eqb-true, eqb-false, le-leb, lt-leb, leb-true, leb-false}
@@ -45,30 +44,10 @@ use Rattle.lines.specs.declared.What.the-variants as W
 use Rattle.lines.specs.declared.Outcome.{Outcome}
 use Rattle.lines.specs.Line.{outcomeOf, whatOf, placed, outcomeAt, runAt, lineRows, readBy}
 use Rattle.lines.specs.Bytes.{wordsIn, byteRows, readBytes}
-use Rattle.claims.specs.TwoForms.{Has, Within, RangeOfEach, EveryPatternValid, NumbersOfForms, dabsWith, atcrbsWith, heightBy, altitudeBy, ofHeight, ofAltitude, turn, turned, lowest, isMinusZero, answerAnew, NewReading, lowAltitude, EqualReadings, NeverMinusZero, NeverMinusZeroInBytes, whatAnew, outcomeAnew, runFrom, NewOutcome, NewOutcomeOfBytes, ElevenFollows, EqualWriting, SameWords}
+use Rattle.claims.specs.TwoForms.{dabsWith, atcrbsWith, heightBy, altitudeBy, ofHeight, ofAltitude, turn, turned, lowest, isMinusZero, answerAnew, NewReading, lowAltitude, EqualReadings, NeverMinusZero, NeverMinusZeroInBytes, whatAnew, outcomeAnew, runFrom, NewOutcome, NewOutcomeOfBytes, ElevenFollows, EqualWriting, SameWords}
 
--- ---- the forms
-
-pub numbers-of-forms : NumbersOfForms
-numbers-of-forms = record { own = own; zero = refl; any-other = λ n h. passed _ _ (ne-eqb n 0 (λ e. omega arith)) }
-  where
-    own : (form : Form) → formNumbered (formNumber form) ≡ form
-    own F.SignMagnitude = refl
-    own F.TwosComplement = refl
-
-pub every-pattern-valid : EveryPatternValid
-every-pattern-valid = record { none-refused = λ n. refl; has-altitude = λ n h. forms-sound F.TwosComplement .again n h refl }
-
--- a number is below 4096 exactly where the test that picks it holds
-within : (n m k : ℕ) → (n ≤ m → k < 4096) → (cond (leb n m) k 4096 < 4096) ↔ (n ≤ m)
-within n m k h = (there, λ l. subst (λ (x : ℕ). x < 4096) (sym (picked _ _ (le-leb n m l))) (h l))
-  where
-    there : cond (leb n m) k 4096 < 4096 → n ≤ m
-    there l = by-test (leb n m) (λ t. leb-true n m t) (λ t. let e : cond (leb n m) k 4096 ≡ 4096 = passed _ _ t in absurd (omega arith))
-
-pub range-of-each : RangeOfEach
-range-of-each (pos n) = (within n 2047 _ (λ l. omega arith), within n 2047 _ (λ l. omega arith))
-range-of-each (negsuc n) = (within (suc n) 2047 _ (λ l. omega arith), within (suc n) 2048 _ (λ l. omega arith))
+differ : {X : Type 0} → true ≡ false → X
+differ e = absurd (let z : _≡_ {A = ℕ} 0 1 = cc in omega arith)
 
 -- ---- the height of a report in two forms
 
@@ -157,7 +136,7 @@ first-bit ws = ap (λ (n : ℕ). eqb n 1) (let e : bits ws 79 90 / 2048 ≡ bits
 
 -- below zero in document 01's form: the altitude turned is the same bits in the new one
 turn-minus : (m : ℕ) → eqb m 0 ≡ false → turn (negℤ (pos m)) ≡ pos m -ℤ pos 2048
-turn-minus zero h = let z : _≡_ {A = ℕ} 0 1 = cc in absurd (omega arith)
+turn-minus zero h = differ h
 turn-minus (suc m) h = refl
 
 -- what is no minus zero: the altitude turned
@@ -287,7 +266,7 @@ report-none (R.Rdas r) = refl
 
 -- four tests of which the last is of two do not all hold where its first does not stand for it
 not-both : (a b c d e : Bool) → all (a ∷ b ∷ c ∷ d ∷ []) ≡ false → all (a ∷ b ∷ c ∷ all (d ∷ e ∷ []) ∷ []) ≡ false
-not-both true true true true e h = let z : _≡_ {A = ℕ} 0 1 = cc in absurd (omega arith)
+not-both true true true true e h = differ h
 not-both true true true false e h = refl
 not-both true true false d e h = refl
 not-both true false c d e h = refl
@@ -330,7 +309,7 @@ there-not-nine n f [] = refl
 there-not-nine n f (w ∷ ws) = run-not-nine (w ∷ ws)
 
 no-nine : {X : Type 0} (w : What) → nine w ≡ false → w ≡ W.Refused MinusZero → X
-no-nine w e k = let q : true ≡ false = sym (ap nine k) ∙ e in let z : _≡_ {A = ℕ} 0 1 = cc in absurd (omega arith)
+no-nine w e k = differ (sym (ap nine k) ∙ e)
 
 pub never-minus-zero : NeverMinusZero
 unfolding readBy
@@ -407,27 +386,27 @@ fits-and l n =
 -- a height that is an altitude, and one that is none
 by-altitude : (P : Height → Type 0) → ((z : ℤ) → P (H.Altitude z)) → (h : Height) → ofHeight (λ v. true) h ≡ true → P h
 by-altitude P p (H.Altitude z) e = p z
-by-altitude P p (H.Carried n) e = let z : _≡_ {A = ℕ} 0 1 = cc in absurd (omega arith)
-by-altitude P p (H.Cd c n) e = let z : _≡_ {A = ℕ} 0 1 = cc in absurd (omega arith)
-by-altitude P p (H.Mtd c n) e = let z : _≡_ {A = ℕ} 0 1 = cc in absurd (omega arith)
-by-altitude P p (H.Rdas c n) e = let z : _≡_ {A = ℕ} 0 1 = cc in absurd (omega arith)
+by-altitude P p (H.Carried n) e = differ (sym e)
+by-altitude P p (H.Cd c n) e = differ (sym e)
+by-altitude P p (H.Mtd c n) e = differ (sym e)
+by-altitude P p (H.Rdas c n) e = differ (sym e)
 
 module _ (form : AltitudeForm) (z : ℤ) where
   abbrev Ranges : Report → Type 0
   Ranges r = takes form (altitudeBy (λ v. z) r) ≡ all (takes signMagnitude (altitudeBy (λ v. pos 0) r) ∷ ltb (form .bitsOf z) 4096 ∷ [])
 
   range : (r : Report) → ofAltitude (λ v. true) r ≡ true → Ranges r
-  range (R.Search s) e = let z : _≡_ {A = ℕ} 0 1 = cc in absurd (omega arith)
-  range (R.Strobe s) e = let z : _≡_ {A = ℕ} 0 1 = cc in absurd (omega arith)
-  range (R.Map m) e = let z : _≡_ {A = ℕ} 0 1 = cc in absurd (omega arith)
-  range (R.Status s) e = let z : _≡_ {A = ℕ} 0 1 = cc in absurd (omega arith)
-  range (R.Rtqc s) e = let z : _≡_ {A = ℕ} 0 1 = cc in absurd (omega arith)
+  range (R.Search s) e = differ (sym e)
+  range (R.Strobe s) e = differ (sym e)
+  range (R.Map m) e = differ (sym e)
+  range (R.Status s) e = differ (sym e)
+  range (R.Rtqc s) e = differ (sym e)
   range (R.Dabs d) e =
       by-altitude (λ h. Ranges (R.Dabs (dabsWith d h))) (λ v. fits-and (layoutOf form (R.Dabs (dabsWith d (H.Altitude z)))) (form .bitsOf z)) (d .height) e
   range (R.Atcrbs a) e =
       by-altitude (λ h. Ranges (R.Atcrbs (atcrbsWith a h))) (λ v. fits-and (layoutOf form (R.Atcrbs (atcrbsWith a (H.Altitude z)))) (form .bitsOf z)) (a .height) e
-  range (R.Mtd m) e = let z : _≡_ {A = ℕ} 0 1 = cc in absurd (omega arith)
-  range (R.Rdas r) e = let z : _≡_ {A = ℕ} 0 1 = cc in absurd (omega arith)
+  range (R.Mtd m) e = differ (sym e)
+  range (R.Rdas r) e = differ (sym e)
 
 -- where two forms have the same bits for each altitude that the test passes, a report that it passes has the same words in both
 module _ (f g : AltitudeForm) (test : ℤ → Bool) (same : (z : ℤ) → test z ≡ false → f .bitsOf z ≡ g .bitsOf z) where
@@ -449,18 +428,15 @@ module _ (f g : AltitudeForm) (test : ℤ → Bool) (same : (z : ℤ) → test z
   layout-alike (R.Mtd m) e = refl
   layout-alike (R.Rdas r) e = refl
 
-never-holds : (z : ℤ) → true ≡ false → {X : Type 0} → X
-never-holds z e = absurd (let k : _≡_ {A = ℕ} 0 1 = cc in omega arith)
-
 pub eleven-follows : ElevenFollows
 eleven-follows = record {
   range = λ form r z. range (formOf form) z r;
-  no-altitude = λ form r e. ap fittingBy (layout-alike (formOf form) signMagnitude (λ v. true) (λ z k. never-holds z k) r e);
+  no-altitude = λ form r e. ap fittingBy (layout-alike (formOf form) signMagnitude (λ v. true) (λ z k. differ k) r e);
 }
 
 same-plus : (z : ℤ) → negative z ≡ false → twosComplement .bitsOf z ≡ signMagnitude .bitsOf z
 same-plus (pos n) e = ap (λ (k : ℕ). cond (leb n 2047) k 4096) (sym (zero-add n))
-same-plus (negsuc n) e = never-holds (pos 0) e
+same-plus (negsuc n) e = differ e
 
 pub equal-writing : EqualWriting
 equal-writing r e = ap (λ (l : List (List Field)). cond (fittingBy l) (asWritten (wordsBy l)) (M.Refused ValueTooLarge)) (layout-alike twosComplement signMagnitude negative same-plus r e)

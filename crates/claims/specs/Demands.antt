@@ -1,7 +1,7 @@
 -- The three demands on the converter, sentence by sentence, in their order. Each sentence stands in the user's own words; the definition under it
--- says it, by the definitions and claims of the crates below. Where altitudes matter it is said for every sound altitude form; document 01's is
--- one (`form` under MeanWhatIsPrinted). Demands, at the end, gathers all, and proofs/Demands.antt proves it as one value. Statements only, with
--- what they need to be said.
+-- says it, by the definitions and claims of the crates below. Where altitudes matter it is said for every sound altitude form; each form that a call
+-- can be given is one (`forms` under MeanWhatIsPrinted), and InEachForm says demands 2 and 3 for each of them. Demands, at the end, gathers all, and
+-- proofs/Demands.antt proves it as one value. Statements only, with what they need to be said.
 use Prim.Native.Nat.{ℕ, _+_, _-_, _/_, _%_, _≤_}
 use mathlib.Core.Path.{_≡_}
 use mathlib.Core.Bool.{true}
@@ -19,8 +19,10 @@ use Rattle.measures.specs.Claims as measures
 use Rattle.bits.specs.Bits.{Bytes}
 use Rattle.reports.specs.Claims as reports
 use Rattle.reports.specs.declared.Report.{Report}
-use Rattle.reports.specs.Altitude.{AltitudeForm, Sound}
-use Rattle.reports.specs.Layouts.{wordsOf}
+use Rattle.reports.specs.declared.RunAnswer.the-variants as A
+use Rattle.reports.specs.declared.altitude.Form.{Form}
+use Rattle.reports.specs.Altitude.{AltitudeForm, Sound, formOf}
+use Rattle.reports.specs.Layouts.{wordsOf, Fits}
 use Rattle.reports.specs.Runs.{readRun}
 use Rattle.reports.specs.Values.{Counted, Yields}
 use Rattle.reports.specs.declared.values.Values.{Values}
@@ -219,6 +221,25 @@ pub record OneOutcomeEach : Type 0 where
 abbrev pub OutsideStays : Type 0
 OutsideStays = lines.Replaced
 
+-- ---- demands 2 and 3 in each form of the altitude
+
+-- document 02, Ticket 5: "Demands 2 and 3 are read for one form at a time, the same for reader and writer." What is written above of any sound form,
+-- here of one: in reading and writing a report (runs), at a place of a line (on-a-line) and of bytes (in-bytes), and in lists of reports (equal-lists,
+-- list-back)
+pub record InOneForm (form : AltitudeForm) : Type 0 where
+  pub runs : (ws : List ℕ) (r : Report) → (readRun form ws ≡ A.Accepted r) ↔ ((ws ≡ wordsOf form r) × Fits form r)
+  pub on-a-line : (line : List ℕ) (place : ℕ) (r : Report) (next : ℕ) (exit : List ℕ) → Writes form line place r (P.Next next) exit
+      → readAt form exit place ≡ outcomeOf (W.Accepted r) place (next - 1) place
+  pub in-bytes : (bytes : List ℕ) (place : ℕ) (r : Report) (next : ℕ) (exit : List ℕ) → WritesBytes form bytes place r (P.Next next) exit
+      → readBytes form exit place ≡ outcomeOf (W.Accepted r) place (next - 1) place
+  pub equal-lists : (ss ts : List Spaced) (m n : ℕ) → AllFit form ss → Apart ss → AllFit form ts → Apart ts
+      → length (lineOf form ss m) ≤ most → lineOf form ss m ≡ lineOf form ts n → reportsOf ss ≡ reportsOf ts
+  pub list-back : (ss : List Spaced) (tail : ℕ) → AllFit form ss → Apart ss → length (lineOf form ss tail) ≤ most
+      → reportsIn (outcomes (readRun form) (lineOf form ss tail)) ≡ reportsOf ss
+
+abbrev pub InEachForm : Type 0
+InEachForm = (form : Form) → InOneForm (formOf form)
+
 -- ---- all of them
 
 pub record Demands : Type 0 where
@@ -235,3 +256,4 @@ pub record Demands : Type 0 where
   pub list-back : ReadingGivesTheList
   pub one-each : OneOutcomeEach
   pub replaced : OutsideStays
+  pub each-form : InEachForm

@@ -5,6 +5,7 @@ use Prim.Native.Nat.{ℕ, _<_}
 use mathlib.Core.Path.{_≡_}
 use mathlib.Core.List.{List, []}
 use Rattle.words.specs.Claims as words
+use Rattle.reports.specs.Claims as reports
 use Rattle.fields.specs.declared.Direction.{Direction}
 use Rattle.frames.specs.Frame.{frameOf, Fits}
 use Rattle.frames.specs.Writing.{Writes}
@@ -16,7 +17,9 @@ use Rattle.index.specs.declared.Indexed.{Indexed}
 use Rattle.index.specs.Entries.{uncorrelated, numberIn}
 use Rattle.index.specs.Indexing.{Indexes}
 use Rattle.index.specs.Claims as index
-use Rattle.claims.specs.Demands.{AllowsOne}
+use Rattle.claims.specs.Demands.{AllowsOne, InEachForm}
+use Rattle.claims.specs.Twelve.{InTheNewForm, WrittenInTheNewForm}
+use Rattle.claims.specs.TwoForms as forms
 use Rattle.claims.specs.Numbers.{NumbersDiffer, NoNumberIsZero}
 use Rattle.claims.specs.OneSegment as segment
 use Rattle.claims.specs.Folds.{FoldsAnswerTheSame}
@@ -206,6 +209,54 @@ pub record Ticket4 : Type 0 where
   pub counts : CountsTheOnes
   pub stays : ItsPromiseStays
 
+-- ---- Ticket 5: the other negative altitude
+
+-- "One sensor maker sends bits 79-90 as a twelve-bit two's complement number. Section 4.1.17 says "signed binary integer" and can be read so. Reading
+-- and writing an altitude now take the form as an input, and every caller passes it on from the public call." The promise of each of these calls has
+-- the form in it: judge of report_reader, words_of of report_writer, wide::read and bytes::read of line_reader, wide::write, bytes::write and
+-- bytes::answer of line_writer, and the C calls. What the new form reads is told by what document 01's reads: of a run (run), at a place of a line
+-- (place) and of bytes (place-of-bytes). Where no altitude has its first bit one, nothing differs (same). A report without an altitude below zero is
+-- written alike (written), and any other that document 01's form takes has the same words with its altitude turned (words)
+pub record TheFormAsAnInput : Type 0 where
+  pub run : forms.NewReading
+  pub place : forms.NewOutcome
+  pub place-of-bytes : forms.NewOutcomeOfBytes
+  pub same : forms.EqualReadings
+  pub written : forms.EqualWriting
+  pub words : forms.SameWords
+
+-- "From C it is a number: 0 is document 01's form, any other the new one. The lister uses document 01's." `listerForm` of listing/specs/Listing.antt is
+-- that one
+abbrev pub FormsFromC : Type 0
+FormsFromC = reports.NumbersOfForms
+
+-- "Document 01's form stays one choice, with its cases. In the new form the range is -2048 to 2047 and each pattern is valid." The cases are those of
+-- Demands (`twelve`); beside them stand those of the new form (cases, written-cases)
+pub record RangeAndPatterns : Type 0 where
+  pub ranges : reports.RangeOfEach
+  pub patterns : reports.EveryPatternValid
+  pub cases : InTheNewForm
+  pub written-cases : WrittenInTheNewForm
+
+-- "Demands 2 and 3 are read for one form at a time, the same for reader and writer. What is common is proved once over both." What is common is proved
+-- of every sound form; that both are sound (sound) is all that is proved of each by itself
+pub record OneFormAtATime : Type 0 where
+  pub demands : InEachForm
+  pub sound : reports.FormsSound
+
+-- "Refusals: 9 is never given in the new form; 11 follows its range."
+pub record RefusalsOfAltitudes : Type 0 where
+  pub never-9 : forms.NeverMinusZero
+  pub never-9-in-bytes : forms.NeverMinusZeroInBytes
+  pub eleven : forms.ElevenFollows
+
+pub record Ticket5 : Type 0 where
+  pub input : TheFormAsAnInput
+  pub from-c : FormsFromC
+  pub range : RangeAndPatterns
+  pub one-form : OneFormAtATime
+  pub refusals : RefusalsOfAltitudes
+
 -- ---- all of them
 
 pub record Requests : Type 0 where
@@ -213,3 +264,4 @@ pub record Requests : Type 0 where
   pub ticket-2 : Ticket2
   pub ticket-3 : Ticket3
   pub ticket-4 : Ticket4
+  pub ticket-5 : Ticket5

@@ -1,11 +1,13 @@
--- Document 01, "Twelve to prove": C1 to C12 as one table. A row has what is given and all that is answered, and Twelve, the claim at the end,
--- says that the written definitions answer every row so. Definitions only; proofs/Twelve.antt proves the claim by computing it.
+-- Document 01, "Twelve to prove": C1 to C12 as one table, in document 01's form of the altitude. A row has what is given and all that is answered,
+-- and Twelve, the claim at the end, says that the written definitions answer every row so. Beside it stands a table of cases in the new form
+-- (document 02, Ticket 5), with its own claim. Definitions only; proofs/Twelve.antt proves the claims by computing them.
 use Prim.Native.Nat.{ℕ, _*_, _/_}
 use mathlib.Core.Path.{_≡_}
 use mathlib.Core.Bool.{true, false}
 use mathlib.Core.List.{List, [], _∷_, _++_, map}
 use lib.IntN.{ℤ, pos, negℤ}
 use lib.ListN.{replicate}
+use Rattle.refusals.specs.declared.LineRefusal.the-variants.{ValueTooLarge}
 use Rattle.refusals.specs.Numbers.{lineNumber, fieldNumber}
 use Rattle.reports.specs.declared.Report.{Report}
 use Rattle.reports.specs.declared.Report.the-variants as R
@@ -13,8 +15,13 @@ use Rattle.reports.specs.declared.Height.{Height}
 use Rattle.reports.specs.declared.Height.the-variants.{Altitude, Cd}
 use Rattle.reports.specs.declared.kinds.Kind.{Kind}
 use Rattle.reports.specs.declared.kinds.Kind.the-variants.{Search, Dabs, DabsCd}
-use Rattle.reports.specs.Altitude.{signMagnitude}
+use Rattle.reports.specs.declared.altitude.Form.{Form}
+use Rattle.reports.specs.declared.altitude.Form.the-variants as F
+use Rattle.reports.specs.Altitude.{formOf}
 use Rattle.reports.specs.Kinds.{kindOf}
+use Rattle.reports.specs.declared.Written.{Written}
+use Rattle.reports.specs.declared.Written.the-variants as M
+use Rattle.reports.specs.Layouts.{asWritten, written}
 use Rattle.reports.specs.Runs.{readRun}
 use Rattle.reports.specs.Values.{Counted, counts, countedOf}
 use Rattle.lines.specs.declared.What.the-variants as W
@@ -79,9 +86,9 @@ abbrev messageOf : Answer → List ℤ → List ℕ → Reply
 messageOf (A.Accepted r) l t = message r l t
 messageOf (A.Refused q) l t = refusal (fieldNumber q) l t
 
-abbrev answerTo : Input → Reply
-answerTo (line ws) = calls (map callOf (outcomes (readRun signMagnitude) ws))
-answerTo (field s n w) = messageOf (readField s n w .answer) (readField s n w .list) (textOf s n w)
+abbrev answerTo : Form → Input → Reply
+answerTo form (line ws) = calls (map callOf (outcomes (readRun (formOf form)) ws))
+answerTo form (field s n w) = messageOf (readField s n w .answer) (readField s n w .list) (textOf s n w)
 
 -- ---- the table
 
@@ -172,8 +179,45 @@ table =
     (message (Single (TacticalUplink 0xA1B2C3 5 1 3 0)) (zeros 30) [])
     ∷ []
 
--- ---- the claim
+-- ---- the same words in the new form
+
+abbrev pub newTable : List Worked
+newTable =
+    -- C2: -204,500 ft, since -3 is -2048 + 3 there
+    worked (line (c2 3973 4102)) (one 7 (report Dabs (dabs (Altitude (negℤ (pos 2045)))) values))
+    -- C3, C2 ending 4096: the lowest altitude, -204,800 ft
+    ∷ worked (line (c2 3973 4096)) (one 7 (report Dabs (dabs (Altitude (negℤ (pos 2048)))) values))
+    -- C2 ending 4094, bits 79-90 011111111111: the highest, 204,700 ft
+    ∷ worked (line (c2 3973 4094)) (one 7 (report Dabs (dabs (Altitude (pos 2047))) values))
+    -- C2 ending 8191, bits 79-90 all ones: -100 ft
+    ∷ worked (line (c2 3973 8191)) (one 7 (report Dabs (dabs (Altitude (negℤ (pos 1)))) values))
+    -- C2 ending 1, bits 79-90 all zeros: sea level
+    ∷ worked (line (c2 3973 1)) (one 7 (report Dabs (dabs (Altitude (pos 0))) values))
+    -- C4: as in document 01's form
+    ∷ worked (line (c2 3974 4)) (one 7 (refused 7))
+    ∷ worked (line (c2 3974 8)) (one 7 (report DabsCd (dabs (Cd true (record { 0 = 0 }))) values))
+    ∷ []
+
+-- the words of C2 with this altitude, as the writer hands them out in the new form, or its refusal
+abbrev c2Written : ℤ → Written
+c2Written z = written (formOf F.TwosComplement) (dabs (Altitude z))
+
+-- ---- the claims
 
 -- what is given in each row is answered as the row tells
 abbrev pub Twelve : Type 0
-Twelve = map (λ (r : Worked). answerTo (r .input)) table ≡ map (λ (r : Worked). r .reply) table
+Twelve = map (λ (r : Worked). answerTo F.SignMagnitude (r .input)) table ≡ map (λ (r : Worked). r .reply) table
+
+-- and so in the new form
+abbrev pub InTheNewForm : Type 0
+InTheNewForm = map (λ (r : Worked). answerTo F.TwosComplement (r .input)) newTable ≡ map (λ (r : Worked). r .reply) newTable
+
+-- each of those altitudes is written back as the words that it was read from; -2049 and 2048 are 11
+pub record WrittenInTheNewForm : Type 0 where
+  pub of-c2 : c2Written (negℤ (pos 2045)) ≡ asWritten (c2 3973 4102)
+  pub lowest : c2Written (negℤ (pos 2048)) ≡ asWritten (c2 3973 4096)
+  pub highest : c2Written (pos 2047) ≡ asWritten (c2 3973 4094)
+  pub minus-one : c2Written (negℤ (pos 1)) ≡ asWritten (c2 3973 8191)
+  pub sea-level : c2Written (pos 0) ≡ asWritten (c2 3973 1)
+  pub too-low : c2Written (negℤ (pos 2049)) ≡ M.Refused ValueTooLarge
+  pub too-high : c2Written (pos 2048) ≡ M.Refused ValueTooLarge

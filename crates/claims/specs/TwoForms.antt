@@ -1,12 +1,11 @@
 -- Document 02, Ticket 5, "The other negative altitude": what the new form of the altitude answers, by what document 01's answers, in reading and in
 -- writing, and that nothing else differs between the two. Definitions and statements; proofs/TwoForms.antt proves them.
-use Prim.Native.Nat.{ℕ, _≤_, _<_}
+use Prim.Native.Nat.{ℕ}
 use mathlib.Core.Path.{_≡_}
 use mathlib.Core.Bool.{Bool, true, false, not, cond}
 use mathlib.Core.List.{List, [], _∷_}
-use mathlib.Core.Logic.{_↔_}
 use lib.Dec.{eqb, ltb}
-use lib.IntN.{ℤ, pos, negsuc, negℤ, _-ℤ_}
+use lib.IntN.{ℤ, pos, negℤ, _-ℤ_}
 use lib.ListN.{drop}
 use Rattle.refusals.specs.declared.LineRefusal.{LineRefusal}
 use Rattle.refusals.specs.declared.LineRefusal.the-variants.{MinusZero}
@@ -22,8 +21,7 @@ use Rattle.reports.specs.declared.Report.the-variants as R
 use Rattle.reports.specs.declared.RunAnswer.{RunAnswer}
 use Rattle.reports.specs.declared.RunAnswer.the-variants as A
 use Rattle.reports.specs.declared.altitude.Form.{Form}
-use Rattle.reports.specs.declared.altitude.Form.the-variants as F
-use Rattle.reports.specs.Altitude.{AltitudeForm, negative, signMagnitude, twosComplement, formOf, formNumber, formNumbered}
+use Rattle.reports.specs.Altitude.{negative, signMagnitude, twosComplement, formOf}
 use Rattle.reports.specs.Forms.{isSeven}
 use Rattle.reports.specs.Records.{reportOf}
 use Rattle.reports.specs.Layouts.{wordsOf, Fits, takes, written}
@@ -33,31 +31,6 @@ use Rattle.lines.specs.declared.What.the-variants as W
 use Rattle.lines.specs.declared.Outcome.{Outcome}
 use Rattle.lines.specs.Line.{runIn, outcomeOf, readAt}
 use Rattle.lines.specs.Bytes.{wordsIn, readBytes}
-
--- ---- the forms
-
--- the altitudes of a form: those that have twelve bits in it
-abbrev pub Has : AltitudeForm → ℤ → Type 0
-Has form z = form .bitsOf z < 4096
-
--- -least to greatest
-abbrev pub Within : ℕ → ℕ → ℤ → Type 0
-Within least greatest (pos n) = n ≤ greatest
-Within least greatest (negsuc n) = n < least
-
-abbrev pub RangeOfEach : Type 0
-RangeOfEach = (z : ℤ) → (Has signMagnitude z ↔ Within 2047 2047 z) × (Has twosComplement z ↔ Within 2048 2047 z)
-
--- every pattern is valid in the new form: twelve bits are one of its altitudes, and no two patterns are the same
-pub record EveryPatternValid : Type 0 where
-  pub none-refused : (n : ℕ) → twosComplement .refused n ≡ false
-  pub has-altitude : (n : ℕ) → n < 4096 → twosComplement .bitsOf (twosComplement .altitude n) ≡ n
-
--- from C: each form has its number, 0 is document 01's, and any other number is the new one's
-pub record NumbersOfForms : Type 0 where
-  pub own : (form : Form) → formNumbered (formNumber form) ≡ form
-  pub zero : formNumbered 0 ≡ F.SignMagnitude
-  pub any-other : (n : ℕ) → 0 < n → formNumbered n ≡ F.TwosComplement
 
 -- ---- a report with another altitude
 

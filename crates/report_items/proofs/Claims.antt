@@ -13,30 +13,35 @@ use lib.ListN.{length}
 use Rattle.words.proofs.Tests.{picked, passed, by-test}
 use Rattle.pairs.specs.Pairs.{Pair, pairsIn, findIn, isFound}
 use Rattle.reports.specs.declared.Report.{Report}
-use Rattle.reports.specs.Altitude.{AltitudeForm, signMagnitude}
+use Rattle.reports.specs.declared.altitude.Form.{Form}
+use Rattle.reports.specs.declared.altitude.Form.the-variants as F
+use Rattle.reports.specs.Altitude.{AltitudeForm}
 use Rattle.reports.specs.Kinds.{kindOf, kindNumber, dabsKind, atcrbsKind}
 use Rattle.reports.specs.Layouts.{Takes}
+use Rattle.reports.specs.Claims.{Within}
+use Rattle.reports.proofs.Altitudes.{range-of-each}
 use Rattle.reports.proofs.Demand2.{takes-fits}
 use Rattle.report_items.specs.declared.items.Item.{Item}
 use Rattle.report_items.specs.declared.items.Item.the-variants as I
 use Rattle.report_items.specs.Items.{altitude, last, itemsOf, itemOf}
 use Rattle.report_items.specs.Given.{itemGiven, valuesIn, plainGiven, built, builtFrom, sameItem, agreeTo, agree, givenBy, given, unfit}
-use Rattle.report_items.specs.Claims.{ItemsOf, InSixteenBits, FitsSixteenBits, SignMagnitudeFits, GivenExactly, NoneIsTaken}
+use Rattle.report_items.specs.Claims.{ItemsOf, InSixteenBits, FitsSixteenBits, FormsFit, GivenExactly, NoneIsTaken}
 use Rattle.report_items.proofs.Back.{both, back}
 
 pub none-is-taken : NoneIsTaken
 none-is-taken form e = let z : _≡_ {A = ℕ} 0 1 = cc in omega arith
 
-pub sign-magnitude-fits : SignMagnitudeFits
-sign-magnitude-fits z h =
-    by-test (leb (natAbs z) 2047) (λ t. small z (leb-true _ _ t))
-    (λ t.
-    let e : signMagnitude .bitsOf z ≡ 4096 = passed _ _ t in
-    absurd (omega arith))
+small : (z : ℤ) → Within 2048 2047 z → InSixteenBits z
+small (pos n) l = omega arith
+small (negsuc n) l = omega arith
+
+pub forms-fit : FormsFit
+forms-fit F.SignMagnitude z h = small z (wider z (range-of-each z .0 .0 h))
   where
-    small : (z : ℤ) → natAbs z ≤ 2047 → InSixteenBits z
-    small (pos n) l = omega arith
-    small (negsuc n) l = omega arith
+    wider : (z : ℤ) → Within 2047 2047 z → Within 2048 2047 z
+    wider (pos n) l = l
+    wider (negsuc n) l = omega arith
+forms-fit F.TwosComplement z h = small z (range-of-each z .1 .0 h)
 
 -- ---- the same item
 

@@ -7,7 +7,8 @@ use lib.IntN.{ℤ, pos, negsuc}
 use lib.ListN.{length}
 use Rattle.pairs.specs.Pairs.{pairsIn}
 use Rattle.reports.specs.declared.Report.{Report}
-use Rattle.reports.specs.Altitude.{AltitudeForm, signMagnitude}
+use Rattle.reports.specs.declared.altitude.Form.{Form}
+use Rattle.reports.specs.Altitude.{AltitudeForm, formOf}
 use Rattle.reports.specs.Kinds.{kindOf, kindNumber}
 use Rattle.reports.specs.Layouts.{Takes}
 use Rattle.report_items.specs.Items.{last, itemsOf, itemOf}
@@ -28,9 +29,9 @@ InSixteenBits (negsuc n) = n < 2 ^ 15
 abbrev pub FitsSixteenBits : AltitudeForm → Type 0
 FitsSixteenBits form = (z : ℤ) → form .bitsOf z < 4096 → InSixteenBits z
 
--- document 01's form is so
-abbrev pub SignMagnitudeFits : Type 0
-SignMagnitudeFits = FitsSixteenBits signMagnitude
+-- each form that a call can be given is so
+abbrev pub FormsFit : Type 0
+FormsFit = (form : Form) → FitsSixteenBits (formOf form)
 
 -- a report that the writer takes is given by its own kind and its own items, in any order, and by nothing else
 abbrev pub GivenExactly : Type 0

@@ -1,7 +1,8 @@
--- The two forms of the altitude: in each, the two ways undo each other. Assumes nothing.
+-- The two forms of the altitude: in each, the two ways undo each other; their ranges and numbers. Assumes nothing.
 use Prim.Native.Nat.{ℕ, zero, suc, _+_, _-_, _*_, _/_, _%_, _≤_, _<_}
-use mathlib.Core.Path.{_≡_, refl, ap, sym, _∙_}
+use mathlib.Core.Path.{_≡_, refl, ap, sym, subst, _∙_}
 use mathlib.Core.Bool.{Bool, true, false, cond}
+use mathlib.Core.Logic.{_↔_}
 use native.Mathlib.Omega.{arith}
 use borrow.Author.Tests.{eq-eqb, ne-eqb, eqb-true, eqb-false, leb-true, le-leb, lt-ltb}
 use lib.Dec.{eqb, leb, eqb·suc-zero}
@@ -9,7 +10,8 @@ use lib.IntN.{ℤ, pos, negsuc, _-ℤ_}
 use Rattle.words.proofs.Tests.{picked, passed, by-test}
 use Rattle.reports.specs.declared.altitude.Form.{Form}
 use Rattle.reports.specs.declared.altitude.Form.the-variants as F
-use Rattle.reports.specs.Altitude.{Sound, sign, magnitude, signed, signMagnitude, twosComplement, formOf}
+use Rattle.reports.specs.Altitude.{Sound, sign, magnitude, signed, signMagnitude, twosComplement, formOf, formNumber, formNumbered}
+use Rattle.reports.specs.Claims.{RangeOfEach, EveryPatternValid, NumbersOfForms}
 
 -- ---- document 01's form: from an altitude to its bits and back
 
@@ -82,3 +84,21 @@ twos-again n l h = by-test (sign n) minus plus
 pub forms-sound : (form : Form) → Sound (formOf form)
 forms-sound F.SignMagnitude = record { back = back; again = again }
 forms-sound F.TwosComplement = record { back = twos-back; again = twos-again }
+
+-- a number is below 4096 exactly where the test that picks it holds
+within : (n m k : ℕ) → (n ≤ m → k < 4096) → (cond (leb n m) k 4096 < 4096) ↔ (n ≤ m)
+within n m k h = (λ l. leb-true n m (in-range (leb n m) k l), λ l. subst (λ (x : ℕ). x < 4096) (sym (picked _ _ (le-leb n m l))) (h l))
+
+pub range-of-each : RangeOfEach
+range-of-each (pos n) = (within n 2047 _ (λ l. omega arith), within n 2047 _ (λ l. omega arith))
+range-of-each (negsuc n) = (within (suc n) 2047 _ (λ l. omega arith), within (suc n) 2048 _ (λ l. omega arith))
+
+pub every-pattern-valid : EveryPatternValid
+every-pattern-valid = record { none-refused = λ n. refl; has-altitude = λ n h. twos-again n h refl }
+
+pub numbers-of-forms : NumbersOfForms
+numbers-of-forms = record { own = own; document = refl; any-other = λ n h. passed _ _ (ne-eqb n 0 (λ e. omega arith)) }
+  where
+    own : (form : Form) → formNumbered (formNumber form) ≡ form
+    own F.SignMagnitude = refl
+    own F.TwosComplement = refl

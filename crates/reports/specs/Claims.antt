@@ -1,10 +1,11 @@
--- What is claimed of reports, in any sound form of the altitude: demand 2, and each refusal exactly under its condition. Statements only;
--- proofs/Claims.antt, Demand2.antt and Refusals.antt prove them.
-use Prim.Native.Nat.{ℕ}
+-- What is claimed of the forms of the altitude, and of reports in any sound form: demand 2, and each refusal exactly under its condition. Statements
+-- only; proofs/Claims.antt, Altitudes.antt, Demand2.antt and Refusals.antt prove them.
+use Prim.Native.Nat.{ℕ, _≤_, _<_}
 use mathlib.Core.Path.{_≡_}
-use mathlib.Core.Bool.{true}
+use mathlib.Core.Bool.{true, false}
 use mathlib.Core.List.{List, [], _∷_}
 use mathlib.Core.Logic.{_↔_, _⊎_}
+use lib.IntN.{ℤ, pos, negsuc}
 use lib.ListN.{length, getD}
 use Rattle.rows.specs.Claims.{FirstIs}
 use Rattle.refusals.specs.declared.LineRefusal.{LineRefusal}
@@ -12,15 +13,38 @@ use Rattle.words.specs.Word.{tooWide, even, first}
 use Rattle.reports.specs.declared.Report.{Report}
 use Rattle.reports.specs.declared.RunAnswer.the-variants.{Accepted, Refused}
 use Rattle.reports.specs.declared.altitude.Form.{Form}
-use Rattle.reports.specs.Altitude.{AltitudeForm, Sound, formOf}
+use Rattle.reports.specs.declared.altitude.Form.the-variants as F
+use Rattle.reports.specs.Altitude.{AltitudeForm, Sound, signMagnitude, twosComplement, formOf, formNumber, formNumbered}
 use Rattle.words.specs.Layout.{twelveEach}
 use Rattle.reports.specs.Layouts.{layoutOf, wordsOf, Fits, Takes, asWritten, written}
 use Rattle.reports.specs.Conditions.{HasLayout}
 use Rattle.reports.specs.Runs.{tableOf, judged, readRun}
 
--- each form of the altitude that a call can be given, document 01's and the other one, is one of those of which the claims below speak
+-- ---- the forms of the altitude
+
+-- each form that a call can be given, document 01's and the other one, is one of those of which the claims below speak
 abbrev pub FormsSound : Type 0
 FormsSound = (form : Form) → Sound (formOf form)
+
+-- -least to greatest
+abbrev pub Within : ℕ → ℕ → ℤ → Type 0
+Within least greatest (pos n) = n ≤ greatest
+Within least greatest (negsuc n) = n < least
+
+-- the altitudes that have twelve bits in each
+abbrev pub RangeOfEach : Type 0
+RangeOfEach = (z : ℤ) → ((signMagnitude .bitsOf z < 4096) ↔ Within 2047 2047 z) × ((twosComplement .bitsOf z < 4096) ↔ Within 2048 2047 z)
+
+-- every pattern is valid in the new form: none is refused, and twelve bits are the bits of the altitude that they say
+pub record EveryPatternValid : Type 0 where
+  pub none-refused : (n : ℕ) → twosComplement .refused n ≡ false
+  pub has-altitude : (n : ℕ) → n < 4096 → twosComplement .bitsOf (twosComplement .altitude n) ≡ n
+
+-- from C: each form has its number, 0 is document 01's, and any other number is the new one's
+pub record NumbersOfForms : Type 0 where
+  pub own : (form : Form) → formNumbered (formNumber form) ≡ form
+  pub document : formNumbered 0 ≡ F.SignMagnitude
+  pub any-other : (n : ℕ) → 0 < n → formNumbered n ≡ F.TwosComplement
 
 -- ---- demand 2
 
