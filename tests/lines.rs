@@ -1,6 +1,6 @@
 // Works out what crates/lines_test reads and must print, from document 01's "The line" and "Line refusal numbers"; what a run alone is, it
-// has from tests/document.rs. `lines stdin` writes the cases, `lines stdout` what must be printed of them. Besides chosen cases there are
-// random ones, from a fixed seed.
+// has from tests/document.rs, and what differs in the new form of the altitude from document 02, Ticket 5. `lines stdin` writes the cases,
+// `lines stdout` what must be printed of them. Besides chosen cases there are random ones, from a fixed seed.
 mod document;
 use std::io::Write;
 
@@ -14,11 +14,25 @@ const ATCRBS: [u16; 7] = [3333, 1281, 1022, 868, 1281, 2048, 647];
 
 // ---- a run: the number of its refusal and the offset of the word that it names, or nothing
 
-fn refusal(run: &[u16]) -> Option<(u8, usize)> {
+// 9 is never given in the new form, and it is the last that is tested.
+fn refusal(run: &[u16], form: u16) -> Option<(u8, usize)> {
     match document::read(document::all_forms(), run) {
         document::Read::Report(_) => None,
+        document::Read::Refused(9, _) if form != 0 => None,
         document::Read::Refused(number, offset) => Some((number, offset)),
     }
+}
+
+// The words of the report that is read in document 01's form, written in this one: -v hundreds of feet, a sign and v, are 4096 - v.
+fn in_form(words: &[u16], form: u16) -> Vec<u16> {
+    let mut written = words.to_vec();
+    let bits = document::string(words);
+    let altitude = words.len() == 7 && &bits[5..6] == "1" && &bits[11..12] == "0";
+    if form != 0 && altitude && &bits[78..79] == "1" {
+        let data = 4096 - (words[6] / 2 - 2048);
+        written[6] = 2 * data + (data.count_ones() as u16 + 1) % 2;
+    }
+    written
 }
 
 // ---- a case
@@ -27,6 +41,7 @@ struct Case {
     what: u16, // 0 read, 1 read one byte fewer, 2 write the report of the words, 3 write a report with a value too large
     n: usize,
     place: u16,
+    form: u16,
     words: Vec<u16>, // repeated along the line
 }
 
@@ -34,7 +49,7 @@ fn place_of(place: u16) -> u64 {
     if place == FAR { u64::MAX } else { place as u64 }
 }
 
-fn read(line: &[u16], place: u16, out: &mut String) {
+fn read(line: &[u16], place: u16, form: u16, out: &mut String) {
     let shown = line.len() <= 64;
     let say = |text: String, out: &mut String| {
         if shown {
@@ -59,7 +74,7 @@ fn read(line: &[u16], place: u16, out: &mut String) {
             if !run.is_empty() {
                 let after = at + run.len();
                 calls += 1;
-                match refusal(run) {
+                match refusal(run, form) {
                     None => {
                         reports += 1;
                         reported += run.len();
@@ -113,14 +128,14 @@ fn answer(case: &Case, out: &mut String) {
     match case.what {
         0 => {
             let line: Vec<u16> = (0..case.n).map(|i| words[i % words.len()]).collect();
-            read(&line, case.place, out);
+            read(&line, case.place, case.form, out);
         }
         1 => {
             let number = if 2 * case.n - 1 > 2 * MOST { 2 } else { 14 };
             let at = place_of(case.place);
             out.push_str(&format!("REFUSED {} {} {} {}\n", number, at, at, at));
         }
-        2 => write(case.n, case.place, Some(words), out),
+        2 => write(case.n, case.place, Some(&in_form(words, case.form)), out),
         _ => write(case.n, case.place, None, out),
     }
 }
@@ -128,7 +143,7 @@ fn answer(case: &Case, out: &mut String) {
 // ---- the cases
 
 fn whole(words: &[u16]) -> Case {
-    Case { what: 0, n: words.len(), place: 0, words: words.to_vec() }
+    Case { what: 0, n: words.len(), place: 0, form: 0, words: words.to_vec() }
 }
 
 // Runs of each outcome.
@@ -195,7 +210,7 @@ fn cases() -> Vec<Case> {
     flipped[2] = IDLE;
     all.push(whole(&flipped));
     for (n, place) in [(0, 0), (0, 1), (0, FAR), (5, 0), (5, 3), (5, 5), (5, 6)] {
-        all.push(Case { what: 0, n, place, words: vec![IDLE] });
+        all.push(Case { what: 0, n, place, form: 0, words: vec![IDLE] });
     }
     let spaced = [&C1[..], &[IDLE]].concat();
     let seven = [&C2[..], &[IDLE]].concat();
@@ -212,28 +227,52 @@ fn cases() -> Vec<Case> {
         (MOST + 1, vec![IDLE]),
     ] {
         for place in [0, 3, 32767, 32768, 32769, FAR] {
-            all.push(Case { what: 0, n, place, words: words.clone() });
+            all.push(Case { what: 0, n, place, form: 0, words: words.clone() });
         }
     }
     for (n, place) in [(1, 0), (5, 2), (5, FAR), (MOST, 0), (MOST + 1, 0), (MOST + 1, FAR)] {
-        all.push(Case { what: 1, n, place, words: vec![] });
+        all.push(Case { what: 1, n, place, form: 0, words: vec![] });
     }
     for words in [C1.to_vec(), C2.to_vec(), ATCRBS.to_vec()] {
         let k = words.len();
         for n in [k - 1, k, k + 1, k + 2, 30, MOST, MOST + 1] {
             for place in [0, 1, n.saturating_sub(k + 1), n.saturating_sub(k), n, n + 1] {
-                all.push(Case { what: 2, n, place: place as u16, words: words.clone() });
+                all.push(Case { what: 2, n, place: place as u16, form: 0, words: words.clone() });
             }
-            all.push(Case { what: 2, n, place: FAR, words: words.clone() });
+            all.push(Case { what: 2, n, place: FAR, form: 0, words: words.clone() });
         }
     }
     for (n, place) in [(10, 0), (3, 0), (3, 3), (3, 4), (MOST, 0), (MOST + 1, 0), (MOST + 1, FAR)] {
-        all.push(Case { what: 3, n, place, words: vec![] });
+        all.push(Case { what: 3, n, place, form: 0, words: vec![] });
     }
     let mut seed = 19801980;
     for _ in 0..100 {
         all.push(whole(&random_line(&mut seed)));
     }
+    all.extend(new_form(&mut seed));
+    all
+}
+
+// The new form of the altitude: every run, the line of the lister's example, random lines, and each report written.
+fn new_form(seed: &mut u64) -> Vec<Case> {
+    let anew = |case: Case| Case { form: 1, ..case };
+    let mut all: Vec<Case> = runs().iter().map(|run| anew(whole(run))).collect();
+    let sample = [IDLE, 868, 1281, 2048, 647, IDLE, IDLE, 3973, 1281, 256, 7, 5175, 1414, 4096];
+    for place in [0, 6, 9, 13, 14, 15, FAR] {
+        all.push(anew(Case { place, ..whole(&sample) }));
+    }
+    for _ in 0..50 {
+        all.push(anew(whole(&random_line(seed))));
+    }
+    for (n, place) in [(5, 2), (MOST + 1, FAR)] {
+        all.push(Case { what: 1, n, place, form: 1, words: vec![] });
+    }
+    for words in [C1.to_vec(), C2.to_vec(), ATCRBS.to_vec(), [&C2[..6], &[8191]].concat(), [&C2[..6], &[4094]].concat()] {
+        for (n, place) in [(30, 0), (30, 22), (30, 23), (30, 31), (MOST, 3), (MOST + 1, 0)] {
+            all.push(Case { what: 2, n, place, form: 65535, words: words.clone() });
+        }
+    }
+    all.push(Case { what: 3, n: 10, place: 0, form: 1, words: vec![] });
     all
 }
 
@@ -243,9 +282,9 @@ fn main() {
     for case in cases() {
         assert!(case.words.len() <= 64 && case.n <= MOST + 1, "a case does not fit");
         if told == "stdin" {
-            let mut numbers = vec![case.what, case.n as u16, case.words.len() as u16, case.place];
+            let mut numbers = vec![case.what, case.n as u16, case.words.len() as u16, case.place, case.form];
             numbers.extend(&case.words);
-            numbers.resize(68, 0);
+            numbers.resize(69, 0);
             out.extend(numbers.iter().flat_map(|n| n.to_be_bytes()));
         } else {
             let mut text = String::new();

@@ -1,6 +1,6 @@
 // Reads lines of its standard input with both readers, call by call to the end, and writes reports into lines.
-// A case is 68 numbers of two bytes: what to do, how many words the line has, how many words are repeated along it, the place, and 64 words
-// of which so many are repeated. tests/lines.rs works out the cases and what must be printed.
+// A case is 69 numbers of two bytes: what to do, how many words the line has, how many words are repeated along it, the place, the altitude's form,
+// and 64 words of which so many are repeated. tests/lines.rs works out the cases and what must be printed.
 ghost use Prim.Native.Nat.{_<_};
 use libc::STDIN_FILENO;
 use lines::What;
@@ -10,6 +10,7 @@ use measures::RunLength;
 use measures::Time;
 use reports::Report;
 use reports::Search;
+use reports::altitude::Form;
 
 mod lent; // lent.rt: the line and its bytes, filled
 mod print; // print.rt: outcomes, answers and words
@@ -28,8 +29,8 @@ fn widened(byte: u8) -> u16
 }
 
 // The two bytes at a place of a case, as a number.
-fn number(case: [u8; 136], at: usize) -> u16
-    requires { ⌜ at < 68 ⌝ }
+fn number(case: [u8; 138], at: usize) -> u16
+    requires { ⌜ at < 69 ⌝ }
 {
     widened(case[at * 2]) * 256 + widened(case[at * 2 + 1])
 }
@@ -41,19 +42,27 @@ fn place_of(n: u16) -> usize {
     n as usize
 }
 
-// The words that are repeated, behind the first four numbers.
-fn repeated(case: [u8; 136]) -> [u16; 64] {
+// The words that are repeated, behind the first five numbers.
+fn repeated(case: [u8; 138]) -> [u16; 64] {
     let mut words = [0u16; 64];
     let mut i: usize = 0;
     while i < 64 {
-        words[i] = number(case, i + 4);
+        words[i] = number(case, i + 5);
         i += 1;
     }
     words
 }
 
 // A line read from a place to its end, each outcome printed where the line is short.
-fn read_line(line: &mut [u16], bytes: &mut [u8], n: usize, k: usize, place: usize, words: [u16; 64])
+fn read_line(
+    line: &mut [u16],
+    bytes: &mut [u8],
+    n: usize,
+    k: usize,
+    place: usize,
+    form: Form,
+    words: [u16; 64],
+)
     requires { ⌜ n < 65536 ⌝ }
 {
     if line.len() < n {
@@ -64,11 +73,11 @@ fn read_line(line: &mut [u16], bytes: &mut [u8], n: usize, k: usize, place: usiz
     }
     lent::fill(&mut line[0..n], words, k);
     lent::spell(bytes, &line[0..n]);
-    walk::to_the_end(&line[0..n], &bytes[0..n * 2], place, n <= 64);
+    walk::to_the_end(&line[0..n], &bytes[0..n * 2], place, form, n <= 64);
 }
 
 // One byte fewer than the words have.
-fn read_odd(bytes: &[u8], n: usize, place: usize)
+fn read_odd(bytes: &[u8], n: usize, place: usize, form: Form)
     requires { ⌜ n < 65536 ⌝ }
 {
     if n == 0 {
@@ -78,33 +87,33 @@ fn read_odd(bytes: &[u8], n: usize, place: usize)
     if bytes.len() < odd {
         return;
     }
-    print::outcome(line_reader::bytes::read(&bytes[0..odd], place));
+    print::outcome(line_reader::bytes::read(&bytes[0..odd], place, form));
 }
 
 // A report written into a line whose words are numbered.
-fn write_report(line: &mut [u16], n: usize, place: usize, report: Report) {
+fn write_report(line: &mut [u16], n: usize, place: usize, form: Form, report: Report) {
     if line.len() < n {
         return;
     }
     lent::numbered(&mut line[0..n]);
-    print::answer(line_writer::wide::write(&mut line[0..n], place, report));
+    print::answer(line_writer::wide::write(&mut line[0..n], place, form, report));
     print::changed(&line[0..n]);
 }
 
-// What the first k words are.
+// What the first k words are in document 01's form.
 fn what_of(words: &[u16], k: usize) -> What {
     if words.len() < k {
         return What::End;
     }
-    let found = line_reader::wide::read(&words[0..k], 0);
+    let found = line_reader::wide::read(&words[0..k], 0, Form::SignMagnitude);
     found.what
 }
 
-// The report that the words are, written.
-fn write_read(line: &mut [u16], n: usize, k: usize, place: usize, words: [u16; 64]) {
+// The report that the words are in document 01's form, written in this one.
+fn write_read(line: &mut [u16], n: usize, k: usize, place: usize, form: Form, words: [u16; 64]) {
     let what = what_of(&words, k);
     match what {
-        What::Accepted(report) => write_report(line, n, place, report),
+        What::Accepted(report) => write_report(line, n, place, form, report),
         What::Refused(_) => print::line(b"NO REPORT"),
         What::End => print::line(b"NO REPORT"),
     }
@@ -125,35 +134,36 @@ fn too_large() -> Report {
     })
 }
 
-fn one_case(case: [u8; 136]) {
+fn one_case(case: [u8; 138]) {
     let what = number(case, 0);
     let n = number(case, 1) as usize;
     let k = number(case, 2) as usize;
     let place = place_of(number(case, 3));
+    let form = Form::numbered(number(case, 4) as u32);
     let words = repeated(case);
     let mut line = [0u16; ROOM];
     let mut bytes = [0u8; ROOM * 2];
     if what == 0 {
-        read_line(&mut line, &mut bytes, n, k, place, words);
+        read_line(&mut line, &mut bytes, n, k, place, form, words);
         return;
     }
     if what == 1 {
-        read_odd(&bytes, n, place);
+        read_odd(&bytes, n, place, form);
         return;
     }
     if what == 2 {
-        write_read(&mut line, n, k, place, words);
+        write_read(&mut line, n, k, place, form, words);
         return;
     }
-    write_report(&mut line, n, place, too_large());
+    write_report(&mut line, n, place, form, too_large());
 }
 
 // The cases of standard input, of which there are fewer than a thousand.
 fn cases() {
     let mut left: usize = 1000;
     while 0 < left {
-        let mut case = [0u8; 136];
-        if io::read_full(STDIN_FILENO, &mut case) < 136 {
+        let mut case = [0u8; 138];
+        if io::read_full(STDIN_FILENO, &mut case) < 138 {
             return;
         }
         one_case(case);

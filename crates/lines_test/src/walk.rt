@@ -1,6 +1,7 @@
-// A line read call by call, continuing from the place given, in both forms.
+// A line read call by call, continuing from the place given: lent as words and as bytes.
 use lines::Outcome;
 use lines::What;
+use reports::altitude::Form;
 
 // How many calls, reports and refusals, the words in each, and how often the two readers differ.
 struct Tally {
@@ -118,7 +119,7 @@ fn write(text: &[u8]) {
     io::write_all(libc::STDOUT_FILENO, text);
 }
 
-pub fn to_the_end(words: &[u16], bytes: &[u8], place: usize, shown: bool) {
+pub fn to_the_end(words: &[u16], bytes: &[u8], place: usize, form: Form, shown: bool) {
     let mut t = Tally {
         calls: 0,
         reports: 0,
@@ -130,8 +131,8 @@ pub fn to_the_end(words: &[u16], bytes: &[u8], place: usize, shown: bool) {
     let mut at = place;
     let mut left: usize = CALLS;
     while 0 < left {
-        let o = line_reader::wide::read(words, at);
-        t = tallied(t, o, differing(o, line_reader::bytes::read(bytes, at)));
+        let o = line_reader::wide::read(words, at, form);
+        t = tallied(t, o, differing(o, line_reader::bytes::read(bytes, at, form)));
         if shown {
             crate::print::outcome(o);
         }
