@@ -45,17 +45,8 @@ fn either(rng: &mut Rng) -> u32 {
 // ---- lines
 
 /// Bits 79-90 at the ends of both forms: the greatest number, zero, minus zero, and those next to them.
-const ENDS: &[&str] = &[
-    "000000000000",
-    "000000000001",
-    "011111111110",
-    "011111111111",
-    "100000000000",
-    "100000000001",
-    "110000000000",
-    "111111111110",
-    "111111111111",
-];
+const ENDS: &[&str] =
+    &["000000000000", "000000000001", "011111111110", "011111111111", "100000000000", "100000000001", "110000000000", "111111111110", "111111111111"];
 
 fn pattern(rng: &mut Rng) -> String {
     match rng.below(5) {
@@ -87,7 +78,7 @@ fn run(rng: &mut Rng, tables: &Tables) -> Vec<u16> {
     report::to_words(&text)
 }
 
-/// A line as document 01's form has them, in two's complement.
+/// A line as document 01's form has them, in two's complement, where any bits 79-90 are an altitude.
 pub fn line(tables: &Tables, seed: u64, number: u64) -> Case {
     let rng = &mut Rng::new(seed, LINE, number);
     let form = complement(rng);
@@ -116,7 +107,8 @@ fn altitude(rng: &mut Rng, turn: u64) -> i64 {
         1 => -2049,
         2 => 2048,
         3 => near,
-        4 | 5 => rng.between(0, 8_400) as i64 - 4_200,
+        4 => rng.between(0, 4_095) as i64 - 2_048,
+        5 => rng.between(0, 8_400) as i64 - 4_200,
         6 => near ^ (1 << rng.between(12, 63)),
         _ => rng.next() as i64,
     }

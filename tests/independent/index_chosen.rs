@@ -595,12 +595,7 @@ fn longest_lines(tables: &Tables) -> Vec<Named> {
         bytes.extend(vec![0; more]);
         let last = 32_768 - 7;
         let steps = vec![enter(0, 0, 1), enter(0, 7, 1), enter(0, last, 1), enter(0, last + 1, 1), enter(0, last + 7, 1)];
-        cases.extend(checked(
-            tables,
-            &format!("65,536 bytes and {} more", more),
-            Indexing::alone(table_of("0 0"), vec![bytes], steps),
-            &gets,
-        ));
+        cases.extend(checked(tables, &format!("65,536 bytes and {} more", more), Indexing::alone(table_of("0 0"), vec![bytes], steps), &gets));
     }
     cases
 }

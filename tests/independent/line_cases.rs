@@ -359,8 +359,7 @@ pub fn spoil_in_turn(layout: &Layout, items: &mut Vec<(u64, u64)>, at: usize, wa
     let (_, rule, piece) = layout.item_pieces().nth(at).expect("an item of the layout");
     let largest = largest(piece.width(), rule);
     let beyond = largest + 1;
-    let values =
-        [0, 1, 2, 7, largest, beyond, beyond.wrapping_neg(), largest.wrapping_neg(), u64::MAX, 1 << 63, largest + (1 << 32)];
+    let values = [0, 1, 2, 7, largest, beyond, beyond.wrapping_neg(), largest.wrapping_neg(), u64::MAX, 1 << 63, largest + (1 << 32)];
     match way {
         0..=10 => items[at].1 = values[way],
         11 => {
@@ -410,8 +409,7 @@ fn written(rng: &mut Rng, tables: &Tables, place: u64, form: u32) -> (Write, usi
 
 /// The same with each item of each layout spoilt in each way, by turns.
 fn written_in_turn(rng: &mut Rng, tables: &Tables, turn: usize, place: u64, form: u32) -> (Write, usize) {
-    let choices: Vec<(&Layout, usize)> =
-        tables.of(form).iter().flat_map(|layout| (0..layout.items().len()).map(move |at| (layout, at))).collect();
+    let choices: Vec<(&Layout, usize)> = tables.of(form).iter().flat_map(|layout| (0..layout.items().len()).map(move |at| (layout, at))).collect();
     let (layout, at) = choices[turn / WAYS % choices.len()];
     let mut items = valid_items(rng, layout);
     spoil_in_turn(layout, &mut items, at, turn % WAYS);
