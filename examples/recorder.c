@@ -1,7 +1,7 @@
 /*
- * A small recorder. It reads a recording from standard input. It prints each report with its values and units, and each refusal with its
- * reason. At the end it prints how many reports of each kind there were, how many refusals, and how many reports had a height: so one sees at
- * once that a recording has no heights.
+ * A small recorder: recorder [--twos-complement]. It reads a recording from standard input. It prints each report with its values and units, and
+ * each refusal with its reason. At the end it prints how many reports of each kind there were, how many refusals, and how many reports had a height:
+ * so one sees at once that a recording has no heights. With --twos-complement it reads altitudes in that form: some sensors send them so.
  */
 #include <inttypes.h>
 #include <stdio.h>
@@ -9,6 +9,7 @@
 
 #include "siamrung.h"
 
+#include "altitude_form.h"
 #include "line_reason.h"
 
 /* One byte more than a line may have, so that the library sees when a recording is too long. */
@@ -35,23 +36,30 @@ static const struct {
     {SIAMRUNG_ITEM_QUALITY, "quality", 1, ""},
 };
 
-static void print_report(const uint8_t *bytes, size_t length, size_t place, uint32_t kind)
+static void print_report(const uint8_t *bytes, size_t length, size_t place, uint32_t form, uint32_t kind)
 {
     size_t i;
-    printf("%zu %s", siamrung_first(bytes, length, place), kind_names[kind - SIAMRUNG_KIND_SEARCH]);
-    if (siamrung_has_values(bytes, length, place))
-        printf(" %.4f nmi %.4f deg %.3f s", siamrung_nmi(bytes, length, place), siamrung_degrees(bytes, length, place),
-               siamrung_seconds(bytes, length, place));
+    printf("%zu %s", siamrung_first(bytes, length, place, form), kind_names[kind - SIAMRUNG_KIND_SEARCH]);
+    if (siamrung_has_values(bytes, length, place, form))
+        printf(" %.4f nmi %.4f deg %.3f s", siamrung_nmi(bytes, length, place, form), siamrung_degrees(bytes, length, place, form),
+               siamrung_seconds(bytes, length, place, form));
     for (i = 0; i < sizeof shown / sizeof shown[0]; i++)
-        if (siamrung_has(bytes, length, place, shown[i].item))
-            printf(" %s %" PRId64 "%s", shown[i].name, siamrung_item(bytes, length, place, shown[i].item) * shown[i].scale, shown[i].unit);
+        if (siamrung_has(bytes, length, place, form, shown[i].item))
+            printf(" %s %" PRId64 "%s", shown[i].name, siamrung_item(bytes, length, place, form, shown[i].item) * shown[i].scale,
+                   shown[i].unit);
     printf("\n");
 }
 
-int main(void)
+int main(int argc, char **argv)
 {
-    uint8_t *bytes = malloc(MOST);
+    uint32_t form = SIAMRUNG_FORM_SIGN_MAGNITUDE;
+    uint8_t *bytes;
     size_t counts[KINDS] = {0}, refused = 0, heights = 0, reports = 0, length, place = 0, i;
+    if (take_form(argc, argv, &form) != argc) {
+        fprintf(stderr, "usage: recorder [--twos-complement] < RECORDING\n");
+        return 2;
+    }
+    bytes = malloc(MOST);
     if (bytes == NULL)
         return 1;
     length = fread(bytes, 1, MOST, stdin);
@@ -60,25 +68,25 @@ int main(void)
         return 1;
     }
     for (;;) {
-        uint32_t kind = siamrung_kind(bytes, length, place);
+        uint32_t kind = siamrung_kind(bytes, length, place, form);
         if (kind == SIAMRUNG_KIND_END)
             break;
         if (kind == SIAMRUNG_KIND_REFUSED) {
-            uint32_t why = siamrung_refusal(bytes, length, place);
-            printf("%zu REFUSED %" PRIu32 " at %zu: %s\n", siamrung_first(bytes, length, place), why,
-                   siamrung_named(bytes, length, place), line_reason(why));
+            uint32_t why = siamrung_refusal(bytes, length, place, form);
+            printf("%zu REFUSED %" PRIu32 " at %zu: %s\n", siamrung_first(bytes, length, place, form), why,
+                   siamrung_named(bytes, length, place, form), line_reason(why));
             refused++;
             /* the line or the place itself is refused: the answer is the place that was passed, and nothing more can be read */
-            if (siamrung_after(bytes, length, place) == place)
+            if (siamrung_after(bytes, length, place, form) == place)
                 break;
         } else {
-            print_report(bytes, length, place, kind);
+            print_report(bytes, length, place, form, kind);
             counts[kind - SIAMRUNG_KIND_SEARCH]++;
             reports++;
-            if (siamrung_has(bytes, length, place, SIAMRUNG_ITEM_ALTITUDE))
+            if (siamrung_has(bytes, length, place, form, SIAMRUNG_ITEM_ALTITUDE))
                 heights++;
         }
-        place = siamrung_after(bytes, length, place);
+        place = siamrung_after(bytes, length, place, form);
     }
     for (i = 0; i < KINDS; i++)
         if (counts[i] > 0)

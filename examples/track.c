@@ -1,8 +1,9 @@
 /*
- * The last report of a track: track NUMBER RECORDING.. takes a file number and recordings, one for each scan of the antenna. The first
- * recording is scan 1, the second scan 2, and so on. It enters the reports into an index, scan after scan, and asks the index for the number.
- * Standard output has one line: the number's last report, or that the number is in no entry. Standard error has everything that was refused,
- * with its reason. If something was refused, the report that is printed may not be the last one.
+ * The last report of a track: track [--twos-complement] NUMBER RECORDING.. takes a file number and recordings, one for each scan of the antenna.
+ * The first recording is scan 1, the second scan 2, and so on. It enters the reports into an index, scan after scan, and asks the index for the
+ * number. Standard output has one line: the number's last report, or that the number is in no entry. Standard error has everything that was
+ * refused, with its reason. If something was refused, the report that is printed may not be the last one. With --twos-complement altitudes are
+ * read in that form.
  */
 #include <errno.h>
 #include <inttypes.h>
@@ -12,6 +13,7 @@
 
 #include "siamrung.h"
 
+#include "altitude_form.h"
 #include "line_reason.h"
 
 /* As many as a table may have. */
@@ -24,6 +26,8 @@
 struct line {
     uint8_t *bytes;
     size_t length;
+    /* how its sensor sends altitudes */
+    uint32_t form;
     uint32_t scan;
 };
 
@@ -73,16 +77,17 @@ static int read_line(const char *name, struct line *l)
 /* The run at the place is refused, or the line itself. */
 static void say_refused(const struct line *l, size_t place)
 {
-    uint32_t why = siamrung_refusal(l->bytes, l->length, place);
-    fprintf(stderr, "track: scan %" PRIu32 " place %zu REFUSED %" PRIu32 " at %zu: %s\n", l->scan, siamrung_first(l->bytes, l->length, place),
-            why, siamrung_named(l->bytes, l->length, place), reason(why));
+    uint32_t why = siamrung_refusal(l->bytes, l->length, place, l->form);
+    fprintf(stderr, "track: scan %" PRIu32 " place %zu REFUSED %" PRIu32 " at %zu: %s\n", l->scan,
+            siamrung_first(l->bytes, l->length, place, l->form), why, siamrung_named(l->bytes, l->length, place, l->form), reason(why));
 }
 
 /* The index does not take what stands at the place. A report without a number is said to have number 0. */
 static void say_not_entered(const struct line *l, size_t place, uint32_t why)
 {
     fprintf(stderr, "track: scan %" PRIu32 " place %zu number %" PRId64 " NOT ENTERED %" PRIu32 ": %s\n", l->scan,
-            siamrung_first(l->bytes, l->length, place), siamrung_item(l->bytes, l->length, place, SIAMRUNG_ITEM_FILE), why, reason(why));
+            siamrung_first(l->bytes, l->length, place, l->form), siamrung_item(l->bytes, l->length, place, l->form, SIAMRUNG_ITEM_FILE), why,
+            reason(why));
 }
 
 /* Enters the reports of a line, from run to run. Where the line itself is refused, the next place is the one that was passed: nothing more can
@@ -93,15 +98,15 @@ static void enter_line(siamrung_entry *table, const struct line *l)
     uint32_t kind, done;
     do {
         place = next;
-        kind = siamrung_kind(l->bytes, l->length, place);
-        done = siamrung_index_done(siamrung_index_enter(table, ENTRIES, l->bytes, l->length, place, l->scan));
+        kind = siamrung_kind(l->bytes, l->length, place, l->form);
+        done = siamrung_index_done(siamrung_index_enter(table, ENTRIES, l->bytes, l->length, place, l->form, l->scan));
         /* in the other cases the report is entered, or there is no number to enter */
         if (done == SIAMRUNG_INDEX_REFUSAL_TABLE_BROKEN || done == SIAMRUNG_INDEX_REFUSAL_TABLE_FULL)
             say_not_entered(l, place, done);
         /* a refused run has no number to enter; but it may have been a report of the number that is asked for */
         if (kind == SIAMRUNG_KIND_REFUSED)
             say_refused(l, place);
-        next = siamrung_after(l->bytes, l->length, place);
+        next = siamrung_after(l->bytes, l->length, place, l->form);
     } while (kind != SIAMRUNG_KIND_END && next != place);
 }
 
@@ -110,10 +115,10 @@ static void enter_line(siamrung_entry *table, const struct line *l)
 static void print_report(const siamrung_entry *e, const struct line *l)
 {
     printf("%u scan %" PRIu32 " place %zu %s %.4f nmi %.4f deg %.3f s", (unsigned)e->number, e->scan, e->place, kind_name(e->kind),
-           siamrung_nmi(l->bytes, l->length, e->place), siamrung_degrees(l->bytes, l->length, e->place),
-           siamrung_seconds(l->bytes, l->length, e->place));
-    if (siamrung_has(l->bytes, l->length, e->place, SIAMRUNG_ITEM_ALTITUDE))
-        printf(" altitude %" PRId64 " ft", 100 * siamrung_item(l->bytes, l->length, e->place, SIAMRUNG_ITEM_ALTITUDE));
+           siamrung_nmi(l->bytes, l->length, e->place, l->form), siamrung_degrees(l->bytes, l->length, e->place, l->form),
+           siamrung_seconds(l->bytes, l->length, e->place, l->form));
+    if (siamrung_has(l->bytes, l->length, e->place, l->form, SIAMRUNG_ITEM_ALTITUDE))
+        printf(" altitude %" PRId64 " ft", 100 * siamrung_item(l->bytes, l->length, e->place, l->form, SIAMRUNG_ITEM_ALTITUDE));
     printf("\n");
 }
 
@@ -157,12 +162,13 @@ static int read_number(const char *text, uint32_t *number)
 }
 
 /* Enters every recording, then prints. Answers 0 where something failed. */
-static int track(uint32_t number, char **names, struct line *lines, size_t count)
+static int track(uint32_t number, uint32_t form, char **names, struct line *lines, size_t count)
 {
     /* all zeros: each entry is unused */
     static siamrung_entry table[ENTRIES];
     size_t i;
     for (i = 0; i < count; i++) {
+        lines[i].form = form;
         lines[i].scan = (uint32_t)(i + 1);
         if (!read_line(names[i], &lines[i]))
             return 0;
@@ -173,12 +179,13 @@ static int track(uint32_t number, char **names, struct line *lines, size_t count
 
 int main(int argc, char **argv)
 {
-    size_t i, count = argc < 3 ? 0 : (size_t)argc - 2;
+    uint32_t number, form = SIAMRUNG_FORM_SIGN_MAGNITUDE;
+    int good, first = take_form(argc, argv, &form);
+    size_t i, count = argc < first + 2 ? 0 : (size_t)(argc - first - 1);
     struct line *lines;
-    uint32_t number;
-    int good;
-    if (count == 0 || !read_number(argv[1], &number)) {
-        fprintf(stderr, "usage: track NUMBER RECORDING..    (a decimal file number; a recording for each scan, the earliest first)\n");
+    if (count == 0 || !read_number(argv[first], &number)) {
+        fprintf(stderr, "usage: track [--twos-complement] NUMBER RECORDING..    (a decimal file number; a recording for each scan, "
+                        "the earliest first)\n");
         return 2;
     }
     lines = calloc(count, sizeof *lines);
@@ -186,7 +193,7 @@ int main(int argc, char **argv)
         perror("track");
         return 1;
     }
-    good = track(number, argv + 2, lines, count);
+    good = track(number, form, argv + first + 1, lines, count);
     for (i = 0; i < count; i++)
         free(lines[i].bytes);
     free(lines);

@@ -13,8 +13,9 @@
  *
  * Altitudes. Sensors send the altitude of DABS and ATCRBS in one of two forms. The words do not tell which: the program must know it, and passes it
  * as the argument form to every call that reads a line or writes a report. 0 (SIAMRUNG_FORM_SIGN_MAGNITUDE) is a sign and eleven bits. Any other
- * number (SIAMRUNG_FORM_TWOS_COMPLEMENT) is a number in two's complement. Only altitudes below zero, and refusals 9 and 11, depend on it. If a line
- * is read with the wrong form, its altitudes below zero are wrong, and no refusal tells it but 9 for one pattern of the bits.
+ * number (SIAMRUNG_FORM_TWOS_COMPLEMENT) is a number in two's complement. Only altitudes whose first bit is one depend on the form, and with them
+ * refusals 9 and 11; where a run begins and ends does not. Read with the wrong form, an altitude v below zero (in hundreds of feet) becomes -2048 - v:
+ * -3 becomes -2045. No refusal tells it; only the bits 100000000000 are refused in form 0, with 9, and are -2048 in the other form.
  *
  * Threads. No call keeps anything, so any thread may call at any time. But while a call writes into bytes or into a table, no other thread may use
  * them.
@@ -99,7 +100,7 @@ extern "C" {
 #define SIAMRUNG_REFUSAL_SPARE_BIT_SET 8
 /* the altitude is minus zero: sign 1 and magnitude 0. Never given in two's complement */
 #define SIAMRUNG_REFUSAL_MINUS_ZERO 9
-/* writing: a value is too large for its field, or kind and items are no record */
+/* writing: a value is too large for its field, or an altitude is outside the range of its form, or kind and items are no record */
 #define SIAMRUNG_REFUSAL_VALUE_TOO_LARGE 11
 /* writing: from the place on there are too few words for the report and one idle word */
 #define SIAMRUNG_REFUSAL_NO_ROOM 10
@@ -581,11 +582,12 @@ static inline size_t siamrung_index_entry(uint32_t answer)
 }
 
 /*
- * Enters the report at the place, or behind the idle words there, with a scan number that the program chooses. Of the form it depends only whether a run
- * with the altitude minus zero is a report. siamrung_index_done takes out of the answer: 50 if the table is broken, whatever stands there; else LEFT if
- * no report with a file number other than 0 stands there; else REPLACED if the number is in the table; else ENTERED if an entry is unused; else 51.
- * After ENTERED and REPLACED siamrung_index_entry takes out which entry has the report; only that entry is written. After LEFT, 50 and 51 nothing is
- * written. The table must not overlap the line.
+ * Enters the report at the place, or behind the idle words there, with a scan number that the program chooses. The form matters only
+ * for an altitude of the bits 100000000000: its report is entered in two's complement, and left in form 0, where it is refused with 9.
+ * siamrung_index_done takes out of the answer: 50 if the table is broken, whatever stands there; else LEFT if no report with a file number other than 0
+ * stands there; else REPLACED if the number is in the table; else ENTERED if an entry is unused; else 51. After ENTERED and REPLACED
+ * siamrung_index_entry takes out which entry has the report; only that entry is written. After LEFT, 50 and 51 nothing is written. The table must not
+ * overlap the line.
  */
 uint32_t siamrung_index_enter(siamrung_entry *table, size_t entries, const uint8_t *bytes, size_t length, size_t place, uint32_t form,
                               uint32_t scan);

@@ -10,6 +10,8 @@ pub type Field = (&'static str, &'static [(usize, usize)], Shown);
 pub enum Shown {
     Number,
     Altitude,
+    // in the form of document 02, Ticket 5: the first bit weighs -2048
+    Complement,
 }
 pub use Shown::*;
 
@@ -98,6 +100,20 @@ pub fn all_forms() -> &'static [Form] {
     FORMS.with(|f| *f)
 }
 
+// The same with altitudes in two's complement.
+pub fn complement_forms() -> &'static [Form] {
+    thread_local! {
+        static FORMS: &'static [Form] = Box::leak(forms().into_iter().map(complement).collect::<Vec<Form>>().into_boxed_slice());
+    }
+    FORMS.with(|f| *f)
+}
+
+fn complement(form: Form) -> Form {
+    let turned = |field: &Field| (field.0, field.1, if field.2 == Altitude { Complement } else { field.2 });
+    let fields: Vec<Field> = form.fields.iter().map(turned).collect();
+    Form { fields: leak(&[&fields[..]]), ..form }
+}
+
 // ---- strings of bits
 
 pub fn string(words: &[u16]) -> String {
@@ -159,6 +175,7 @@ pub fn read(forms: &[Form], run: &[u16]) -> Read {
             Altitude if held == "100000000000" => return Read::Refused(9, 0),
             Altitude if held.starts_with('1') => -number(&held[1..]),
             Altitude => number(&held[1..]),
+            Complement => number(&held[1..]) - 2048 * number(&held[..1]),
         };
         said += &format!(" {name} {value}");
     }

@@ -14,11 +14,10 @@ const ATCRBS: [u16; 7] = [3333, 1281, 1022, 868, 1281, 2048, 647];
 
 // ---- a run: the number of its refusal and the offset of the word that it names, or nothing
 
-// 9 is never given in the new form, and it is the last that is tested.
 fn refusal(run: &[u16], form: u16) -> Option<(u8, usize)> {
-    match document::read(document::all_forms(), run) {
+    let forms = if form == 0 { document::all_forms() } else { document::complement_forms() };
+    match document::read(forms, run) {
         document::Read::Report(_) => None,
-        document::Read::Refused(9, _) if form != 0 => None,
         document::Read::Refused(number, offset) => Some((number, offset)),
     }
 }

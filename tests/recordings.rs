@@ -1,11 +1,13 @@
 // Makes the sample recordings of examples/recordings, those of chance from fixed seeds, and what C programs must print of them, by
 // tests/document.rs: `recordings NAME` writes the bytes, `recordings NAME printed` what examples/recorder.c prints, `recordings NAME heights` what
 // README.md's lines do. `recordings track NUMBER FILE..` and `recordings refused FILE..` print what examples/track.c must say (tests/tracks.rs).
+// With --twos-complement in front, altitudes are read in that form.
 //   story    a sensor that sends ATCRBS and Search reports, and then begins to send DABS reports in place of ATCRBS
 //   morning  every form, with idle words between
 //   damaged  the morning with bits turned over here and there
 //   scan1    some tracks, reports that belong to no track, and reports that have no file number
 //   scan2    the next scan: tracks that go on, that are lost, that are new, and a damaged report
+//   below    a sensor that sends altitudes in two's complement, some of them below zero
 //   crowd    more tracks than a table has entries; it is made for the test only
 mod document;
 mod tracks;
@@ -56,19 +58,20 @@ fn random_line(name: &str) -> Vec<u16> {
 
 fn recording(name: &str) -> Vec<u16> {
     match name {
-        "scan1" => tracks::line(&tracks::SCAN1),
-        "scan2" => tracks::line(&tracks::SCAN2),
+        "scan1" => tracks::line(all_forms(), &tracks::SCAN1),
+        "scan2" => tracks::line(all_forms(), &tracks::SCAN2),
+        "below" => tracks::line(complement_forms(), &tracks::BELOW),
         "crowd" => tracks::crowd(),
         _ => random_line(name),
     }
 }
 
 // Each run of a line: its place, and what stands there.
-fn runs(line: &[u16]) -> Vec<(usize, Read)> {
+fn runs(forms: &[Form], line: &[u16]) -> Vec<(usize, Read)> {
     let (mut found, mut at) = (Vec::new(), 0);
     for run in line.split(|w| *w == IDLE) {
         if !run.is_empty() {
-            found.push((at, read(all_forms(), run)));
+            found.push((at, read(forms, run)));
         }
         at += run.len() + 1;
     }
@@ -124,10 +127,10 @@ fn reason(number: u8) -> &'static str {
     }
 }
 
-fn printed(line: &[u16]) -> String {
+fn printed(forms: &[Form], line: &[u16]) -> String {
     let names = ["SEARCH", "STROBE", "MAP", "STATUS", "RTQC", "DABS", "DABS-CD", "DABS-MTD", "DABS-RDAS", "ATCRBS", "ATCRBS-CD", "ATCRBS-MTD", "ATCRBS-RDAS", "MTD", "RDAS"];
     let (mut out, mut counts, mut refused, mut heights) = (String::new(), [0; 15], 0, 0);
-    for (at, run) in runs(line) {
+    for (at, run) in runs(forms, line) {
         match run {
             Read::Report(said) => {
                 print_report(&said, at, &mut out);
@@ -148,9 +151,9 @@ fn printed(line: &[u16]) -> String {
 }
 
 // Each refusal, and each height in feet.
-fn heights(line: &[u16]) -> String {
+fn heights(forms: &[Form], line: &[u16]) -> String {
     let mut out = String::new();
-    for (at, run) in runs(line) {
+    for (at, run) in runs(forms, line) {
         match run {
             Read::Report(said) => {
                 if let Some(height) = value(&said, "altitude") {
@@ -164,14 +167,17 @@ fn heights(line: &[u16]) -> String {
 }
 
 fn main() {
-    let words: Vec<String> = std::env::args().collect();
+    let mut words: Vec<String> = std::env::args().collect();
+    let option = words[1] == "--twos-complement";
+    let forms = if option { complement_forms() } else { all_forms() };
+    words.drain(1..1 + usize::from(option));
     let files = |from: usize| words[from..].iter().map(|name| std::fs::read(name).unwrap()).collect::<Vec<Vec<u8>>>();
     let bytes = match (&words[1][..], words.get(2).map(String::as_str)) {
-        ("track", Some(number)) => tracks::last(number.parse().unwrap(), &files(3)).into_bytes(),
-        ("refused", _) => tracks::refused(&files(2)).into_bytes(),
+        ("track", Some(number)) => tracks::last(forms, number.parse().unwrap(), &files(3)).into_bytes(),
+        ("refused", _) => tracks::refused(forms, &files(2)).into_bytes(),
         (name, None) => recording(name).iter().flat_map(|w| w.to_be_bytes()).collect(),
-        (name, Some("printed")) => printed(&recording(name)).into_bytes(),
-        (name, Some("heights")) => heights(&recording(name)).into_bytes(),
+        (name, Some("printed")) => printed(forms, &recording(name)).into_bytes(),
+        (name, Some("heights")) => heights(forms, &recording(name)).into_bytes(),
         (_, Some(other)) => panic!("no such text: {other}"),
     };
     std::io::stdout().write_all(&bytes).unwrap();

@@ -33,19 +33,37 @@ pub const SCAN2: [&str; 12] = [
     "ATCRBS file 24 range 402 azimuth 7777 time 6 mode3a 1 code 1025 altitude -1",
 ];
 
+// The highest, the lowest, the one that both forms write alike, and bits that are no altitude.
+pub const BELOW: [&str; 10] = [
+    "ATCRBS file 17 range 5280 azimuth 683 time 2 mode3a 1 code 1748 altitude 12",
+    "DABS address 10952707 range 9216 azimuth 2500 time 1 primary 1 altitude -3",
+    "ATCRBS file 18 range 400 azimuth 1820 time 3 mode3a 1 code 2730 altitude -1",
+    "SEARCH range 96 azimuth 512 run 2 time 4",
+    "DABS address 10952708 range 640 azimuth 2600 time 1 altitude 0",
+    "ATCRBS file 19 range 3200 azimuth 3072 time 5 mode3a 1 code 640 altitude 2047",
+    "ATCRBS file 20 range 1000 azimuth 3500 time 2 mode3a 1 code 640 altitude -2048",
+    "ATCRBS file 21 range 1010 azimuth 3520 time 2 mode3a 1 code 640 altitude -1024",
+    "ATCRBS file 22 range 700 azimuth 6000 time 1 mode3a 1 code 640 carried 2048",
+    "ATCRBS-CD file 18 range 390 azimuth 1830 time 4 mode3a 1 code 2730 run 3",
+];
+
 fn bits_of((name, stretches, shown): &Field, value: i64) -> String {
     let width: usize = stretches.iter().map(|(a, b)| b - a + 1).sum();
-    // an altitude is a sign and a magnitude of eleven bits
-    let number = if *shown == Altitude && value < 0 { 2048 - value } else { value };
+    // an altitude is a sign and a magnitude of eleven bits, or a number of twelve bits in two's complement
+    let number = match shown {
+        Altitude if value < 0 => 2048 - value,
+        Complement if value < 0 => 4096 + value,
+        _ => value,
+    };
     let bits = format!("{number:0width$b}");
     assert_eq!(bits.len(), width, "{name} {value}");
     bits
 }
 
 // The words of the first form of that name that has all fields which are said.
-fn words_said(said: &str) -> Vec<u16> {
+fn words_said(forms: &[Form], said: &str) -> Vec<u16> {
     let has = |form: &Form, name: &str| form.fields.iter().any(|field| field.0 == name);
-    let mut forms = all_forms().iter().filter(|form| form.name == name_of(said));
+    let mut forms = forms.iter().filter(|form| form.name == name_of(said));
     let form = forms.find(|form| said.split(' ').skip(1).step_by(2).all(|name| has(form, name)));
     let form = form.unwrap_or_else(|| panic!("no form has what '{said}' says"));
     let bits: String = form.fields.iter().map(|field| bits_of(field, value(said, field.0).unwrap_or(0))).collect();
@@ -54,11 +72,11 @@ fn words_said(said: &str) -> Vec<u16> {
 }
 
 // A line with these reports, and one to three idle words after each.
-pub fn line<S: AsRef<str>>(reports: &[S]) -> Vec<u16> {
+pub fn line<S: AsRef<str>>(forms: &[Form], reports: &[S]) -> Vec<u16> {
     let mut line = vec![IDLE; 2];
     for (k, said) in reports.iter().enumerate() {
         let sound = said.as_ref().trim_start_matches("damaged ");
-        let mut words = words_said(sound);
+        let mut words = words_said(forms, sound);
         if sound != said.as_ref() {
             words[3] ^= 1;
         }
@@ -72,7 +90,7 @@ pub fn line<S: AsRef<str>>(reports: &[S]) -> Vec<u16> {
 pub fn crowd() -> Vec<u16> {
     let numbers = (1..=515).chain([3, 514, 512, 513, 1]);
     let reports: Vec<String> = numbers.enumerate().map(|(k, number)| format!("ATCRBS file {number} range {k} altitude {k}")).collect();
-    line(&reports)
+    line(all_forms(), &reports)
 }
 
 // ---- what track says
@@ -94,14 +112,14 @@ impl Seen {
     }
 }
 
-fn seen(recordings: &[Vec<u8>]) -> Vec<Seen> {
+fn seen(forms: &[Form], recordings: &[Vec<u8>]) -> Vec<Seen> {
     let mut all = Vec::new();
     for (bytes, scan) in recordings.iter().zip(1..) {
         let line: Vec<u16> = bytes.chunks_exact(2).map(|word| u16::from_be_bytes([word[0], word[1]])).collect();
         let found = match bytes.len() {
             length if length > 65536 => vec![(0, Read::Refused(2, 0))],
             length if length % 2 == 1 => vec![(0, Read::Refused(14, 0))],
-            _ => runs(&line),
+            _ => runs(forms, &line),
         };
         all.extend(found.into_iter().map(|(place, what)| Seen { scan, place, what }));
     }
@@ -121,8 +139,8 @@ fn with_entry(all: &[Seen]) -> Vec<i64> {
 }
 
 // Standard output.
-pub fn last(number: i64, recordings: &[Vec<u8>]) -> String {
-    let all = seen(recordings);
+pub fn last(forms: &[Form], number: i64, recordings: &[Vec<u8>]) -> String {
+    let all = seen(forms, recordings);
     let has_entry = with_entry(&all).contains(&number);
     match all.iter().rev().find(|seen| has_entry && seen.number() == number) {
         Some(Seen { scan, place, what: Read::Report(said) }) => {
@@ -134,8 +152,8 @@ pub fn last(number: i64, recordings: &[Vec<u8>]) -> String {
 }
 
 // Standard error.
-pub fn refused(recordings: &[Vec<u8>]) -> String {
-    let all = seen(recordings);
+pub fn refused(forms: &[Form], recordings: &[Vec<u8>]) -> String {
+    let all = seen(forms, recordings);
     let entered = with_entry(&all);
     let mut out = String::new();
     for Seen { scan, place, what } in &all {
