@@ -1,6 +1,6 @@
 // Holds include/siamrung.h to the crates, wherever in them something stands.
-// Numbers: every kind, type, refusal and item that specs/ numbers stands in the header with the same number, as does what a call of the index has
-// done, and the header has no other. No two kinds, refusals and numbers of what was done are the same, and no two items are.
+// Numbers: every form of the altitude, kind, type, refusal and item that specs/ numbers stands in the header with the same number, as does what a
+// call of the index has done, and the header has no other. No two kinds, refusals and numbers of what was done are the same, and no two items are.
 // Structs: every `#[repr(C)]` struct stands in the header with the same fields, in order and by name and type, and the header has no other.
 // Calls: every `extern "C"` function stands in the header with the same arguments, in order and by name and type, and the same answer, and the
 // header has no other, but two that it defines itself.
@@ -65,6 +65,7 @@ fn numbers(header: &str) {
     let items = |fields: bool| specs.iter().filter(move |file| file.1 == "Items.antt" && file.0.starts_with("field") == fields);
     let mut expected = BTreeMap::new();
     add(&mut expected, kinds(&specs), "KIND");
+    add(&mut expected, numbered(specs.iter(), "formNumber F."), "FORM");
     add(&mut expected, numbered(specs.iter(), "lineNumber L."), "REFUSAL");
     add(&mut expected, numbered(specs.iter(), "fieldNumber F."), "FIELD_REFUSAL");
     add(&mut expected, numbered(specs.iter(), "frameNumber R."), "FRAME_REFUSAL");

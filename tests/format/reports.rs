@@ -1,5 +1,5 @@
 // The seventeen layouts of reports: the bits that tell them, their fields, their kinds, their examples.
-use crate::definitions::{kinds, upper, File, Numbers};
+use crate::definitions::{kinds, numbered, upper, File, Numbers};
 use crate::page::{bits, plain, shown, spans, table, value, values, width, Findings, Span, Table, PAGE};
 use crate::sources::{body, code, members, reads, words, ALTITUDE, FORMS, HEADER, RECORDS, REPORTS};
 use std::collections::{BTreeMap, BTreeSet};
@@ -261,17 +261,45 @@ fn apart(layouts: &[Layout], page: &[Table], found: &mut Findings) {
     found.that(wrong.is_none(), || wrong.unwrap());
 }
 
-// An altitude has a sign and a magnitude: what twelve bits reach stands in its row, in the condition of refusal 11 and in Altitude.antt.
+// The least and the greatest altitude of twelve bits, in each form: they stand in its row, in the condition of refusal 11, in the table of forms and
+// in Altitude.antt.
 fn altitude(layouts: &[Layout], page: &[Table], found: &mut Findings) {
     let row = layouts.iter().flat_map(|layout| &layout.rows).find(|row| row.name == "altitude").unwrap_or_else(|| panic!("{PAGE}: no altitude"));
-    let most = (1 << (bits(&row.bits).count() - 1)) - 1;
-    let said = format!("-{most} to {most}");
+    let half = 1 << (bits(&row.bits).count() - 1);
     let fields = page.iter().find(|table| table.heading.contains("word 7")).unwrap_or_else(|| panic!("{PAGE}: no table of word 7"));
     let refusals = table(page, "Refusals of lines", "given when");
-    for text in [fields.at("field", "altitude", "meaning"), refusals.at("name", "ValueTooLarge", "given when")] {
-        found.that(text.contains(&said), || format!("altitude: '{text}' does not say {said}"));
+    let forms = table(page, "The forms of the altitude", "altitudes");
+    for (form, least) in [("SignMagnitude", half - 1), ("TwosComplement", half)] {
+        let said = format!("-{least} to {}", half - 1);
+        for text in [fields.at("field", "altitude", "meaning"), refusals.at("name", "ValueTooLarge", "given when"), forms.at("form", form, "altitudes")] {
+            found.that(text.contains(&said), || format!("altitude: '{text}' does not say {said}"));
+        }
+        found.that(words(&code(ALTITUDE)).contains(&&least.to_string()[..]), || format!("altitude: {ALTITUDE} does not say {least}"));
     }
-    found.that(words(&code(ALTITUDE)).contains(&&most.to_string()[..]), || format!("altitude: {ALTITUDE} does not say {most}"));
+}
+
+// The forms of the altitude have the definitions' numbers and the header's; each example is worked out here, from its bits.
+fn forms(page: &[Table], specs: &[File], header: &Numbers, found: &mut Findings) {
+    let table = table(page, "The forms of the altitude", "number in C");
+    let first = |row: &[String]| table.cell(row, "number in C").split(',').next().unwrap().parse::<u32>().expect("a number");
+    let here: Numbers = table.rows.iter().map(|row| (plain(table.cell(row, "form")), first(row))).collect();
+    let there: Numbers = numbered(specs.iter(), "formNumber F.").into_iter().collect();
+    found.both_ways("form of the altitude", &here, ALTITUDE, &there);
+    let upper_names = here.iter().map(|(name, number)| (format!("FORM_{}", upper(name)), *number)).collect();
+    let in_header = header.iter().filter(|(name, _)| name.starts_with("FORM_")).map(|(name, number)| (name.clone(), *number)).collect();
+    found.both_ways("form of the altitude", &upper_names, HEADER, &in_header);
+    let examples = self::table(page, "The forms of the altitude", "bits 79-90");
+    for row in &examples.rows {
+        let bits = examples.cell(row, "bits 79-90");
+        let rest = i64::from_str_radix(&bits[1..], 2).expect("twelve bits");
+        let (signed, complement) = match (&bits[..1], rest) {
+            ("0", _) => (rest.to_string(), rest),
+            (_, 0) => ("refused, 9".to_string(), -2048),
+            _ => ((-rest).to_string(), rest - 2048),
+        };
+        found.same(&format!("bits 79-90 {bits}, sign and magnitude"), examples.cell(row, "SignMagnitude"), "those bits", &signed);
+        found.same(&format!("bits 79-90 {bits}, two's complement"), examples.cell(row, "TwosComplement"), "those bits", &complement.to_string());
+    }
 }
 
 fn report_examples(layouts: &[Layout], page: &[Table], found: &mut Findings) {
@@ -323,6 +351,7 @@ pub fn reports(page: &[Table], specs: &[File], header: &Numbers, found: &mut Fin
     found.both_ways("pattern", &here, "crates/reports/specs", &there);
     apart(&layouts, page, found);
     altitude(&layouts, page, found);
+    forms(page, specs, header, found);
     report_examples(&layouts, page, found);
 
     // kinds: those of the layouts, of which two may have the same, and those of no report, which a frame's table has too
