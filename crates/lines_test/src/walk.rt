@@ -132,7 +132,11 @@ pub fn to_the_end(words: &[u16], bytes: &[u8], place: usize, form: Form, shown: 
     let mut left: usize = CALLS;
     while 0 < left {
         let o = line_reader::wide::read(words, at, form);
-        t = tallied(t, o, differing(o, line_reader::bytes::read(bytes, at, form)));
+        t = tallied(
+            t,
+            o,
+            differing(o, line_reader::bytes::read(bytes, at, form)),
+        );
         if shown {
             crate::print::outcome(o);
         }

@@ -272,16 +272,7 @@ fn is_minus_zero(a: u16, g: u16, form: Form) -> bool
 // ---- the answer
 
 // The answer to words of a known form, as many as it has.
-fn judge_words(
-    a: u16,
-    b: u16,
-    c: u16,
-    d: u16,
-    e: u16,
-    f: u16,
-    g: u16,
-    form: Form,
-) -> RunAnswer
+fn judge_words(a: u16, b: u16, c: u16, d: u16, e: u16, f: u16, g: u16, form: Form) -> RunAnswer
     requires { ⌜ unknownForm (a ∷ []) ≡ false ⌝ }
     ensures { λ r. ⌜ r ≡ firstOf (lastRows (formOf form) (a ∷ b ∷ c ∷ d ∷ e ∷ f ∷ g ∷ [])) (RunAnswer.Accepted (reportOf (formOf form) (a ∷ b ∷ c ∷ d ∷ e ∷ f ∷ g ∷ []))) ⌝ }
 {
