@@ -13,29 +13,31 @@
  *
  * Altitudes. Sensors send the altitude of DABS and ATCRBS in one of two forms. The words do not tell which: the program must know it, and passes it
  * as the argument form to every call that reads a line or writes a report. 0 (SIAMRUNG_FORM_SIGN_MAGNITUDE) is a sign and eleven bits. Any other
- * number (SIAMRUNG_FORM_TWOS_COMPLEMENT) is a number in two's complement. Only altitudes whose first bit is one depend on the form, and with them
- * refusals 9 and 11; where a run begins and ends does not. Read with the wrong form, an altitude v below zero (in hundreds of feet) becomes -2048 - v:
- * -3 becomes -2045. No refusal tells it; only the bits 100000000000 are refused in form 0, with 9, and are -2048 in the other form.
+ * number (SIAMRUNG_FORM_TWOS_COMPLEMENT) is a number in two's complement. Pass the same form to all calls about one run; other runs may have the
+ * other. Only altitudes whose first bit is one depend on the form, and with them refusals 9 and 11; where a run begins and ends does not. Read with
+ * the wrong form, an altitude v below zero (in hundreds of feet) becomes -2048 - v: -3 becomes -2045. No refusal tells it; only the bits 100000000000
+ * are refused in form 0, with 9, and are -2048 in the other form.
  *
  * Threads. No call keeps anything, so any thread may call at any time. But while a call writes into bytes or into a table, no other thread may use
  * them.
  *
- * Writing. The program passes items: a slice of bytes, sixteen bytes an item. The first eight bytes are the item's number, the last eight are
- * its value, high byte first. A negative value is in two's complement. The items stand in any order. The program passes all items of that
- * kind (or type), each once, and no others: nothing is filled in, and nothing is passed over. The bytes that a call writes must overlap no
- * other slice that is passed to it.
+ * Writing. The program passes items: a slice of bytes, sixteen bytes an item. The first eight bytes are the item's number, the last eight are its
+ * value, high byte first. A negative value is in two's complement of 64 bits, whatever the form is. The items stand in any order. The program passes
+ * all items of that kind (or type), each once, and no others: nothing is filled in, and nothing is passed over. The bytes that a call writes must
+ * overlap no other slice that is passed to it.
  *
  * Frames. A stream of frames is counted in bits: see "calls that read a frame" below.
  *
  * The index. The program keeps a table of entries and lends it to each call: see "calls of the index" below.
  *
- * Versions. The numbers below keep their meaning: none is ever used for something else. siamrung_version grows with each change of the calls,
- * and of what they accept. Version 3 added the calls of frames. Version 4 accepts an ELM_DOWNLINK with LENGTH 0, alone and relayed, which was
- * refused (28, and 30 in writing). Version 5 added the calls of the index. Version 6 added the argument form: it stands behind place in every call
- * that reads a line or writes a report, and 0 is what those calls did before. So a program for an earlier version does not compile with this header
- * until it passes a form. A program that is already compiled must be compiled again: do not link it with a library of another version. A call that
- * accepts more than before keeps its name. If the meaning of a call changes in any other way under the same arguments, it gets a new name, so that
- * an old program does not link with it.
+ * Versions. The numbers below keep their meaning: none is ever used for something else. siamrung_version grows with each change of the calls, and of
+ * what they accept. Version 3 added the calls of frames. Version 4 accepts an ELM_DOWNLINK with LENGTH 0, alone and relayed, which was refused (28,
+ * and 30 in writing). Version 5 added the calls of the index. Version 6 added the argument form behind place, in the calls from siamrung_kind to
+ * siamrung_seconds, in siamrung_write, siamrung_write_refusal and siamrung_index_enter; with 0 they do what they did before. A program that has such
+ * a call does not compile with this header until it passes a form. A program that was compiled with the header of another version must be compiled
+ * again before it is linked with this library: its calls would pass no form, and altitudes would be wrong. siamrung_version tells it: compare its
+ * answer with the version that the program was written for. A call that accepts more than before keeps its name. If the meaning of a call changes in
+ * any other way under the same arguments, it gets a new name, so that an old program does not link with it.
  */
 #ifndef SIAMRUNG_H
 #define SIAMRUNG_H
@@ -163,8 +165,8 @@ extern "C" {
 #define SIAMRUNG_ITEM_CODE 29
 /* file number; 0 means: belongs to no track */
 #define SIAMRUNG_ITEM_FILE 30
-/* in hundreds of feet, signed; the argument form says how bits 79-90 hold it. In writing, -2047 to 2047 for sign and magnitude, -2048 to 2047 for
- * two's complement; any other value is refused with 11 */
+/* in hundreds of feet, a signed number in either form; the argument form says only how bits 79-90 hold it. In writing, -2047 to 2047 for sign and
+ * magnitude, -2048 to 2047 for two's complement; any other value is refused with 11 */
 #define SIAMRUNG_ITEM_ALTITUDE 31
 /* bits 79-90 as sent, where they are no altitude */
 #define SIAMRUNG_ITEM_CARRIED 32
@@ -551,6 +553,7 @@ uint32_t siamrung_frame_write_refusal(const uint8_t *bytes, size_t length, size_
  * place or the run, the end) leaves the table as it is. So LEFT does not say that a report was accepted: siamrung_kind tells a refusal and the end.
  *
  * An entry says where its report stands on its line, and not which line that is: keep the lines, and choose scan numbers by which you find them again.
+ * Nor does it say the altitude's form: read the report with the form that it was entered with.
  *
  * An answer of a call has two parts: what was done, and the entry where it was done. siamrung_index_done and siamrung_index_entry take them out. Do not
  * compare an answer itself with the numbers of what was done: take it apart first.
@@ -582,8 +585,8 @@ static inline size_t siamrung_index_entry(uint32_t answer)
 }
 
 /*
- * Enters the report at the place, or behind the idle words there, with a scan number that the program chooses. The form matters only
- * for an altitude of the bits 100000000000: its report is entered in two's complement, and left in form 0, where it is refused with 9.
+ * Enters the report at the place, or behind the idle words there, with a scan number that the program chooses. The form matters only for an ATCRBS
+ * report with an altitude of the bits 100000000000: in two's complement it is a report like any other, and in form 0 it is refused with 9, and left.
  * siamrung_index_done takes out of the answer: 50 if the table is broken, whatever stands there; else LEFT if no report with a file number other than 0
  * stands there; else REPLACED if the number is in the table; else ENTERED if an entry is unused; else 51. After ENTERED and REPLACED
  * siamrung_index_entry takes out which entry has the report; only that entry is written. After LEFT, 50 and 51 nothing is written. The table must not

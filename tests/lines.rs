@@ -22,16 +22,21 @@ fn refusal(run: &[u16], form: u16) -> Option<(u8, usize)> {
     }
 }
 
-// The words of the report that is read in document 01's form, written in this one: -v hundreds of feet, a sign and v, are 4096 - v.
-fn in_form(words: &[u16], form: u16) -> Vec<u16> {
+// The words of a report that is read in one form and written in the other; nothing where the other has no such altitude (11). -v hundreds of feet are
+// a sign and v, or 4096 - v.
+fn rewritten(words: &[u16], form: u16, to: u16) -> Option<Vec<u16>> {
     let mut written = words.to_vec();
     let bits = document::string(words);
     let altitude = words.len() == 7 && &bits[5..6] == "1" && &bits[11..12] == "0";
-    if form != 0 && altitude && &bits[78..79] == "1" {
-        let data = 4096 - (words[6] / 2 - 2048);
+    if altitude && &bits[78..79] == "1" && (form == 0) != (to == 0) {
+        let v = if form == 0 { words[6] / 2 - 2048 } else { 4096 - words[6] / 2 };
+        let data = if to != 0 { 4096 - v } else { 2048 + v };
+        if data == 4096 {
+            return None;
+        }
         written[6] = 2 * data + (data.count_ones() as u16 + 1) % 2;
     }
-    written
+    Some(written)
 }
 
 // ---- a case
@@ -40,7 +45,8 @@ struct Case {
     what: u16, // 0 read, 1 read one byte fewer, 2 write the report of the words, 3 write a report with a value too large
     n: usize,
     place: u16,
-    form: u16,
+    form: u16,       // of the altitude, in reading
+    to: u16,         // in writing
     words: Vec<u16>, // repeated along the line
 }
 
@@ -134,7 +140,8 @@ fn answer(case: &Case, out: &mut String) {
             let at = place_of(case.place);
             out.push_str(&format!("REFUSED {} {} {} {}\n", number, at, at, at));
         }
-        2 => write(case.n, case.place, Some(&in_form(words, case.form)), out),
+        2 if refusal(words, case.form).is_some() => out.push_str("NO REPORT\n"),
+        2 => write(case.n, case.place, rewritten(words, case.form, case.to).as_deref(), out),
         _ => write(case.n, case.place, None, out),
     }
 }
@@ -142,7 +149,7 @@ fn answer(case: &Case, out: &mut String) {
 // ---- the cases
 
 fn whole(words: &[u16]) -> Case {
-    Case { what: 0, n: words.len(), place: 0, form: 0, words: words.to_vec() }
+    Case { what: 0, n: words.len(), place: 0, form: 0, to: 0, words: words.to_vec() }
 }
 
 // Runs of each outcome.
@@ -209,7 +216,7 @@ fn cases() -> Vec<Case> {
     flipped[2] = IDLE;
     all.push(whole(&flipped));
     for (n, place) in [(0, 0), (0, 1), (0, FAR), (5, 0), (5, 3), (5, 5), (5, 6)] {
-        all.push(Case { what: 0, n, place, form: 0, words: vec![IDLE] });
+        all.push(Case { what: 0, n, place, form: 0, to: 0, words: vec![IDLE] });
     }
     let spaced = [&C1[..], &[IDLE]].concat();
     let seven = [&C2[..], &[IDLE]].concat();
@@ -226,23 +233,23 @@ fn cases() -> Vec<Case> {
         (MOST + 1, vec![IDLE]),
     ] {
         for place in [0, 3, 32767, 32768, 32769, FAR] {
-            all.push(Case { what: 0, n, place, form: 0, words: words.clone() });
+            all.push(Case { what: 0, n, place, form: 0, to: 0, words: words.clone() });
         }
     }
     for (n, place) in [(1, 0), (5, 2), (5, FAR), (MOST, 0), (MOST + 1, 0), (MOST + 1, FAR)] {
-        all.push(Case { what: 1, n, place, form: 0, words: vec![] });
+        all.push(Case { what: 1, n, place, form: 0, to: 0, words: vec![] });
     }
     for words in [C1.to_vec(), C2.to_vec(), ATCRBS.to_vec()] {
         let k = words.len();
         for n in [k - 1, k, k + 1, k + 2, 30, MOST, MOST + 1] {
             for place in [0, 1, n.saturating_sub(k + 1), n.saturating_sub(k), n, n + 1] {
-                all.push(Case { what: 2, n, place: place as u16, form: 0, words: words.clone() });
+                all.push(Case { what: 2, n, place: place as u16, form: 0, to: 0, words: words.clone() });
             }
-            all.push(Case { what: 2, n, place: FAR, form: 0, words: words.clone() });
+            all.push(Case { what: 2, n, place: FAR, form: 0, to: 0, words: words.clone() });
         }
     }
     for (n, place) in [(10, 0), (3, 0), (3, 3), (3, 4), (MOST, 0), (MOST + 1, 0), (MOST + 1, FAR)] {
-        all.push(Case { what: 3, n, place, form: 0, words: vec![] });
+        all.push(Case { what: 3, n, place, form: 0, to: 0, words: vec![] });
     }
     let mut seed = 19801980;
     for _ in 0..100 {
@@ -252,9 +259,9 @@ fn cases() -> Vec<Case> {
     all
 }
 
-// The new form of the altitude: every run, the line of the lister's example, random lines, and each report written.
+// The new form of the altitude: every run, the line of the lister's example, random lines, and reports read in one form and written in either.
 fn new_form(seed: &mut u64) -> Vec<Case> {
-    let anew = |case: Case| Case { form: 1, ..case };
+    let anew = |case: Case| Case { form: 1, to: 1, ..case };
     let mut all: Vec<Case> = runs().iter().map(|run| anew(whole(run))).collect();
     let sample = [IDLE, 868, 1281, 2048, 647, IDLE, IDLE, 3973, 1281, 256, 7, 5175, 1414, 4096];
     for place in [0, 6, 9, 13, 14, 15, FAR] {
@@ -264,14 +271,18 @@ fn new_form(seed: &mut u64) -> Vec<Case> {
         all.push(anew(whole(&random_line(seed))));
     }
     for (n, place) in [(5, 2), (MOST + 1, FAR)] {
-        all.push(Case { what: 1, n, place, form: 1, words: vec![] });
+        all.push(Case { what: 1, n, place, form: 1, to: 1, words: vec![] });
     }
-    for words in [C1.to_vec(), C2.to_vec(), ATCRBS.to_vec(), [&C2[..6], &[8191]].concat(), [&C2[..6], &[4094]].concat()] {
-        for (n, place) in [(30, 0), (30, 22), (30, 23), (30, 31), (MOST, 3), (MOST + 1, 0)] {
-            all.push(Case { what: 2, n, place, form: 65535, words: words.clone() });
+    // bits 79-90: -3 and -2045, minus zero and -2048, the highest, -1024 in both, -2047 and -1
+    let altitudes = [4102, 4096, 4094, 6145, 8191].map(|last| [&C2[..6], &[last]].concat());
+    for words in [C1.to_vec(), ATCRBS.to_vec()].into_iter().chain(altitudes) {
+        for (form, to) in [(0, 65535), (1, 0), (2, 256), (0, 0)] {
+            for (n, place) in [(30, 0), (30, 22), (30, 23), (30, 31), (MOST, 3), (MOST + 1, 0)] {
+                all.push(Case { what: 2, n, place, form, to, words: words.clone() });
+            }
         }
     }
-    all.push(Case { what: 3, n: 10, place: 0, form: 1, words: vec![] });
+    all.push(Case { what: 3, n: 10, place: 0, form: 1, to: 1, words: vec![] });
     all
 }
 
@@ -281,9 +292,9 @@ fn main() {
     for case in cases() {
         assert!(case.words.len() <= 64 && case.n <= MOST + 1, "a case does not fit");
         if told == "stdin" {
-            let mut numbers = vec![case.what, case.n as u16, case.words.len() as u16, case.place, case.form];
+            let mut numbers = vec![case.what, case.n as u16, case.words.len() as u16, case.place, case.form, case.to];
             numbers.extend(&case.words);
-            numbers.resize(69, 0);
+            numbers.resize(70, 0);
             out.extend(numbers.iter().flat_map(|n| n.to_be_bytes()));
         } else {
             let mut text = String::new();

@@ -299,7 +299,7 @@ fn runs(tables: &Tables) -> Vec<Named> {
     cases
 }
 
-/// The runs of chosen.rs in the new form. Only C3 gets another answer there.
+/// The runs of chosen.rs in the new form. Of their refusals only that of C3 is lost there.
 fn earlier_runs(tables: &Tables) -> Vec<Named> {
     for run in chosen::RUNS {
         let (signed, complement) = (look(tables, 0, run).refusal, look(tables, 1, run).refusal);

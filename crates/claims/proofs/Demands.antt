@@ -12,6 +12,7 @@ use Rattle.reports.specs.Runs.{readRun}
 use Rattle.reports.specs.Values.{Counted, counts, none, Yields}
 use Rattle.reports.specs.declared.values.Values.{Values}
 use Rattle.reports.specs.declared.values.Values.the-variants as Y
+use Rattle.reports.proofs.Altitudes.{forms-sound}
 use Rattle.reports.proofs.Claims as reports
 use Rattle.reports.proofs.Demand2 as demand2
 use Rattle.reports.proofs.Refusals as runs
@@ -96,7 +97,7 @@ one-value none Y.Nothing Y.Nothing d e p q = refl
 meaning : MeanWhatIsPrinted
 meaning = record {
   runs = demand2.demand-2;
-  forms = reports.each-sound;
+  forms = forms-sound;
   layouts = words.laid-out;
   of-twelve-bits = reports.twelve-bits-a-word;
   of-four-or-seven = demand2.words-length;
@@ -120,14 +121,17 @@ accepted = record {
 }
 
 written-again : WrittenAgain
-written-again = record { runs = demand2.written-again; on-a-line = report-words; on-bytes = report-words-of-bytes; fields = again }
+written-again = record {
+  runs = demand2.written-again;
+  there = λ form sound. record { on-a-line = report-words form sound; on-bytes = report-words-of-bytes form sound };
+  fields = again;
+}
 
 read-again : ReadAgain
 read-again = record {
   runs = demand2.read-back;
   runs-taken = demand2.takes-what-fits;
-  on-a-line = read-written;
-  in-bytes = read-written-bytes;
+  there = λ form sound. record { on-a-line = read-written form sound; in-bytes = read-written-bytes form sound };
   fields = read-left;
 }
 
@@ -146,10 +150,10 @@ reports-back form p (s ∷ ss) n =
 list-back : ReadingGivesTheList
 list-back = record {
   outcomes-are = lists.reads-back;
-  reader = lists.document-returns;
+  reader = lists.reader-returns;
   list = λ form sound ss tail f a m.
       ap reportsIn
-      (lists.reads-back (readRun form) form (lists.document-returns form sound) ss tail f a m)
+      (lists.reads-back (readRun form) form (lists.reader-returns form sound) ss tail f a m)
       ∙ reports-back form 0 ss (length (lineOf form ss tail));
 }
 
@@ -160,13 +164,18 @@ one-each = record { outcomes-are = outcomes.one-each; stretches = runs-are }
 
 in-each-form : InEachForm
 in-each-form form =
-    let sound = reports.each-sound form in
+    let f = formOf form in
+    let sound = forms-sound form in
     record {
-      runs = demand2.demand-2 (formOf form) sound;
-      on-a-line = read-written (formOf form) sound;
-      in-bytes = read-written-bytes (formOf form) sound;
-      equal-lists = lists.equal-lists (formOf form) sound;
-      list-back = list-back .list (formOf form) sound;
+      runs = demand2.demand-2 f sound;
+      layouts = demand2.layout-is-words f sound;
+      written-again = demand2.written-again f sound;
+      words-there = written-again .there f sound;
+      read-back = demand2.read-back f sound;
+      read-there = read-again .there f sound;
+      equal-lists = lists.equal-lists f sound;
+      reader = lists.reader-returns f sound;
+      list-back = list-back .list f sound;
     }
 
 -- ---- all of them

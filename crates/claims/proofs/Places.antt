@@ -33,7 +33,7 @@ use Rattle.words.proofs.Tests.{picked, passed, by-test}
 use Rattle.lines.proofs.Runs.{Free, good-free}
 use Rattle.lines.proofs.Puts.{write-cases}
 use Rattle.lines.proofs.Outcomes.{read-there, goes-on}
-use Rattle.lines.proofs.Back.{document-returns}
+use Rattle.lines.proofs.Back.{reader-returns}
 use Rattle.lines.proofs.Written.{only-its-words}
 use Rattle.lines.proofs.ByteWords as byte-words
 use Rattle.lines.proofs.ByteWords.{bytes-length, bytes-as-words}
@@ -217,7 +217,7 @@ module _ (form : AltitudeForm) (sound : Sound form) where
       ∙ (λ i. outcomeAt (readRun form) (length line) (place + g i) (stretch (drop (g i) behind)))
       ∙ ap (outcomeAt (readRun form) (length line) (place + 0)) (stretch-there rest ws free)
       ∙ at-run (length line) (place + 0) ws some
-      ∙ ap (placed (place + 0) (length ws)) (document-returns form sound r fits)
+      ∙ ap (placed (place + 0) (length ws)) (reader-returns form sound r fits)
       ∙ (λ i. outcomeOf (W.Accepted r) (p i) (p i + length ws) (add-zero (p i) i))
 
   pub read-written : (line : List ℕ) (place : ℕ) (r : Report) (next : ℕ) (exit : List ℕ) → Writes form line place r (P.Next next) exit

@@ -154,8 +154,11 @@ input = record {
   place = forms.new-outcome;
   place-of-bytes = forms.new-outcome-of-bytes;
   same = forms.equal-readings;
+  rest = forms.rest-stays;
+  entry = forms.same-entry;
   written = forms.equal-writing;
-  words = forms.same-words;
+  words = forms.turned-words;
+  calls = forms.same-calls;
 }
 
 range : RangeAndPatterns

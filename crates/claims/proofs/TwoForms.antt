@@ -1,19 +1,19 @@
 -- The two forms of the altitude: what the new one answers by what document 01's answers (specs/TwoForms.antt). What is read of a report goes by one
 -- law on any two forms (`mapped`). Assumes nothing.
-use Prim.Native.Nat.{ℕ, zero, suc, _+_, _-_, _/_, _%_, _≤_, _<_}
-use mathlib.Core.Path.{_≡_, refl, sym, ap, _∙_, subst}
+use Prim.Native.Nat.{ℕ, zero, suc, _+_, _-_, _/_, _%_}
+use mathlib.Core.Path.{_≡_, refl, sym, ap, _∙_}
 use mathlib.Core.Bool.{Bool, true, false, not, cond}
 use mathlib.Core.List.{List, [], _∷_, _++_}
-use native.Mathlib.Nat.{zero-add}
 use native.Mathlib.Omega.{arith}
-use borrow.Author.Tests.{eq-eqb, ne-eqb, eqb-true, eqb-false, le-leb, lt-leb, leb-true, leb-false}
+use borrow.Author.Tests.{eqb-true, ltb-true, lt-ltb}
 use lib.Dec.{eqb, leb, ltb}
 use lib.IntN.{ℤ, pos, negsuc, negℤ, _-ℤ_}
 use lib.ListN.{length, getD, take}
 use Rattle.rows.specs.Rows.{Row, row, firstOf, each}
-use Rattle.rows.specs.Claims.{NoneHolds, Refusing}
+use Rattle.rows.specs.Claims.{NoneHolds}
 use Rattle.rows.proofs.Claims as rows
-use Rattle.refusals.specs.declared.LineRefusal.the-variants.{WordTooWide, EvenWord, UnknownForm, WrongLength, UnassignedRadar, SpareBitSet, MinusZero, ValueTooLarge}
+use Rattle.rows.proofs.Claims.{differ}
+use Rattle.refusals.specs.declared.LineRefusal.the-variants.{WordTooWide, EvenWord, UnknownForm, WrongLength, UnassignedRadar, SpareBitSet, MinusZero, LineTooLong, OddByteCount, PlaceBeyondLine, ValueTooLarge, NoRoom}
 use Rattle.words.specs.Tests.{all, any}
 use Rattle.words.specs.Word.{bits, bit, tooWide, even, first}
 use Rattle.words.specs.Layout.{Field, count, wordsBy, fittingAll, fittingBy}
@@ -29,25 +29,29 @@ use Rattle.reports.specs.declared.RunAnswer.{RunAnswer}
 use Rattle.reports.specs.declared.RunAnswer.the-variants as A
 use Rattle.reports.specs.declared.altitude.Form.{Form}
 use Rattle.reports.specs.declared.altitude.Form.the-variants as F
-use Rattle.reports.specs.Altitude.{AltitudeForm, sign, magnitude, negative, signMagnitude, twosComplement, formOf, formNumber, formNumbered}
-use Rattle.reports.specs.Forms.{isSeven, isSearch, isStrobe, isStatus, isMap, isDabs, isCd, isMtd, isRdas, isMtdSearch, isRdasSearch, radarCode}
+use Rattle.reports.specs.Altitude.{AltitudeForm, sign, magnitude, negative, signMagnitude, twosComplement, formOf}
+use Rattle.reports.specs.Forms.{isSeven, isSearch, isStrobe, isStatus, isMap, isDabs, isCd, isMtd, isRdas, isMtdSearch, isRdasSearch}
 use Rattle.reports.specs.Records.{heightOf, dabsOf, atcrbsOf, mtdOf, rdasOf, fourOf, sevenOf, reportOf}
 use Rattle.reports.specs.Conditions.{tooWideWord, evenWord, unknownForm, wrongLength, unassigned, spareSet, minusZero}
 use Rattle.reports.specs.declared.Written.the-variants as M
-use Rattle.reports.specs.Layouts.{lastWord, layoutOf, wordsOf, Fits, takes, asWritten, written}
+use Rattle.reports.specs.Layouts.{lastWord, layoutOf, wordsOf, takes, asWritten, written}
 use Rattle.reports.specs.Runs.{readRun, tableOf, answerOffset}
-use Rattle.reports.proofs.Altitudes.{weighed, forms-sound}
+use Rattle.reports.specs.Values.{countedOf}
+use Rattle.reports.specs.Kinds.{dabsKind, atcrbsKind, kindOf, kindNumber}
+use Rattle.reports.specs.Claims.{InRange}
+use Rattle.reports.proofs.Altitudes.{forms-sound, range-of-each, same-from-zero}
 use Rattle.reports.proofs.Tests.{by-cond, by-conds, holds-not}
 use Rattle.reports.proofs.Demand2.{demand-2}
 use Rattle.lines.specs.declared.What.{What}
 use Rattle.lines.specs.declared.What.the-variants as W
 use Rattle.lines.specs.declared.Outcome.{Outcome}
-use Rattle.lines.specs.Line.{outcomeOf, whatOf, placed, outcomeAt, runAt, lineRows, readBy}
-use Rattle.lines.specs.Bytes.{wordsIn, byteRows, readBytes}
-use Rattle.claims.specs.TwoForms.{dabsWith, atcrbsWith, heightBy, altitudeBy, ofHeight, ofAltitude, turn, turned, lowest, isMinusZero, answerAnew, NewReading, lowAltitude, EqualReadings, NeverMinusZero, NeverMinusZeroInBytes, whatAnew, outcomeAnew, runFrom, NewOutcome, NewOutcomeOfBytes, ElevenFollows, EqualWriting, SameWords}
-
-differ : {X : Type 0} → true ≡ false → X
-differ e = absurd (let z : _≡_ {A = ℕ} 0 1 = cc in omega arith)
+use Rattle.lines.specs.Line.{outcomeOf, whatOf, placed, outcomeAt, runAt, lineRows, most, readBy, readAt}
+use Rattle.lines.specs.Bytes.{mostBytes, wordsIn, byteRows, readBytes}
+use Rattle.lines.specs.declared.Wrote.the-variants as P
+use Rattle.lines.specs.Writing.{placeRows, writeAt, leftBy}
+use Rattle.lines.specs.ByteWriting.{writeBytes, bytesLeft}
+use Rattle.index.specs.Entries.{fileOf, numberIn, kindIn, entryOf}
+use Rattle.claims.specs.TwoForms.{dabsWith, atcrbsWith, heightBy, altitudeBy, ofHeight, ofAltitude, turn, turned, isMinusZero, answerAnew, NewReading, lowAltitude, EqualReadings, RestStays, NeverMinusZero, NeverMinusZeroInBytes, whatAnew, outcomeAnew, runFrom, NewOutcome, NewOutcomeOfBytes, isNine, SameEntry, ElevenFollows, EqualWriting, TurnedWords, WriteAlike, SameCalls}
 
 -- ---- the height of a report in two forms
 
@@ -173,9 +177,6 @@ common ws =
 abbrev lastOf : AltitudeForm → List ℕ → RunAnswer
 lastOf form ws = cond (minusZero form ws) (A.Refused MinusZero 0) (A.Accepted (reportOf form ws))
 
-two-steps : (form : AltitudeForm) (ws : List ℕ) → readRun form ws ≡ firstOf (common ws) (lastOf form ws)
-two-steps form ws = refl
-
 -- rows are asked alike, and where none holds the other answers are the same
 alike : {X : Type 0} (rs : List (Row X)) (x y : X) → (NoneHolds rs → x ≡ y) → firstOf rs x ≡ firstOf rs y
 alike [] x y e = e tt
@@ -245,26 +246,26 @@ report-stays f test e (R.Atcrbs a) k = ap (λ (h : Height). R.Atcrbs (atcrbsWith
 report-stays f test e (R.Mtd m) k = refl
 report-stays f test e (R.Rdas r) k = refl
 
--- a test that never holds
-height-none : (h : Height) → ofHeight (λ z. false) h ≡ false
-height-none (H.Altitude z) = refl
-height-none (H.Carried n) = refl
-height-none (H.Cd c n) = refl
-height-none (H.Mtd c n) = refl
-height-none (H.Rdas c n) = refl
+-- a report with its own altitude is itself
+own-height : (h : Height) → heightBy (λ z. z) h ≡ h
+own-height (H.Altitude z) = refl
+own-height (H.Carried n) = refl
+own-height (H.Cd c n) = refl
+own-height (H.Mtd c n) = refl
+own-height (H.Rdas c n) = refl
 
-report-none : (r : Report) → ofAltitude (λ z. false) r ≡ false
-report-none (R.Search s) = refl
-report-none (R.Strobe s) = refl
-report-none (R.Map m) = refl
-report-none (R.Status s) = refl
-report-none (R.Rtqc s) = refl
-report-none (R.Dabs d) = height-none (d .height)
-report-none (R.Atcrbs a) = height-none (a .height)
-report-none (R.Mtd m) = refl
-report-none (R.Rdas r) = refl
+own-report : (r : Report) → altitudeBy (λ z. z) r ≡ r
+own-report (R.Search s) = refl
+own-report (R.Strobe s) = refl
+own-report (R.Map m) = refl
+own-report (R.Status s) = refl
+own-report (R.Rtqc s) = refl
+own-report (R.Dabs d) = ap (λ (h : Height). R.Dabs (dabsWith d h)) (own-height (d .height))
+own-report (R.Atcrbs a) = ap (λ (h : Height). R.Atcrbs (atcrbsWith a h)) (own-height (a .height))
+own-report (R.Mtd m) = refl
+own-report (R.Rdas r) = refl
 
--- four tests of which the last is of two do not all hold where its first does not stand for it
+-- where four tests do not all hold, they do not with one more added to the last
 not-both : (a b c d e : Bool) → all (a ∷ b ∷ c ∷ d ∷ []) ≡ false → all (a ∷ b ∷ c ∷ all (d ∷ e ∷ []) ∷ []) ≡ false
 not-both true true true true e h = differ h
 not-both true true true false e h = refl
@@ -277,7 +278,7 @@ last-same ws low none =
     let n = bits ws 79 90 in
     let low-sign : all (isSeven ws ∷ not (bit ws 12) ∷ bit ws 6 ∷ sign n ∷ []) ≡ false = ap (λ (b : Bool). all (isSeven ws ∷ not (bit ws 12) ∷ bit ws 6 ∷ b ∷ [])) (first-bit ws) ∙ low in
     let report : reportOf signMagnitude ws ≡ reportOf twosComplement ws =
-    sym (report-stays (λ z. z) (λ z. false) (λ z e. refl) (reportOf signMagnitude ws) (report-none (reportOf signMagnitude ws)))
+    sym (own-report (reportOf signMagnitude ws))
     ∙ mapped signMagnitude twosComplement (λ z. z) ws (none .1 .1 .1 .1 .0) (λ s r c. same-plain n (fourth-not (isSeven ws) (bit ws 12) (bit ws 6) (sign n) s r c low-sign)) in
     accepted ws ∙ ap A.Accepted (sym report) ∙ sym (passed (A.Refused MinusZero 0) _ (not-both (isSeven ws) (not (bit ws 12)) (bit ws 6) (sign n) (eqb (magnitude n) 0) low-sign))
 
@@ -286,40 +287,6 @@ equal-readings = record {
   by-bits = λ ws low. alike (common ws) _ _ (last-same ws low);
   by-record = report-stays turn negative (λ z e. passed _ _ e);
 }
-
--- ---- 9 is never given in the new form
-
--- no row's answer and not the other one: not the answer
-never : {X : Type 0} (test : X → Bool) (rs : List (Row X)) (x : X) → Refusing test rs → test x ≡ false → test (firstOf rs x) ≡ false
-never test [] x none e = e
-never test (r ∷ rs) x none e = by-cond (λ y. test y ≡ false) (r .holds) (λ t. none .0) (λ t. never test rs x (none .1) e)
-
-abbrev nine : What → Bool
-nine (W.Accepted r) = false
-nine (W.Refused q) = isMinusZero q
-nine W.End = false
-
-run-not-nine : (ws : List ℕ) → nine (whatOf (readRun twosComplement ws)) ≡ false
-run-not-nine ws =
-    never (λ a. nine (whatOf a)) (common ws) (lastOf twosComplement ws) (refl, (refl, (refl, (refl, (refl, (refl, tt))))))
-    (ap (λ (a : RunAnswer). nine (whatOf a)) (accepted ws))
-
-there-not-nine : (n f : ℕ) (run : List ℕ) → nine (outcomeAt (readRun twosComplement) n f run .what) ≡ false
-there-not-nine n f [] = refl
-there-not-nine n f (w ∷ ws) = run-not-nine (w ∷ ws)
-
-no-nine : {X : Type 0} (w : What) → nine w ≡ false → w ≡ W.Refused MinusZero → X
-no-nine w e k = differ (sym (ap nine k) ∙ e)
-
-pub never-minus-zero : NeverMinusZero
-unfolding readBy
-never-minus-zero line place =
-    no-nine _ (never (λ (o : Outcome). nine (o .what)) (lineRows line place) (runAt (readRun twosComplement) line place) (refl, (refl, tt)) (there-not-nine _ _ (runFrom line place)))
-
-pub never-minus-zero-in-bytes : NeverMinusZeroInBytes
-unfolding readBytes
-never-minus-zero-in-bytes bytes place =
-    no-nine _ (never (λ (o : Outcome). nine (o .what)) (byteRows bytes place) (runAt (readRun twosComplement) (wordsIn bytes) place) (refl, (refl, (refl, tt))) (there-not-nine _ _ (runFrom (wordsIn bytes) place)))
 
 -- ---- the outcome at a place
 
@@ -340,22 +307,98 @@ run-anew n f (w ∷ ws) =
     let a = readRun signMagnitude run in
     ap (placed f (length run)) (new-reading run) ∙ (λ i. outcomeOf (what-anew run a i) f (f + length run) (f + offset-stays run i))
 
+-- rows of the line and the place that minus zero is none of: they answer alike, and then the run does
+place-anew : (rs : List (Row Outcome)) (n f : ℕ) (run : List ℕ) → each (outcomeAnew run) rs ≡ rs
+    → firstOf rs (outcomeAt (readRun twosComplement) n f run) ≡ outcomeAnew run (firstOf rs (outcomeAt (readRun signMagnitude) n f run))
+place-anew rs n f run same =
+    let o = outcomeAt (readRun signMagnitude) n f run in
+    ap (firstOf rs) (run-anew n f run)
+    ∙ ap (λ (q : List (Row Outcome)). firstOf q (outcomeAnew run o)) (sym same)
+    ∙ rows.each-of Outcome Outcome (outcomeAnew run) rs o
+
 pub new-outcome : NewOutcome
 unfolding readBy
-new-outcome line place =
-    let run = runFrom line place in
-    ap (firstOf (lineRows line place)) (run-anew _ _ run) ∙ rows.each-of Outcome Outcome (outcomeAnew run) (lineRows line place) (runAt (readRun signMagnitude) line place)
+new-outcome line place = place-anew (lineRows line place) _ _ (runFrom line place) refl
 
 pub new-outcome-of-bytes : NewOutcomeOfBytes
 unfolding readBytes
-new-outcome-of-bytes bytes place =
-    let run = runFrom (wordsIn bytes) place in
-    ap (firstOf (byteRows bytes place)) (run-anew _ _ run) ∙ rows.each-of Outcome Outcome (outcomeAnew run) (byteRows bytes place) (runAt (readRun signMagnitude) (wordsIn bytes) place)
+new-outcome-of-bytes bytes place = place-anew (byteRows bytes place) _ _ (runFrom (wordsIn bytes) place) refl
+
+-- ---- 9 is never given in the new form
+
+not-nine : (ws : List ℕ) (w : What) → isNine (whatAnew ws w) ≡ false
+not-nine ws (W.Accepted r) = refl
+not-nine ws (W.Refused q) = by-cond (λ x. isNine x ≡ false) (isMinusZero q) (λ t. refl) (λ t. t)
+not-nine ws W.End = refl
+
+never : {X : Type 0} (ws : List ℕ) (o p : Outcome) → o ≡ outcomeAnew ws p → o .what ≡ W.Refused MinusZero → X
+never ws o p e k = differ (sym (ap isNine k) ∙ ap (λ (x : Outcome). isNine (x .what)) e ∙ not-nine ws (p .what))
+
+pub never-minus-zero : NeverMinusZero
+never-minus-zero line place = never (runFrom line place) _ (readAt signMagnitude line place) (new-outcome line place)
+
+pub never-minus-zero-in-bytes : NeverMinusZeroInBytes
+never-minus-zero-in-bytes bytes place = never (runFrom (wordsIn bytes) place) _ (readBytes signMagnitude bytes place) (new-outcome-of-bytes bytes place)
+
+-- ---- what else a report says
+
+dabs-kind : (f : ℤ → ℤ) (h : Height) → dabsKind (heightBy f h) ≡ dabsKind h
+dabs-kind f (H.Altitude z) = refl
+dabs-kind f (H.Carried n) = refl
+dabs-kind f (H.Cd c n) = refl
+dabs-kind f (H.Mtd c n) = refl
+dabs-kind f (H.Rdas c n) = refl
+
+atcrbs-kind : (f : ℤ → ℤ) (h : Height) → atcrbsKind (heightBy f h) ≡ atcrbsKind h
+atcrbs-kind f (H.Altitude z) = refl
+atcrbs-kind f (H.Carried n) = refl
+atcrbs-kind f (H.Cd c n) = refl
+atcrbs-kind f (H.Mtd c n) = refl
+atcrbs-kind f (H.Rdas c n) = refl
+
+-- of a report, what is told alike of every kind but DABS and ATCRBS, and of these with any height, does not depend on the altitude
+rest : {X : Type 0} (say : Report → X) (f : ℤ → ℤ)
+    → ((d : Dabs) → say (R.Dabs (dabsWith d (heightBy f (d .height)))) ≡ say (R.Dabs d))
+    → ((a : Atcrbs) → say (R.Atcrbs (atcrbsWith a (heightBy f (a .height)))) ≡ say (R.Atcrbs a))
+    → (r : Report) → say (altitudeBy f r) ≡ say r
+rest say f dabs atcrbs (R.Search s) = refl
+rest say f dabs atcrbs (R.Strobe s) = refl
+rest say f dabs atcrbs (R.Map m) = refl
+rest say f dabs atcrbs (R.Status s) = refl
+rest say f dabs atcrbs (R.Rtqc s) = refl
+rest say f dabs atcrbs (R.Dabs d) = dabs d
+rest say f dabs atcrbs (R.Atcrbs a) = atcrbs a
+rest say f dabs atcrbs (R.Mtd m) = refl
+rest say f dabs atcrbs (R.Rdas r) = refl
+
+pub rest-stays : RestStays
+rest-stays = record {
+  kind = λ f. rest kindOf f (λ d. dabs-kind f (d .height)) (λ a. atcrbs-kind f (a .height));
+  file = λ f. rest fileOf f (λ d. refl) (λ a. refl);
+  values = λ f. rest countedOf f (λ d. refl) (λ a. refl);
+}
+
+entry-anew : (ws : List ℕ) (o : Outcome) (scan : ℕ) → isNine (o .what) ≡ false → entryOf (outcomeAnew ws o) scan ≡ entryOf o scan
+entry-anew ws o scan e = λ i. record { number = number (o .what) e i; kind = kind (o .what) e i; scan = scan; place = o .first }
+  where
+    number : (w : What) → isNine w ≡ false → numberIn (whatAnew ws w) ≡ numberIn w
+    number (W.Accepted r) e = rest-stays .file turn r
+    number (W.Refused q) e = ap numberIn (passed _ _ e)
+    number W.End e = refl
+
+    kind : (w : What) → isNine w ≡ false → kindIn (whatAnew ws w) ≡ kindIn w
+    kind (W.Accepted r) e = ap kindNumber (rest-stays .kind turn r)
+    kind (W.Refused q) e = ap kindIn (passed _ _ e)
+    kind W.End e = refl
+
+pub same-entry : SameEntry
+same-entry bytes place scan e =
+    ap (λ (o : Outcome). entryOf o scan) (new-outcome-of-bytes bytes place) ∙ entry-anew _ (readBytes signMagnitude bytes place) scan e
 
 -- ---- writing
 
-pub same-words : SameWords
-same-words r fits =
+pub turned-words : TurnedWords
+turned-words r fits =
     let ws = wordsOf signMagnitude r in
     let old = demand-2 signMagnitude (forms-sound F.SignMagnitude) ws r .1 (refl, fits) in
     let new = demand-2 twosComplement (forms-sound F.TwosComplement) ws (turned r) .0 (new-reading ws ∙ ap (answerAnew ws) old) in
@@ -428,15 +471,80 @@ module _ (f g : AltitudeForm) (test : ℤ → Bool) (same : (z : ℤ) → test z
   layout-alike (R.Mtd m) e = refl
   layout-alike (R.Rdas r) e = refl
 
-pub eleven-follows : ElevenFollows
-eleven-follows = record {
-  range = λ form r z. range (formOf form) z r;
-  no-altitude = λ form r e. ap fittingBy (layout-alike (formOf form) signMagnitude (λ v. true) (λ z k. differ k) r e);
-}
+-- ---- 11
 
-same-plus : (z : ℤ) → negative z ≡ false → twosComplement .bitsOf z ≡ signMagnitude .bitsOf z
-same-plus (pos n) e = ap (λ (k : ℕ). cond (leb n 2047) k 4096) (sym (zero-add n))
-same-plus (negsuc n) e = differ e
+alone : (b : Bool) → all (b ∷ true ∷ []) ≡ b
+alone true = refl
+alone false = refl
+
+neither : (b : Bool) → all (b ∷ false ∷ []) ≡ false
+neither true = refl
+neither false = refl
+
+outside : (form : Form) (r : Report) (z : ℤ) → ofAltitude (λ v. true) r ≡ true → (InRange form z → ⊥)
+    → written (formOf form) (altitudeBy (λ v. z) r) ≡ M.Refused ValueTooLarge
+outside form r z e none =
+    let n = formOf form .bitsOf z in
+    let over : ltb n 4096 ≡ false = by-test (ltb n 4096) (λ t. absurd (none (range-of-each form z .0 (ltb-true n 4096 t)))) (λ t. t) in
+    passed _ _ (range (formOf form) z r e ∙ ap (λ (b : Bool). all (takes signMagnitude (altitudeBy (λ v. pos 0) r) ∷ b ∷ [])) over ∙ neither (takes signMagnitude (altitudeBy (λ v. pos 0) r)))
+
+inside : (form : Form) (r : Report) (z : ℤ) → InRange form z
+    → takes (formOf form) (altitudeBy (λ v. z) r) ≡ takes signMagnitude (altitudeBy (λ v. pos 0) r)
+inside form r z within =
+    by-test (ofAltitude (λ v. true) r)
+    (λ e.
+    range (formOf form) z r e
+    ∙ ap (λ (b : Bool). all (takes signMagnitude (altitudeBy (λ v. pos 0) r) ∷ b ∷ [])) (lt-ltb _ 4096 (range-of-each form z .1 within))
+    ∙ alone (takes signMagnitude (altitudeBy (λ v. pos 0) r)))
+    (λ e.
+    ap (takes (formOf form)) (stays z e)
+    ∙ ap fittingBy (layout-alike (formOf form) signMagnitude (λ v. true) (λ v k. differ k) r e)
+    ∙ sym (ap (takes signMagnitude) (stays (pos 0) e)))
+  where
+    stays : (z : ℤ) → ofAltitude (λ v. true) r ≡ false → altitudeBy (λ v. z) r ≡ r
+    stays z = report-stays (λ v. z) (λ v. true) (λ v k. differ k) r
+
+pub eleven-follows : ElevenFollows
+eleven-follows = record { outside = outside; inside = inside }
+
+-- ---- calls of the writers
 
 pub equal-writing : EqualWriting
-equal-writing r e = ap (λ (l : List (List Field)). cond (fittingBy l) (asWritten (wordsBy l)) (M.Refused ValueTooLarge)) (layout-alike twosComplement signMagnitude negative same-plus r e)
+equal-writing r e =
+    ap (λ (l : List (List Field)). cond (fittingBy l) (asWritten (wordsBy l)) (M.Refused ValueTooLarge))
+    (layout-alike twosComplement signMagnitude negative same-from-zero r e)
+
+-- a writer asks of a report only whether it is taken, and its words
+module _ (f : AltitudeForm) (r : Report) (g : AltitudeForm) (s : Report) (taken : takes f r ≡ takes g s) (words : wordsOf f r ≡ wordsOf g s) where
+  same-rows : (n place : ℕ) → placeRows f n place r ≡ placeRows g n place s
+  same-rows n place =
+      λ i. row (ltb n place) (P.Refused PlaceBeyondLine place) ∷ row (not (taken i)) (P.Refused ValueTooLarge place) ∷ row (ltb (n - place) (length (words i) + 1)) (P.Refused NoRoom place) ∷ []
+
+  on-words : (line : List ℕ) (place : ℕ) → writeAt f line place r ≡ writeAt g line place s
+  unfolding writeAt
+  on-words line place =
+      λ i. firstOf (row (ltb most (length line)) (P.Refused LineTooLong place) ∷ same-rows (length line) place i) (P.Next (place + length (words i) + 1))
+
+  on-bytes : (bytes : List ℕ) (place : ℕ) → writeBytes f bytes place r ≡ writeBytes g bytes place s
+  unfolding writeBytes
+  on-bytes bytes place =
+      λ i.
+      firstOf (row (ltb mostBytes (length bytes)) (P.Refused LineTooLong place) ∷ row (eqb (length bytes % 2) 1) (P.Refused OddByteCount place) ∷ same-rows (length (wordsIn bytes)) place i) (P.Next (place + length (words i) + 1))
+
+  write-alike : WriteAlike f r g s
+  write-alike = record {
+    words = λ line place answer exit w.
+        record { answers = w .answers ∙ on-words line place; leaves = w .leaves ∙ (λ i. leftBy (on-words line place i) line place (words i)) };
+    bytes = λ bytes place answer exit w.
+        record { answers = w .answers ∙ on-bytes bytes place; leaves = w .leaves ∙ (λ i. bytesLeft (on-bytes bytes place i) bytes place (words i)) };
+  }
+
+pub same-calls : SameCalls
+same-calls = record {
+  equal = λ r e.
+      let l = sym (layout-alike twosComplement signMagnitude negative same-from-zero r e) in
+      write-alike signMagnitude r twosComplement r (ap fittingBy l) (ap wordsBy l);
+  turned = λ r fits.
+      let w = turned-words r fits in
+      write-alike signMagnitude r twosComplement (turned r) (fits ∙ sym (w .0)) (sym (w .1));
+}

@@ -19,10 +19,9 @@ use Rattle.measures.specs.Claims as measures
 use Rattle.bits.specs.Bits.{Bytes}
 use Rattle.reports.specs.Claims as reports
 use Rattle.reports.specs.declared.Report.{Report}
-use Rattle.reports.specs.declared.RunAnswer.the-variants as A
 use Rattle.reports.specs.declared.altitude.Form.{Form}
 use Rattle.reports.specs.Altitude.{AltitudeForm, Sound, formOf}
-use Rattle.reports.specs.Layouts.{wordsOf, Fits}
+use Rattle.reports.specs.Layouts.{wordsOf}
 use Rattle.reports.specs.Runs.{readRun}
 use Rattle.reports.specs.Values.{Counted, Yields}
 use Rattle.reports.specs.declared.values.Values.{Values}
@@ -158,29 +157,35 @@ pub record AcceptedExactly : Type 0 where
 abbrev pub between : ℕ → ℕ → List ℕ → List ℕ
 between first after line = take (after - first) (drop first line)
 
--- "its record written out again gives the same bits": a report has the words of the run that it was read from, there on the line; and the
--- writer puts a field's bytes into any lent bytes that have room, of which those behind stay
+-- a report has the words of the run that it was read from, there on the line, of words and of bytes
+pub record WordsThere (form : AltitudeForm) : Type 0 where
+  pub on-a-line : (line : List ℕ) (place : ℕ) (r : Report) → readAt form line place .what ≡ W.Accepted r
+      → wordsOf form r ≡ between (readAt form line place .first) (readAt form line place .after) line
+  pub on-bytes : (bytes : List ℕ) (place : ℕ) (r : Report) → readBytes form bytes place .what ≡ W.Accepted r
+      → wordsOf form r ≡ between (readBytes form bytes place .first) (readBytes form bytes place .after) (wordsIn bytes)
+
+-- "its record written out again gives the same bits": of a run, there on the line (there); and the writer puts a field's bytes into any lent bytes
+-- that have room, of which those behind stay
 pub record WrittenAgain : Type 0 where
   pub runs : reports.WrittenAgain
-  pub on-a-line : (form : AltitudeForm) → Sound form → (line : List ℕ) (place : ℕ) (r : Report) → readAt form line place .what ≡ W.Accepted r
-      → wordsOf form r ≡ between (readAt form line place .first) (readAt form line place .after) line
-  pub on-bytes : (form : AltitudeForm) → Sound form → (bytes : List ℕ) (place : ℕ) (r : Report) → readBytes form bytes place .what ≡ W.Accepted r
-      → wordsOf form r ≡ between (readBytes form bytes place .first) (readBytes form bytes place .after) (wordsIn bytes)
+  pub there : (form : AltitudeForm) → Sound form → WordsThere form
   pub fields : (s : List ℕ) (n : ℕ) (w : Direction) (r : Record) → Bytes s → answerOf s n w ≡ Accepted r
       → (b : List ℕ) → Bytes b → length s ≤ length b
       → WritesField r (readField s n w .list) (textOf s n w) b (F.Bits n) (s ++ drop (length s) b)
 
--- "and, of those the writer takes, a record written and read gives the same record": a report read at the place where it was written, of
--- words and of bytes; and a record with its list and its text. A list has thirty numbers, and a text is bytes
+-- a report read at the place where it was written, of words and of bytes
+pub record ReadThere (form : AltitudeForm) : Type 0 where
+  pub on-a-line : (line : List ℕ) (place : ℕ) (r : Report) (next : ℕ) (exit : List ℕ) → Writes form line place r (P.Next next) exit
+      → readAt form exit place ≡ outcomeOf (W.Accepted r) place (next - 1) place
+  pub in-bytes : (bytes : List ℕ) (place : ℕ) (r : Report) (next : ℕ) (exit : List ℕ) → WritesBytes form bytes place r (P.Next next) exit
+      → readBytes form exit place ≡ outcomeOf (W.Accepted r) place (next - 1) place
+
+-- "and, of those the writer takes, a record written and read gives the same record": a report where it was written (there); and a record with its
+-- list and its text. A list has thirty numbers, and a text is bytes
 pub record ReadAgain : Type 0 where
   pub runs : reports.ReadBack
   pub runs-taken : reports.TakesWhatFits
-  pub on-a-line : (form : AltitudeForm) → Sound form → (line : List ℕ) (place : ℕ) (r : Report) (next : ℕ) (exit : List ℕ)
-      → Writes form line place r (P.Next next) exit
-      → readAt form exit place ≡ outcomeOf (W.Accepted r) place (next - 1) place
-  pub in-bytes : (form : AltitudeForm) → Sound form → (bytes : List ℕ) (place : ℕ) (r : Report) (next : ℕ) (exit : List ℕ)
-      → WritesBytes form bytes place r (P.Next next) exit
-      → readBytes form exit place ≡ outcomeOf (W.Accepted r) place (next - 1) place
+  pub there : (form : AltitudeForm) → Sound form → ReadThere form
   pub fields : (r : Record) (l : List ℤ) (t b : List ℕ) (n : ℕ) (exit : List ℕ) → length l ≡ 30 → Bytes t → Bytes b
       → WritesField r l t b (F.Bits n) exit
       → (readField (take ((n + 7) / 8) exit) n (wayIn r) ≡ record { answer = Accepted r; list = l })
@@ -204,12 +209,17 @@ reportsIn (o ∷ os) = among (o .what) (reportsIn os)
     among (W.Refused q) rs = rs
     among W.End rs = rs
 
+-- the reports of a line are the list that was written
+abbrev pub ListBack : AltitudeForm → Type 0
+ListBack form =
+    (ss : List Spaced) (tail : ℕ) → AllFit form ss → Apart ss → length (lineOf form ss tail) ≤ most
+    → reportsIn (outcomes (readRun form) (lineOf form ss tail)) ≡ reportsOf ss
+
 -- "and reading the line gives the list back": every outcome is a report, with its places, up to the end; and the reports are the list
 pub record ReadingGivesTheList : Type 0 where
   pub outcomes-are : lines.ReadsBack
-  pub reader : lines.DocumentReturns
-  pub list : (form : AltitudeForm) → Sound form → (ss : List Spaced) (tail : ℕ) → AllFit form ss → Apart ss → length (lineOf form ss tail) ≤ most
-      → reportsIn (outcomes (readRun form) (lineOf form ss tail)) ≡ reportsOf ss
+  pub reader : lines.ReaderReturns
+  pub list : (form : AltitudeForm) → Sound form → ListBack form
 
 -- "On any line of that length or less, read from its start, each unbroken stretch of non-idle words gets exactly one outcome, in order: the
 -- one those words get alone, places moved along": of the stretches, and what they are
@@ -223,19 +233,18 @@ OutsideStays = lines.Replaced
 
 -- ---- demands 2 and 3 in each form of the altitude
 
--- document 02, Ticket 5: "Demands 2 and 3 are read for one form at a time, the same for reader and writer." What is written above of any sound form,
--- here of one: in reading and writing a report (runs), at a place of a line (on-a-line) and of bytes (in-bytes), and in lists of reports (equal-lists,
--- list-back)
+-- document 02, Ticket 5: "Demands 2 and 3 are read for one form at a time, the same for reader and writer." What is said above of every sound form,
+-- here of one. By `reader` the outcomes of a list, with their places, are those of ReadsBack
 pub record InOneForm (form : AltitudeForm) : Type 0 where
-  pub runs : (ws : List ℕ) (r : Report) → (readRun form ws ≡ A.Accepted r) ↔ ((ws ≡ wordsOf form r) × Fits form r)
-  pub on-a-line : (line : List ℕ) (place : ℕ) (r : Report) (next : ℕ) (exit : List ℕ) → Writes form line place r (P.Next next) exit
-      → readAt form exit place ≡ outcomeOf (W.Accepted r) place (next - 1) place
-  pub in-bytes : (bytes : List ℕ) (place : ℕ) (r : Report) (next : ℕ) (exit : List ℕ) → WritesBytes form bytes place r (P.Next next) exit
-      → readBytes form exit place ≡ outcomeOf (W.Accepted r) place (next - 1) place
-  pub equal-lists : (ss ts : List Spaced) (m n : ℕ) → AllFit form ss → Apart ss → AllFit form ts → Apart ts
-      → length (lineOf form ss m) ≤ most → lineOf form ss m ≡ lineOf form ts n → reportsOf ss ≡ reportsOf ts
-  pub list-back : (ss : List Spaced) (tail : ℕ) → AllFit form ss → Apart ss → length (lineOf form ss tail) ≤ most
-      → reportsIn (outcomes (readRun form) (lineOf form ss tail)) ≡ reportsOf ss
+  pub runs : reports.Demand2In form
+  pub layouts : reports.LayoutIsWordsIn form
+  pub written-again : reports.WrittenAgainIn form
+  pub words-there : WordsThere form
+  pub read-back : reports.ReadBackIn form
+  pub read-there : ReadThere form
+  pub equal-lists : lines.EqualListsIn form
+  pub reader : lines.Returns (readRun form) form
+  pub list-back : ListBack form
 
 abbrev pub InEachForm : Type 0
 InEachForm = (form : Form) → InOneForm (formOf form)

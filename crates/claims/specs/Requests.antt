@@ -215,18 +215,22 @@ pub record Ticket4 : Type 0 where
 -- and writing an altitude now take the form as an input, and every caller passes it on from the public call." The promise of each of these calls has
 -- the form in it: judge of report_reader, words_of of report_writer, wide::read and bytes::read of line_reader, wide::write, bytes::write and
 -- bytes::answer of line_writer, and the C calls. What the new form reads is told by what document 01's reads: of a run (run), at a place of a line
--- (place) and of bytes (place-of-bytes). Where no altitude has its first bit one, nothing differs (same). A report without an altitude below zero is
--- written alike (written), and any other that document 01's form takes has the same words with its altitude turned (words)
+-- (place) and of bytes (place-of-bytes). Where no altitude has its first bit one, nothing differs (same); and nothing else of a report depends on its
+-- altitude (rest), so the index is brought the same (entry). A report without an altitude below zero is written alike (written), and any other that
+-- document 01's form takes has the same words with its altitude turned (words); so the calls of the writers answer and leave the same (calls)
 pub record TheFormAsAnInput : Type 0 where
   pub run : forms.NewReading
   pub place : forms.NewOutcome
   pub place-of-bytes : forms.NewOutcomeOfBytes
   pub same : forms.EqualReadings
+  pub rest : forms.RestStays
+  pub entry : forms.SameEntry
   pub written : forms.EqualWriting
-  pub words : forms.SameWords
+  pub words : forms.TurnedWords
+  pub calls : forms.SameCalls
 
--- "From C it is a number: 0 is document 01's form, any other the new one. The lister uses document 01's." `listerForm` of listing/specs/Listing.antt is
--- that one
+-- "From C it is a number: 0 is document 01's form, any other the new one. The lister uses document 01's." Of the lister it is claimed in
+-- listing/specs/Claims.antt (`DocumentForm`)
 abbrev pub FormsFromC : Type 0
 FormsFromC = reports.NumbersOfForms
 
@@ -239,7 +243,7 @@ pub record RangeAndPatterns : Type 0 where
   pub written-cases : WrittenInTheNewForm
 
 -- "Demands 2 and 3 are read for one form at a time, the same for reader and writer. What is common is proved once over both." What is common is proved
--- of every sound form; that both are sound (sound) is all that is proved of each by itself
+-- of every sound form; that both are sound (sound) is all that demands 2 and 3 need of each
 pub record OneFormAtATime : Type 0 where
   pub demands : InEachForm
   pub sound : reports.FormsSound

@@ -4,11 +4,11 @@ use Prim.Native.Nat.{ℕ}
 use mathlib.Core.Path.{_≡_}
 use mathlib.Core.Bool.{Bool, true, false, not, cond}
 use mathlib.Core.List.{List, [], _∷_}
-use lib.Dec.{eqb, ltb}
+use lib.Dec.{eqb}
 use lib.IntN.{ℤ, pos, negℤ, _-ℤ_}
 use lib.ListN.{drop}
 use Rattle.refusals.specs.declared.LineRefusal.{LineRefusal}
-use Rattle.refusals.specs.declared.LineRefusal.the-variants.{MinusZero}
+use Rattle.refusals.specs.declared.LineRefusal.the-variants.{MinusZero, ValueTooLarge}
 use Rattle.refusals.specs.Numbers.{lineNumber}
 use Rattle.words.specs.Tests.{all}
 use Rattle.words.specs.Word.{bit}
@@ -20,17 +20,25 @@ use Rattle.reports.specs.declared.Report.{Report}
 use Rattle.reports.specs.declared.Report.the-variants as R
 use Rattle.reports.specs.declared.RunAnswer.{RunAnswer}
 use Rattle.reports.specs.declared.RunAnswer.the-variants as A
+use Rattle.reports.specs.declared.Written.the-variants as M
 use Rattle.reports.specs.declared.altitude.Form.{Form}
-use Rattle.reports.specs.Altitude.{negative, signMagnitude, twosComplement, formOf}
+use Rattle.reports.specs.Altitude.{AltitudeForm, negative, signMagnitude, twosComplement, formOf}
+use Rattle.reports.specs.Claims.{InRange}
 use Rattle.reports.specs.Forms.{isSeven}
+use Rattle.reports.specs.Kinds.{kindOf}
 use Rattle.reports.specs.Records.{reportOf}
 use Rattle.reports.specs.Layouts.{wordsOf, Fits, takes, written}
 use Rattle.reports.specs.Runs.{readRun}
+use Rattle.reports.specs.Values.{countedOf}
 use Rattle.lines.specs.declared.What.{What}
 use Rattle.lines.specs.declared.What.the-variants as W
 use Rattle.lines.specs.declared.Outcome.{Outcome}
 use Rattle.lines.specs.Line.{runIn, outcomeOf, readAt}
 use Rattle.lines.specs.Bytes.{wordsIn, readBytes}
+use Rattle.lines.specs.declared.Wrote.{Wrote}
+use Rattle.lines.specs.Writing.{Writes}
+use Rattle.lines.specs.ByteWriting.{WritesBytes}
+use Rattle.index.specs.Entries.{fileOf, entryOf}
 
 -- ---- a report with another altitude
 
@@ -141,17 +149,16 @@ NewReading = (ws : List ℕ) → readRun twosComplement ws ≡ answerAnew ws (re
 abbrev pub lowAltitude : List ℕ → Bool
 lowAltitude ws = all (isSeven ws ∷ not (bit ws 12) ∷ bit ws 6 ∷ bit ws 79 ∷ [])
 
--- where they are not, the two readings are equal, and so they are equal where an altitude of 0 or more, or none, was read in either form
+-- where they are not, the two readings are equal; and a report that has no altitude below zero is the same turned
 pub record EqualReadings : Type 0 where
   pub by-bits : (ws : List ℕ) → lowAltitude ws ≡ false → readRun twosComplement ws ≡ readRun signMagnitude ws
   pub by-record : (r : Report) → ofAltitude negative r ≡ false → turned r ≡ r
 
--- 9 is never given in the new form
-abbrev pub NeverMinusZero : Type 0
-NeverMinusZero = (line : List ℕ) (place : ℕ) → readAt twosComplement line place .what ≡ W.Refused MinusZero → ⊥
-
-abbrev pub NeverMinusZeroInBytes : Type 0
-NeverMinusZeroInBytes = (bytes : List ℕ) (place : ℕ) → readBytes twosComplement bytes place .what ≡ W.Refused MinusZero → ⊥
+-- the kind, the file number and the values of a report do not depend on its altitude
+pub record RestStays : Type 0 where
+  pub kind : (f : ℤ → ℤ) (r : Report) → kindOf (altitudeBy f r) ≡ kindOf r
+  pub file : (f : ℤ → ℤ) (r : Report) → fileOf (altitudeBy f r) ≡ fileOf r
+  pub values : (f : ℤ → ℤ) (r : Report) → countedOf (altitudeBy f r) ≡ countedOf r
 
 -- the same at a place of a line: what is found is the new answer to the run there, and the three places stay
 abbrev pub whatAnew : List ℕ → What → What
@@ -174,19 +181,49 @@ NewOutcomeOfBytes =
     (bytes : List ℕ) (place : ℕ)
     → readBytes twosComplement bytes place ≡ outcomeAnew (runFrom (wordsIn bytes) place) (readBytes signMagnitude bytes place)
 
+-- 9 is never given in the new form
+abbrev pub NeverMinusZero : Type 0
+NeverMinusZero = (line : List ℕ) (place : ℕ) → readAt twosComplement line place .what ≡ W.Refused MinusZero → ⊥
+
+abbrev pub NeverMinusZeroInBytes : Type 0
+NeverMinusZeroInBytes = (bytes : List ℕ) (place : ℕ) → readBytes twosComplement bytes place .what ≡ W.Refused MinusZero → ⊥
+
+-- whether minus zero was found
+abbrev pub isNine : What → Bool
+isNine (W.Accepted r) = false
+isNine (W.Refused q) = isMinusZero q
+isNine W.End = false
+
+-- where it was not, the index is brought the same in both forms
+abbrev pub SameEntry : Type 0
+SameEntry =
+    (bytes : List ℕ) (place scan : ℕ) → isNine (readBytes signMagnitude bytes place .what) ≡ false
+    → entryOf (readBytes twosComplement bytes place) scan ≡ entryOf (readBytes signMagnitude bytes place) scan
+
 -- ---- writing
 
--- 11 follows the form's range: whatever altitude stands in a report, 11 is given for it exactly where the form does not have it. What else
--- can be too large does not depend on the form
+-- 11 follows the form's range. An altitude outside it gets 11. One inside it is never the reason: what else stands in the report decides, in both
+-- forms alike
 pub record ElevenFollows : Type 0 where
-  pub range : (form : Form) (r : Report) (z : ℤ) → ofAltitude (λ v. true) r ≡ true
-      → takes (formOf form) (altitudeBy (λ v. z) r) ≡ all (takes signMagnitude (altitudeBy (λ v. pos 0) r) ∷ ltb (formOf form .bitsOf z) 4096 ∷ [])
-  pub no-altitude : (form : Form) (r : Report) → ofAltitude (λ v. true) r ≡ false → takes (formOf form) r ≡ takes signMagnitude r
+  pub outside : (form : Form) (r : Report) (z : ℤ) → ofAltitude (λ v. true) r ≡ true → (InRange form z → ⊥)
+      → written (formOf form) (altitudeBy (λ v. z) r) ≡ M.Refused ValueTooLarge
+  pub inside : (form : Form) (r : Report) (z : ℤ) → InRange form z
+      → takes (formOf form) (altitudeBy (λ v. z) r) ≡ takes signMagnitude (altitudeBy (λ v. pos 0) r)
 
 -- a report without an altitude below zero is written alike in both forms
 abbrev pub EqualWriting : Type 0
 EqualWriting = (r : Report) → ofAltitude negative r ≡ false → written twosComplement r ≡ written signMagnitude r
 
 -- and one that document 01's form takes has in the new form, with its altitude turned, the same words
-abbrev pub SameWords : Type 0
-SameWords = (r : Report) → Fits signMagnitude r → Fits twosComplement (turned r) × (wordsOf twosComplement (turned r) ≡ wordsOf signMagnitude r)
+abbrev pub TurnedWords : Type 0
+TurnedWords = (r : Report) → Fits signMagnitude r → Fits twosComplement (turned r) × (wordsOf twosComplement (turned r) ≡ wordsOf signMagnitude r)
+
+-- two calls of a writer answer and leave the same, on a line of words and on bytes
+pub record WriteAlike (f : AltitudeForm) (r : Report) (g : AltitudeForm) (s : Report) : Type 0 where
+  pub words : (line : List ℕ) (place : ℕ) (answer : Wrote) (exit : List ℕ) → Writes f line place r answer exit → Writes g line place s answer exit
+  pub bytes : (bytes : List ℕ) (place : ℕ) (answer : Wrote) (exit : List ℕ)
+      → WritesBytes f bytes place r answer exit → WritesBytes g bytes place s answer exit
+
+pub record SameCalls : Type 0 where
+  pub equal : (r : Report) → ofAltitude negative r ≡ false → WriteAlike signMagnitude r twosComplement r
+  pub turned : (r : Report) → Fits signMagnitude r → WriteAlike signMagnitude r twosComplement (turned r)

@@ -1,5 +1,5 @@
 -- A list of reports that was written with idle words between reads back: the claim ReadsBack, for any answer that gives each
--- report that fits for its words; and DocumentReturns and EqualLists. Assumes nothing.
+-- report that fits for its words; and ReaderReturns and EqualLists. Assumes nothing.
 use Prim.Native.Nat.{ℕ, zero, suc, _+_, _≤_, _<_}
 use native.Mathlib.Nat.{add-zero}
 use mathlib.Core.Path.{_≡_, refl, ap, sym, _∙_, subst}
@@ -19,7 +19,7 @@ use Rattle.lines.specs.declared.Outcome.{Outcome}
 use Rattle.lines.specs.Line.{most, outcomeOf, endOf, stretch, placed, outcomes}
 use Rattle.lines.specs.Stretches.{Run, closed, runsFrom}
 use Rattle.lines.specs.Spaced.{Spaced, lineOf, reportsOf, AllFit, Parted, Apart, back}
-use Rattle.lines.specs.Claims.{Answer, alone, Returns, ReadsBack, DocumentReturns, EqualLists}
+use Rattle.lines.specs.Claims.{Answer, alone, Returns, ReadsBack, ReaderReturns, EqualLists}
 use Rattle.lines.proofs.Runs.{Free, good-free, runs-idles, runs-words, runs-end}
 use Rattle.lines.proofs.Outcomes.{alone-free, one-each}
 
@@ -129,13 +129,13 @@ reports-back form p [] n = refl
 reports-back form p (s ∷ ss) n =
     ap (λ (rs : List Report). s .report ∷ rs) (reports-back form (p + s .ahead + length (wordsOf form (s .report))) ss n)
 
-pub document-returns : DocumentReturns
-document-returns form sound r h = demand-2 form sound (wordsOf form r) r .1 (refl, h)
+pub reader-returns : ReaderReturns
+reader-returns form sound r h = demand-2 form sound (wordsOf form r) r .1 (refl, h)
 
 pub equal-lists : EqualLists
 equal-lists form sound ss ts m n f a g b h e =
     let answer = readRun form in
-    let gives = document-returns form sound in
+    let gives = reader-returns form sound in
     let k = ap length e in
     sym (reports-back form 0 ss (length (lineOf form ss m)))
     ∙ ap reportsIn (sym (reads-back answer form gives ss m f a h) ∙ ap (outcomes answer) e ∙ reads-back answer form gives ts n g b (omega arith))

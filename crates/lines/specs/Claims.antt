@@ -203,15 +203,18 @@ ReadsBack =
     length (lineOf form ss tail) ≤ most →
     outcomes answer (lineOf form ss tail) ≡ back form 0 ss ++ (endOf (length (lineOf form ss tail)) ∷ [])
 
--- document 01's reader is such an answer
-abbrev pub DocumentReturns : Type 0
-DocumentReturns = (form : AltitudeForm) → Sound form → Returns (readRun form) form
+-- the reader in a sound form of the altitude is such an answer
+abbrev pub ReaderReturns : Type 0
+ReaderReturns = (form : AltitudeForm) → Sound form → Returns (readRun form) form
 
 -- two such lists whose lines are equal are equal
-abbrev pub EqualLists : Type 0
-EqualLists =
-    (form : AltitudeForm) → Sound form → (ss ts : List Spaced) (m n : ℕ) → AllFit form ss → Apart ss → AllFit form ts → Apart ts →
+abbrev pub EqualListsIn : AltitudeForm → Type 0
+EqualListsIn form =
+    (ss ts : List Spaced) (m n : ℕ) → AllFit form ss → Apart ss → AllFit form ts → Apart ts →
     length (lineOf form ss m) ≤ most → lineOf form ss m ≡ lineOf form ts n → reportsOf ss ≡ reportsOf ts
+
+abbrev pub EqualLists : Type 0
+EqualLists = (form : AltitudeForm) → Sound form → EqualListsIn form
 
 -- calls of the writer one after the other on a line of idle words leave such a list: the reports that were not refused
 abbrev pub WrittenSo : Type 0

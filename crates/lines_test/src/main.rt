@@ -1,6 +1,6 @@
 // Reads lines of its standard input with both readers, call by call to the end, and writes reports into lines.
-// A case is 69 numbers of two bytes: what to do, how many words the line has, how many words are repeated along it, the place, the altitude's form,
-// and 64 words of which so many are repeated. tests/lines.rs works out the cases and what must be printed.
+// A case is 70 numbers of two bytes: what to do, how many words the line has, how many words are repeated along it, the place, the altitude's form in
+// reading and in writing, and 64 words of which so many are repeated. tests/lines.rs works out the cases and what must be printed.
 ghost use Prim.Native.Nat.{_<_};
 use libc::STDIN_FILENO;
 use lines::What;
@@ -29,8 +29,8 @@ fn widened(byte: u8) -> u16
 }
 
 // The two bytes at a place of a case, as a number.
-fn number(case: [u8; 138], at: usize) -> u16
-    requires { ⌜ at < 69 ⌝ }
+fn number(case: [u8; 140], at: usize) -> u16
+    requires { ⌜ at < 70 ⌝ }
 {
     widened(case[at * 2]) * 256 + widened(case[at * 2 + 1])
 }
@@ -42,12 +42,12 @@ fn place_of(n: u16) -> usize {
     n as usize
 }
 
-// The words that are repeated, behind the first five numbers.
-fn repeated(case: [u8; 138]) -> [u16; 64] {
+// The words that are repeated, behind the first six numbers.
+fn repeated(case: [u8; 140]) -> [u16; 64] {
     let mut words = [0u16; 64];
     let mut i: usize = 0;
     while i < 64 {
-        words[i] = number(case, i + 5);
+        words[i] = number(case, i + 6);
         i += 1;
     }
     words
@@ -100,20 +100,28 @@ fn write_report(line: &mut [u16], n: usize, place: usize, form: Form, report: Re
     print::changed(&line[0..n]);
 }
 
-// What the first k words are in document 01's form.
-fn what_of(words: &[u16], k: usize) -> What {
+// What the first k words are.
+fn what_of(words: &[u16], k: usize, form: Form) -> What {
     if words.len() < k {
         return What::End;
     }
-    let found = line_reader::wide::read(&words[0..k], 0, Form::SignMagnitude);
+    let found = line_reader::wide::read(&words[0..k], 0, form);
     found.what
 }
 
-// The report that the words are in document 01's form, written in this one.
-fn write_read(line: &mut [u16], n: usize, k: usize, place: usize, form: Form, words: [u16; 64]) {
-    let what = what_of(&words, k);
+// The report that the words are in one form, written in another one or in the same.
+fn write_read(
+    line: &mut [u16],
+    n: usize,
+    k: usize,
+    place: usize,
+    form: Form,
+    to: Form,
+    words: [u16; 64],
+) {
+    let what = what_of(&words, k, form);
     match what {
-        What::Accepted(report) => write_report(line, n, place, form, report),
+        What::Accepted(report) => write_report(line, n, place, to, report),
         What::Refused(_) => print::line(b"NO REPORT"),
         What::End => print::line(b"NO REPORT"),
     }
@@ -134,12 +142,13 @@ fn too_large() -> Report {
     })
 }
 
-fn one_case(case: [u8; 138]) {
+fn one_case(case: [u8; 140]) {
     let what = number(case, 0);
     let n = number(case, 1) as usize;
     let k = number(case, 2) as usize;
     let place = place_of(number(case, 3));
     let form = Form::numbered(number(case, 4) as u32);
+    let to = Form::numbered(number(case, 5) as u32);
     let words = repeated(case);
     let mut line = [0u16; ROOM];
     let mut bytes = [0u8; ROOM * 2];
@@ -152,18 +161,18 @@ fn one_case(case: [u8; 138]) {
         return;
     }
     if what == 2 {
-        write_read(&mut line, n, k, place, form, words);
+        write_read(&mut line, n, k, place, form, to, words);
         return;
     }
-    write_report(&mut line, n, place, form, too_large());
+    write_report(&mut line, n, place, to, too_large());
 }
 
 // The cases of standard input, of which there are fewer than a thousand.
 fn cases() {
     let mut left: usize = 1000;
     while 0 < left {
-        let mut case = [0u8; 138];
-        if io::read_full(STDIN_FILENO, &mut case) < 138 {
+        let mut case = [0u8; 140];
+        if io::read_full(STDIN_FILENO, &mut case) < 140 {
             return;
         }
         one_case(case);

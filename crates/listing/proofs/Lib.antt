@@ -3,3 +3,4 @@ pub mod Putting
 pub mod Bounded
 pub mod Telling
 pub mod Whole
+pub mod Document

@@ -6,9 +6,9 @@ use mathlib.Core.Logic.{_⊎_, inl, inr, ⊎-elim}
 use Prim.Native.Nat.{ℕ, zero, suc, _%_, _≤_, _<_}
 use native.Mathlib.Omega.{arith}
 use native.Mathlib.Decide.{decLt}
-use borrow.Author.Tests.{eq-eqb, eqb-true, leb-true}
-use lib.Dec.{eqb, leb}
-use lib.IntN.{ℤ, pos, negsuc, natAbs}
+use borrow.Author.Tests.{eq-eqb, eqb-true}
+use lib.Dec.{eqb}
+use lib.IntN.{ℤ, pos, negsuc}
 use lib.ListN.{length}
 use Rattle.words.proofs.Tests.{picked, passed, by-test}
 use Rattle.pairs.specs.Pairs.{Pair, pairsIn, findIn, isFound}
@@ -18,7 +18,7 @@ use Rattle.reports.specs.declared.altitude.Form.the-variants as F
 use Rattle.reports.specs.Altitude.{AltitudeForm}
 use Rattle.reports.specs.Kinds.{kindOf, kindNumber, dabsKind, atcrbsKind}
 use Rattle.reports.specs.Layouts.{Takes}
-use Rattle.reports.specs.Claims.{Within}
+use Rattle.reports.specs.Claims.{InRange}
 use Rattle.reports.proofs.Altitudes.{range-of-each}
 use Rattle.reports.proofs.Demand2.{takes-fits}
 use Rattle.report_items.specs.declared.items.Item.{Item}
@@ -31,17 +31,14 @@ use Rattle.report_items.proofs.Back.{both, back}
 pub none-is-taken : NoneIsTaken
 none-is-taken form e = let z : _≡_ {A = ℕ} 0 1 = cc in omega arith
 
-small : (z : ℤ) → Within 2048 2047 z → InSixteenBits z
-small (pos n) l = omega arith
-small (negsuc n) l = omega arith
+small : (form : Form) (z : ℤ) → InRange form z → InSixteenBits z
+small F.SignMagnitude (pos n) l = omega arith
+small F.SignMagnitude (negsuc n) l = omega arith
+small F.TwosComplement (pos n) l = omega arith
+small F.TwosComplement (negsuc n) l = omega arith
 
 pub forms-fit : FormsFit
-forms-fit F.SignMagnitude z h = small z (wider z (range-of-each z .0 .0 h))
-  where
-    wider : (z : ℤ) → Within 2047 2047 z → Within 2048 2047 z
-    wider (pos n) l = l
-    wider (negsuc n) l = omega arith
-forms-fit F.TwosComplement z h = small z (range-of-each z .1 .0 h)
+forms-fit form z h = small form z (range-of-each form z .0 h)
 
 -- ---- the same item
 

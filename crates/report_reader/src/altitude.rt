@@ -5,8 +5,8 @@ ghost use Rattle.reports.specs.Altitude.{signMagnitude, twosComplement, formOf}
 use reports::altitude::Form;
 use words::weights::ELEVEN_BITS;
 
-// What the first of twelve bits weighs in two's complement.
-const FIRST: i16 = 2048;
+// What is taken away in two's complement where the first of twelve bits is one.
+const FIRST: i16 = ELEVEN_BITS as i16;
 
 // A sign, 1 negative, and eleven bits.
 fn sign_magnitude_of(n: u16) -> i16

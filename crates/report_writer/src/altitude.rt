@@ -7,12 +7,15 @@ ghost use Rattle.reports.specs.Altitude.{signMagnitude, twosComplement, formOf,
 use crate::weights;
 use reports::altitude::Form;
 
-// The largest magnitude, the first of twelve bits where it is one, and what no twelve bits are.
+// The largest magnitude of eleven bits, the first of twelve bits where it is one, and what no twelve bits are.
 const LARGEST: u32 = weights::ELEVEN_BITS - 1;
 
 const MINUS: u32 = weights::ELEVEN_BITS;
 
 const NO_BITS: u32 = weights::TWELVE_BITS;
+
+// The magnitude of the lowest altitude in two's complement.
+const LOWEST: u32 = weights::ELEVEN_BITS;
 
 // The magnitude of an altitude.
 fn magnitude(z: i16) -> u32
@@ -44,18 +47,18 @@ fn sign_magnitude_bits(z: i16) -> u32
     }
 }
 
-// Two's complement: below zero the altitude and 4096; NO_BITS where the altitude has none.
+// Two's complement: below zero 4096 is added to the altitude, and from zero on its bits are those of the other form; NO_BITS where it has none.
 fn twos_complement_bits(z: i16) -> u32
     ensures { λ r. ⌜ (r ≡ twosComplement .bitsOf z) × (r < 4097) ⌝ }
 {
-    let n = magnitude(z);
     if is_negative(z) {
-        if n <= MINUS {
+        let n = magnitude(z);
+        if n <= LOWEST {
             return NO_BITS - n;
         }
         return NO_BITS;
     }
-    if n <= LARGEST { n } else { NO_BITS }
+    sign_magnitude_bits(z)
 }
 
 // The twelve bits of an altitude; NO_BITS where it has none in the form.

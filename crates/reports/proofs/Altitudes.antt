@@ -3,15 +3,17 @@ use Prim.Native.Nat.{ℕ, zero, suc, _+_, _-_, _*_, _/_, _%_, _≤_, _<_}
 use mathlib.Core.Path.{_≡_, refl, ap, sym, subst, _∙_}
 use mathlib.Core.Bool.{Bool, true, false, cond}
 use mathlib.Core.Logic.{_↔_}
+use native.Mathlib.Nat.{zero-add}
 use native.Mathlib.Omega.{arith}
 use borrow.Author.Tests.{eq-eqb, ne-eqb, eqb-true, eqb-false, leb-true, le-leb, lt-ltb}
 use lib.Dec.{eqb, leb, eqb·suc-zero}
 use lib.IntN.{ℤ, pos, negsuc, _-ℤ_}
+use Rattle.rows.proofs.Claims.{differ}
 use Rattle.words.proofs.Tests.{picked, passed, by-test}
 use Rattle.reports.specs.declared.altitude.Form.{Form}
 use Rattle.reports.specs.declared.altitude.Form.the-variants as F
-use Rattle.reports.specs.Altitude.{Sound, sign, magnitude, signed, signMagnitude, twosComplement, formOf, formNumber, formNumbered}
-use Rattle.reports.specs.Claims.{RangeOfEach, EveryPatternValid, NumbersOfForms}
+use Rattle.reports.specs.Altitude.{sign, magnitude, negative, signed, signMagnitude, twosComplement, formOf, formNumber, chosen}
+use Rattle.reports.specs.Claims.{FormsSound, RangeOfEach, EveryPatternValid, NumbersOfForms}
 
 -- ---- document 01's form: from an altitude to its bits and back
 
@@ -50,7 +52,7 @@ again n l h = go (n / 2048) (n % 2048) (omega arith) (omega arith) (omega arith)
 
 -- ---- two's complement: eleven bits, and -2048 where the first bit is one
 
-pub weighed : (m : ℕ) → m < 2048 → pos m -ℤ pos 2048 ≡ negsuc (2048 - suc m)
+weighed : (m : ℕ) → m < 2048 → pos m -ℤ pos 2048 ≡ negsuc (2048 - suc m)
 weighed m h = picked _ _ (lt-ltb m 2048 h)
 
 twos-back : (z : ℤ) → twosComplement .bitsOf z < 4096
@@ -81,7 +83,7 @@ twos-again n l h = by-test (sign n) minus plus
 
 -- ---- both
 
-pub forms-sound : (form : Form) → Sound (formOf form)
+pub forms-sound : FormsSound
 forms-sound F.SignMagnitude = record { back = back; again = again }
 forms-sound F.TwosComplement = record { back = twos-back; again = twos-again }
 
@@ -90,15 +92,22 @@ within : (n m k : ℕ) → (n ≤ m → k < 4096) → (cond (leb n m) k 4096 < 4
 within n m k h = (λ l. leb-true n m (in-range (leb n m) k l), λ l. subst (λ (x : ℕ). x < 4096) (sym (picked _ _ (le-leb n m l))) (h l))
 
 pub range-of-each : RangeOfEach
-range-of-each (pos n) = (within n 2047 _ (λ l. omega arith), within n 2047 _ (λ l. omega arith))
-range-of-each (negsuc n) = (within (suc n) 2047 _ (λ l. omega arith), within (suc n) 2048 _ (λ l. omega arith))
+range-of-each F.SignMagnitude (pos n) = within n 2047 _ (λ l. omega arith)
+range-of-each F.SignMagnitude (negsuc n) = within (suc n) 2047 _ (λ l. omega arith)
+range-of-each F.TwosComplement (pos n) = within n 2047 _ (λ l. omega arith)
+range-of-each F.TwosComplement (negsuc n) = within (suc n) 2048 _ (λ l. omega arith)
 
 pub every-pattern-valid : EveryPatternValid
 every-pattern-valid = record { none-refused = λ n. refl; has-altitude = λ n h. twos-again n h refl }
 
 pub numbers-of-forms : NumbersOfForms
-numbers-of-forms = record { own = own; document = refl; any-other = λ n h. passed _ _ (ne-eqb n 0 (λ e. omega arith)) }
+numbers-of-forms = record { own = own; document = refl; any-other = λ n h. ap formOf (passed _ _ (ne-eqb n 0 (λ e. omega arith))) }
   where
-    own : (form : Form) → formNumbered (formNumber form) ≡ form
+    own : (form : Form) → chosen (formNumber form) ≡ formOf form
     own F.SignMagnitude = refl
     own F.TwosComplement = refl
+
+-- from zero on an altitude has the same bits in both
+pub same-from-zero : (z : ℤ) → negative z ≡ false → twosComplement .bitsOf z ≡ signMagnitude .bitsOf z
+same-from-zero (pos n) e = ap (λ (k : ℕ). cond (leb n 2047) k 4096) (sym (zero-add n))
+same-from-zero (negsuc n) e = differ e

@@ -1,5 +1,5 @@
 -- How twelve bits hold an altitude in hundreds of feet (document 004, 4.1.17): document 01's form, and the other one of document 02, Ticket 5.
--- Everything above takes the form as a parameter. Definitions only.
+-- Everything above takes the form as a parameter, but the lister, which has document 01's. Definitions only.
 use Prim.Native.Nat.{ℕ, _+_, _-_, _/_, _%_, _<_}
 use mathlib.Core.Path.{_≡_}
 use mathlib.Core.Bool.{Bool, true, false, cond}

@@ -14,7 +14,7 @@ use Rattle.reports.specs.declared.Report.{Report}
 use Rattle.reports.specs.declared.RunAnswer.the-variants.{Accepted, Refused}
 use Rattle.reports.specs.declared.altitude.Form.{Form}
 use Rattle.reports.specs.declared.altitude.Form.the-variants as F
-use Rattle.reports.specs.Altitude.{AltitudeForm, Sound, signMagnitude, twosComplement, formOf, formNumber, formNumbered}
+use Rattle.reports.specs.Altitude.{AltitudeForm, Sound, signMagnitude, twosComplement, formOf, formNumber, chosen}
 use Rattle.words.specs.Layout.{twelveEach}
 use Rattle.reports.specs.Layouts.{layoutOf, wordsOf, Fits, Takes, asWritten, written}
 use Rattle.reports.specs.Conditions.{HasLayout}
@@ -31,33 +31,43 @@ abbrev pub Within : ℕ → ℕ → ℤ → Type 0
 Within least greatest (pos n) = n ≤ greatest
 Within least greatest (negsuc n) = n < least
 
--- the altitudes that have twelve bits in each
+abbrev pub InRange : Form → ℤ → Type 0
+InRange F.SignMagnitude z = Within 2047 2047 z
+InRange F.TwosComplement z = Within 2048 2047 z
+
+-- these altitudes have twelve bits, and no others
 abbrev pub RangeOfEach : Type 0
-RangeOfEach = (z : ℤ) → ((signMagnitude .bitsOf z < 4096) ↔ Within 2047 2047 z) × ((twosComplement .bitsOf z < 4096) ↔ Within 2048 2047 z)
+RangeOfEach = (form : Form) (z : ℤ) → (formOf form .bitsOf z < 4096) ↔ InRange form z
 
 -- every pattern is valid in the new form: none is refused, and twelve bits are the bits of the altitude that they say
 pub record EveryPatternValid : Type 0 where
   pub none-refused : (n : ℕ) → twosComplement .refused n ≡ false
   pub has-altitude : (n : ℕ) → n < 4096 → twosComplement .bitsOf (twosComplement .altitude n) ≡ n
 
--- from C: each form has its number, 0 is document 01's, and any other number is the new one's
+-- from C: each form is chosen by its number, document 01's by 0, and the new one by any other number
 pub record NumbersOfForms : Type 0 where
-  pub own : (form : Form) → formNumbered (formNumber form) ≡ form
-  pub document : formNumbered 0 ≡ F.SignMagnitude
-  pub any-other : (n : ℕ) → 0 < n → formNumbered n ≡ F.TwosComplement
+  pub own : (form : Form) → chosen (formNumber form) ≡ formOf form
+  pub document : chosen 0 ≡ signMagnitude
+  pub any-other : (n : ℕ) → 0 < n → chosen n ≡ twosComplement
 
--- ---- demand 2
+-- ---- demand 2: each statement of one form, and then of every sound form
 
 -- a run is the report r exactly when its words are those of r, and r's values fit their fields
+abbrev pub Demand2In : AltitudeForm → Type 0
+Demand2In form = (ws : List ℕ) (r : Report) → (readRun form ws ≡ Accepted r) ↔ ((ws ≡ wordsOf form r) × Fits form r)
+
 abbrev pub Demand2 : Type 0
-Demand2 = (form : AltitudeForm) → Sound form → (ws : List ℕ) (r : Report) → (readRun form ws ≡ Accepted r) ↔ ((ws ≡ wordsOf form r) × Fits form r)
+Demand2 = (form : AltitudeForm) → Sound form → Demand2In form
 
 -- a run is accepted exactly when it has one of the layouts, by bit numbers; and that is to be the words of a record that fits
 abbrev pub AcceptedExactly : Type 0
 AcceptedExactly = (form : AltitudeForm) (ws : List ℕ) → ((r : Report) × (readRun form ws ≡ Accepted r)) ↔ HasLayout form ws
 
+abbrev pub LayoutIsWordsIn : AltitudeForm → Type 0
+LayoutIsWordsIn form = (ws : List ℕ) → HasLayout form ws ↔ ((r : Report) × (ws ≡ wordsOf form r) × Fits form r)
+
 abbrev pub LayoutIsWords : Type 0
-LayoutIsWords = (form : AltitudeForm) → Sound form → (ws : List ℕ) → HasLayout form ws ↔ ((r : Report) × (ws ≡ wordsOf form r) × Fits form r)
+LayoutIsWords = (form : AltitudeForm) → Sound form → LayoutIsWordsIn form
 
 -- every layout has twelve bits a word, so that what is claimed of such layouts by bit numbers (LaidOut of words) is claimed of each report's
 abbrev pub TwelveBitsAWord : Type 0
@@ -68,16 +78,19 @@ abbrev pub FourOrSeven : Type 0
 FourOrSeven = (form : AltitudeForm) (r : Report) → (length (wordsOf form r) ≡ 4) ⊎ (length (wordsOf form r) ≡ 7)
 
 -- an accepted run's record written out again gives the same words, and the writer, where it takes the record, hands them out
+abbrev pub WrittenAgainIn : AltitudeForm → Type 0
+WrittenAgainIn form =
+    (ws : List ℕ) (r : Report) → readRun form ws ≡ Accepted r → (wordsOf form r ≡ ws) × (Takes form r → written form r ≡ asWritten ws)
+
 abbrev pub WrittenAgain : Type 0
-WrittenAgain =
-    (form : AltitudeForm) → Sound form → (ws : List ℕ) (r : Report) → readRun form ws ≡ Accepted r
-    → (wordsOf form r ≡ ws) × (Takes form r → written form r ≡ asWritten ws)
+WrittenAgain = (form : AltitudeForm) → Sound form → WrittenAgainIn form
 
 -- a record that the writer takes, written and read, gives the same record
+abbrev pub ReadBackIn : AltitudeForm → Type 0
+ReadBackIn form = (r : Report) → Takes form r → (written form r ≡ asWritten (wordsOf form r)) × (readRun form (wordsOf form r) ≡ Accepted r)
+
 abbrev pub ReadBack : Type 0
-ReadBack =
-    (form : AltitudeForm) → Sound form → (r : Report) → Takes form r
-    → (written form r ≡ asWritten (wordsOf form r)) × (readRun form (wordsOf form r) ≡ Accepted r)
+ReadBack = (form : AltitudeForm) → Sound form → ReadBackIn form
 
 -- the writer takes every record that can be read
 abbrev pub TakesWhatFits : Type 0

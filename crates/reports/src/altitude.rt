@@ -1,5 +1,5 @@
 // The two forms of the altitude by name, and by the number that a C program passes. specs/Altitude.antt says what each form is; the reader and the
-// writer take a name, and nothing but the lister has one of its own.
+// writer take a name from their caller, and only the lister chooses one.
 ghost use mathlib.Core.Path.{_≡_};
 ghost use Rattle.reports.specs.Altitude.{formNumbered};
 

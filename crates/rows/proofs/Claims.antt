@@ -9,7 +9,7 @@ use Rattle.rows.specs.Rows.{Row, firstOf}
 use Rattle.rows.specs.Claims.{FirstIs, NoneHolds, Refusing, RefusedExactly, AcceptedExactly, Joined, Each}
 
 -- what is accepted is no refusal
-differ : {X : Type 0} → true ≡ false → X
+pub differ : {X : Type 0} → true ≡ false → X
 differ e = absurd (let z : _≡_ {A = ℕ} 0 1 = cc in omega arith)
 
 module _ {A : Type 0} (accepts : A → Bool) where
