@@ -1,6 +1,6 @@
 /*
- * agree.c: both libraries answer the same, on every input that is measured and on many more: broken lines, every place, cut and turned
- * fields, damaged frames, broken tables. A difference is printed and ends the program.
+ * agree.c: both libraries answer the same, on every input that is measured and on many more: broken lines, every place, both forms of the altitude,
+ * cut and turned fields, damaged frames, broken tables. A difference is printed and ends the program.
  */
 #include <stdio.h>
 #include <stdlib.h>
@@ -28,51 +28,102 @@ static void same(const char *what, long long a, long long b, const uint8_t *byte
 
 #define SAME(call, ...) same(#call, (long long)ours.call(__VA_ARGS__), (long long)plain.call(__VA_ARGS__), b, length, at)
 
-static void same_value(const char *what, double x, double y, const uint8_t *b, size_t length, size_t at)
-{
-    long long p, q;
+/* ---- lines, in each form of the altitude: sign and magnitude, and two's complement by three of its numbers */
 
-    memcpy(&p, &x, 8);
-    memcpy(&q, &y, 8);
-    same(what, p, q, b, length, at);
+static const uint32_t forms[] = {SIAMRUNG_FORM_SIGN_MAGNITUDE, SIAMRUNG_FORM_TWOS_COMPLEMENT, 2, 0xFFFFFFFFu};
+
+#define FORMS 4
+
+/* One of the numbers of two's complement. */
+static uint32_t other_form(void)
+{
+    return forms[1 + rnd() % (FORMS - 1)];
 }
 
-static void at_place(const uint8_t *b, size_t length, size_t at)
+/* A difference between lines is printed behind the form. */
+static void same_in(uint32_t form, const char *what, long long x, long long y, const uint8_t *b, size_t length, size_t at)
+{
+    if (x != y)
+        printf("bench: the form of the altitude is %lu\n", (unsigned long)form);
+    same(what, x, y, b, length, at);
+}
+
+#define SAME_IN(form, call, ...) same_in(form, #call, (long long)ours.call(__VA_ARGS__), (long long)plain.call(__VA_ARGS__), b, length, at)
+
+static long long bits_of(double x)
+{
+    long long bits;
+
+    memcpy(&bits, &x, 8);
+    return bits;
+}
+
+#define SAME_VALUE(call) same_in(form, #call, bits_of(ours.call(b, length, at, form)), bits_of(plain.call(b, length, at, form)), b, length, at)
+
+static void at_place(const uint8_t *b, size_t length, size_t at, uint32_t form)
 {
     uint32_t item;
 
-    SAME(kind, b, length, at);
-    SAME(refusal, b, length, at);
-    SAME(first, b, length, at);
-    SAME(after, b, length, at);
-    SAME(named, b, length, at);
-    SAME(has_values, b, length, at);
-    same_value("nmi", ours.nmi(b, length, at), plain.nmi(b, length, at), b, length, at);
-    same_value("degrees", ours.degrees(b, length, at), plain.degrees(b, length, at), b, length, at);
-    same_value("seconds", ours.seconds(b, length, at), plain.seconds(b, length, at), b, length, at);
+    SAME_IN(form, kind, b, length, at, form);
+    SAME_IN(form, refusal, b, length, at, form);
+    SAME_IN(form, first, b, length, at, form);
+    SAME_IN(form, after, b, length, at, form);
+    SAME_IN(form, named, b, length, at, form);
+    SAME_IN(form, has_values, b, length, at, form);
+    SAME_VALUE(nmi);
+    SAME_VALUE(degrees);
+    SAME_VALUE(seconds);
     for (item = 0; item < 40; item++) {
-        SAME(has, b, length, at, item);
-        SAME(item, b, length, at, item);
+        SAME_IN(form, has, b, length, at, form, item);
+        SAME_IN(form, item, b, length, at, form, item);
     }
-    SAME(has, b, length, at, 0xFFFFFFFFu);
+    SAME_IN(form, has, b, length, at, form, 0xFFFFFFFFu);
 }
 
 /* Every run of a line, and places inside some. */
-static void whole_line(const uint8_t *b, size_t length)
+static void whole_line(const uint8_t *b, size_t length, uint32_t form)
 {
     size_t at = 0, next;
 
-    while (plain.kind(b, length, at) != SIAMRUNG_KIND_END) {
-        at_place(b, length, at);
-        at_place(b, length, at + rnd() % 8);
-        next = plain.after(b, length, at);
+    while (plain.kind(b, length, at, form) != SIAMRUNG_KIND_END) {
+        at_place(b, length, at, form);
+        at_place(b, length, at + rnd() % 8, form);
+        next = plain.after(b, length, at, form);
         if (next == at)
             return;
         at = next;
     }
-    at_place(b, length, at);
-    at_place(b, length, at + 1);
-    at_place(b, length, (size_t)-1);
+    at_place(b, length, at, form);
+    at_place(b, length, at + 1, form);
+    at_place(b, length, (size_t)-1, form);
+}
+
+static void read_both(const uint8_t *b, size_t length)
+{
+    whole_line(b, length, SIAMRUNG_FORM_SIGN_MAGNITUDE);
+    whole_line(b, length, other_form());
+}
+
+/* A report with each pattern in bits 79-90, read in each form: with Mode C an altitude, or minus zero; without it carried bits. */
+static void every_pattern(uint32_t kind, int mode_c)
+{
+    uint8_t b[16], items[MOST_ITEMS];
+    size_t length = sizeof b, at = 0;
+    unsigned pattern, k;
+
+    plain.write(b, length, at, SIAMRUNG_FORM_SIGN_MAGNITUDE, kind, items, altitude_items(kind, 0, items));
+    /* bit 6, and the parity bit with it */
+    if (!mode_c)
+        b[1] ^= 1u << 7 | 1;
+    for (pattern = 0; pattern < 4096; pattern++) {
+        put_word(b, 6, pattern << 1 | (~(unsigned)__builtin_popcount(pattern) & 1));
+        for (k = 0; k < FORMS; k++) {
+            SAME_IN(forms[k], kind, b, length, at, forms[k]);
+            SAME_IN(forms[k], refusal, b, length, at, forms[k]);
+            SAME_IN(forms[k], item, b, length, at, forms[k], SIAMRUNG_ITEM_ALTITUDE);
+            SAME_IN(forms[k], item, b, length, at, forms[k], SIAMRUNG_ITEM_CARRIED);
+        }
+    }
 }
 
 /* Some bits turned over. */
@@ -85,62 +136,102 @@ static void turn(uint8_t *b, size_t length, unsigned often)
 unsigned long agree_lines(unsigned rounds)
 {
     static uint8_t b[MOST_BYTES + 2];
-    fill_line *fills[] = {full_line, idle_line, long_run, bad_words, bad_run};
+    fill_line *fills[] = {full_line, idle_line, long_run, bad_words, bad_run, altitude_tracks};
     unsigned i, k;
     unsigned long before = compared;
 
     for (i = 0; i < rounds; i++)
-        for (k = 0; k < 5; k++) {
+        for (k = 0; k < 6; k++) {
             size_t n = 1 + rnd() % 400;
             fills[k](b, n);
-            whole_line(b, 2 * n);
+            read_both(b, 2 * n);
             turn(b, 2 * n, (unsigned)(rnd() % 8) * (unsigned)(n / 32 + 1));
-            whole_line(b, 2 * n);
-            whole_line(b, 2 * n - 1);
+            read_both(b, 2 * n);
+            read_both(b, 2 * n - 1);
         }
     full_line(b, 32768);
-    at_place(b, MOST_BYTES, 32760);
-    at_place(b, MOST_BYTES + 1, 0);
-    at_place(b, MOST_BYTES + 2, 7);
-    at_place(b, 0, 0);
+    for (k = 0; k < FORMS; k++) {
+        at_place(b, MOST_BYTES, 32760, forms[k]);
+        at_place(b, MOST_BYTES + 1, 0, forms[k]);
+        at_place(b, MOST_BYTES + 2, 7, forms[k]);
+        at_place(b, 0, 0, forms[k]);
+    }
+    for (k = 0; k < 2; k++) {
+        every_pattern(SIAMRUNG_KIND_DABS, (int)k);
+        every_pattern(SIAMRUNG_KIND_ATCRBS, (int)k);
+    }
     return compared - before;
 }
 
 /* ---- writing a report */
 
-static void same_write(uint8_t *b, size_t length, size_t at, uint32_t kind, const uint8_t *items, size_t n)
-{
-    static uint8_t left[512];
+/* As many bytes as are looked at behind a write: more than the line that is written into. */
+#define ROOM 512
 
-    SAME(write_refusal, b, length, at, kind, items, n);
+static void same_write(uint8_t *b, size_t length, size_t at, uint32_t form, uint32_t kind, const uint8_t *items, size_t n)
+{
+    static uint8_t left[ROOM];
+
+    SAME_IN(form, write_refusal, b, length, at, form, kind, items, n);
     memcpy(left, b, sizeof left);
-    same("write", (long long)ours.write(b, length, at, kind, items, n), (long long)plain.write(left, length, at, kind, items, n), b, length, at);
-    same("bytes written", memcmp(left, b, sizeof left), 0, b, length, at);
+    same_in(form, "write", (long long)ours.write(b, length, at, form, kind, items, n),
+            (long long)plain.write(left, length, at, form, kind, items, n), b, length, at);
+    same_in(form, "bytes written", memcmp(left, b, sizeof left), 0, b, length, at);
+}
+
+/* In both forms, each over the same bytes. */
+static void write_both(uint8_t *b, size_t length, size_t at, uint32_t kind, const uint8_t *items, size_t n)
+{
+    uint8_t before[ROOM];
+
+    memcpy(before, b, sizeof before);
+    same_write(b, length, at, SIAMRUNG_FORM_SIGN_MAGNITUDE, kind, items, n);
+    memcpy(b, before, sizeof before);
+    same_write(b, length, at, other_form(), kind, items, n);
+}
+
+/* Altitudes at the ends of both ranges and around zero; and beyond, some of which would be altitudes if only their low bits were looked at. */
+static void chosen_altitudes(uint8_t *b, uint32_t kind)
+{
+    static const int64_t altitudes[] = {
+        -2049, -2048, -2047, -2046, -1, 0, 1, 2046, 2047, 2048, 2049, -4096, -4095, 4095, 4096, 65535, -4294967296, 4294967295, INT64_MIN, INT64_MAX,
+    };
+    uint8_t items[MOST_ITEMS];
+    size_t i, k, n;
+
+    for (i = 0; i < sizeof altitudes / sizeof altitudes[0]; i++) {
+        n = altitude_items(kind, altitudes[i], items);
+        for (k = 0; k < FORMS; k++)
+            same_write(b, 64, rnd() % 28, forms[k], kind, items, n);
+    }
 }
 
 unsigned long agree_writing(unsigned rounds)
 {
-    static uint8_t b[512], items[MOST_ITEMS + 16];
+    static uint8_t b[ROOM], items[MOST_ITEMS + 16];
     unsigned long before = compared;
     unsigned i, kind;
 
-    for (i = 0; i < rounds; i++)
+    for (i = 0; i < rounds; i++) {
+        chosen_altitudes(b, SIAMRUNG_KIND_DABS);
+        chosen_altitudes(b, SIAMRUNG_KIND_ATCRBS);
         for (kind = 100; kind < 122; kind++) {
             size_t n = report_items(kind, items), at = rnd() % 40;
             memset(b, (int)rnd(), sizeof b);
-            same_write(b, 64, at, kind, items, n);
-            same_write(b, 64 + rnd() % 2, at, kind, items, n);
+            write_both(b, 64, at, kind, items, n);
+            write_both(b, 64 + rnd() % 2, at, kind, items, n);
             put_be64(items + n, rnd() % 40);
             put_be64(items + n + 8, rnd() % 4);
-            same_write(b, 64, at, kind, items, n + 16);
+            write_both(b, 64, at, kind, items, n + 16);
             if (n) {
-                same_write(b, 64, at, kind, items, n - 16 + rnd() % 16);
+                write_both(b, 64, at, kind, items, n - 16 + rnd() % 16);
                 turn(items, n, 1);
-                same_write(b, 64, at, kind, items, n);
+                write_both(b, 64, at, kind, items, n);
                 put_be64(items + 16 * (rnd() % (n / 16)) + 8, rnd() % 2 ? rnd() % 8192 : (uint64_t)0 - rnd() % 2100);
-                same_write(b, 64, at, kind, items, n);
+                write_both(b, 64, at, kind, items, n);
             }
         }
+    }
     return compared - before;
 }
 
@@ -373,13 +464,13 @@ struct twice {
     size_t entries;
 };
 
-static void same_entered(struct twice *t, const uint8_t *b, size_t length, size_t at)
+static void same_entered(struct twice *t, const uint8_t *b, size_t length, size_t at, uint32_t form)
 {
     uint32_t scan = (uint32_t)rnd();
 
-    same("index_enter", ours.index_enter(t->ours, t->entries, b, length, at, scan), plain.index_enter(t->plain, t->entries, b, length, at, scan),
-         b, length, at);
-    same("table", memcmp(t->ours, t->plain, sizeof t->ours), 0, b, length, at);
+    same_in(form, "index_enter", ours.index_enter(t->ours, t->entries, b, length, at, form, scan),
+            plain.index_enter(t->plain, t->entries, b, length, at, form, scan), b, length, at);
+    same_in(form, "table", memcmp(t->ours, t->plain, sizeof t->ours), 0, b, length, at);
 }
 
 static void same_found(const struct twice *t, uint32_t number)
@@ -388,21 +479,21 @@ static void same_found(const struct twice *t, uint32_t number)
 }
 
 /* Every run of a line entered, and places inside some; then numbers looked for. */
-static void whole_index(struct twice *t, const uint8_t *b, size_t length)
+static void whole_index(struct twice *t, const uint8_t *b, size_t length, uint32_t form)
 {
     size_t at = 0, next;
     uint32_t track;
 
     for (;; at = next) {
-        same_entered(t, b, length, at);
+        same_entered(t, b, length, at, form);
         if (rnd() % 8 == 0)
-            same_entered(t, b, length, at + rnd() % 8);
-        next = plain.after(b, length, at);
+            same_entered(t, b, length, at + rnd() % 8, form);
+        next = plain.after(b, length, at, form);
         if (next == at)
             break;
     }
-    same_entered(t, b, length, at + 1);
-    same_entered(t, b, length, (size_t)-1);
+    same_entered(t, b, length, at + 1, form);
+    same_entered(t, b, length, (size_t)-1, form);
     for (track = 0; track < 40; track += 1 + (uint32_t)rnd() % 4)
         same_found(t, track_number(track));
     same_found(t, 0);
@@ -444,10 +535,10 @@ static void measured_tables(struct twice *t, size_t entries)
     memset(t, 0, sizeof *t);
     t->entries = entries;
     tracks_16(b, sizeof b / 2);
-    whole_index(t, b, sizeof b);
+    whole_index(t, b, sizeof b, SIAMRUNG_FORM_SIGN_MAGNITUDE);
     tracks_512(b, sizeof b / 2);
-    whole_index(t, b, sizeof b);
-    whole_index(t, b, sizeof b);
+    whole_index(t, b, sizeof b, SIAMRUNG_FORM_SIGN_MAGNITUDE);
+    whole_index(t, b, sizeof b, SIAMRUNG_FORM_SIGN_MAGNITUDE);
 }
 
 unsigned long agree_index(unsigned rounds)
@@ -455,6 +546,7 @@ unsigned long agree_index(unsigned rounds)
     static struct twice t;
     static uint8_t b[MOST_BYTES + 2];
     unsigned long before = compared;
+    fill_line *make;
     unsigned i;
 
     measured_tables(&t, 512);
@@ -462,14 +554,18 @@ unsigned long agree_index(unsigned rounds)
     for (i = 0; i < 32 * rounds; i++) {
         size_t n = 1 + rnd() % 200;
         random_table(&t, rnd() % 2 ? rnd() % 40 : rnd() % 8 ? 500 + rnd() % 13 : 513 + rnd() % 7);
-        mixed_tracks(b, n);
+        make = rnd() % 2 ? mixed_tracks : altitude_tracks;
+        make(b, n);
         turn(b, 2 * n, rnd() % 2 ? 0 : (unsigned)(rnd() % 8));
-        whole_index(&t, b, 2 * n - (rnd() % 16 == 0));
+        whole_index(&t, b, 2 * n - (rnd() % 16 == 0), forms[rnd() % FORMS]);
     }
     mixed_tracks(b, MOST_BYTES / 2 + 1);
-    whole_index(&t, b, MOST_BYTES + 1);
-    whole_index(&t, b, MOST_BYTES + 2);
-    same("index_enter without a table", ours.index_enter(NULL, 0, b, 64, 0, 1), plain.index_enter(NULL, 0, b, 64, 0, 1), b, 64, 0);
+    for (i = 0; i < FORMS; i++) {
+        whole_index(&t, b, MOST_BYTES + 1, forms[i]);
+        whole_index(&t, b, MOST_BYTES + 2, forms[i]);
+        same_in(forms[i], "index_enter without a table", ours.index_enter(NULL, 0, b, 64, 0, forms[i], 1),
+                plain.index_enter(NULL, 0, b, 64, 0, forms[i], 1), b, 64, 0);
+    }
     same("index_find without a table", ours.index_find(NULL, 0, 1), plain.index_find(NULL, 0, 1), NULL, 0, 1);
     return compared - before;
 }

@@ -30,7 +30,7 @@ const struct calls ours = SIDE(siamrung_, siamrung_frame_), plain = SIDE(plain_,
 struct input {
     uint8_t *bytes;
     size_t length, bits;
-    uint32_t way, type;
+    uint32_t form, way, type;
     uint8_t items[MOST_ITEMS];
     size_t items_length;
     uint8_t list[240];
@@ -48,29 +48,31 @@ static uint64_t walk(const struct calls *c, struct input *in)
     uint32_t kind;
 
     do {
-        kind = c->kind(in->bytes, in->length, at);
-        at = c->after(in->bytes, in->length, at);
+        kind = c->kind(in->bytes, in->length, at, in->form);
+        at = c->after(in->bytes, in->length, at, in->form);
         sum = sum * 31 + kind + at;
     } while (kind != SIAMRUNG_KIND_END);
     return sum;
 }
 
-/* The same, with every item and value of each report and the number and place of each refusal. */
+/* The same, with every item and value of each report but ALTITUDE and CARRIED, and the number and place of each refusal. Each call reads the
+ * altitude too. */
 static uint64_t record_all(const struct calls *c, struct input *in)
 {
-    size_t at = 0;
+    const uint8_t *b = in->bytes;
+    size_t length = in->length, at = 0;
     uint64_t sum = 0, items;
-    uint32_t kind;
+    uint32_t form = in->form, kind;
 
     do {
-        kind = c->kind(in->bytes, in->length, at);
+        kind = c->kind(b, length, at, form);
         for (items = plain_items_of(kind); items; items &= items - 1)
-            sum += (uint64_t)c->item(in->bytes, in->length, at, (uint32_t)__builtin_ctzll(items));
+            sum += (uint64_t)c->item(b, length, at, form, (uint32_t)__builtin_ctzll(items));
         if (kind == SIAMRUNG_KIND_REFUSED)
-            sum += c->refusal(in->bytes, in->length, at) + c->named(in->bytes, in->length, at);
+            sum += c->refusal(b, length, at, form) + c->named(b, length, at, form);
         else if (kind != SIAMRUNG_KIND_END)
-            sum += (uint64_t)(c->nmi(in->bytes, in->length, at) + c->degrees(in->bytes, in->length, at) + c->seconds(in->bytes, in->length, at));
-        at = c->after(in->bytes, in->length, at);
+            sum += (uint64_t)(c->nmi(b, length, at, form) + c->degrees(b, length, at, form) + c->seconds(b, length, at, form));
+        at = c->after(b, length, at, form);
         sum = sum * 31 + kind + at;
     } while (kind != SIAMRUNG_KIND_END);
     return sum;
@@ -87,7 +89,7 @@ static uint64_t fill(const struct calls *c, struct input *in)
     for (i = 0; length[3] == 0 && i < 4; i++)
         length[i] = report_items(kinds[i], items[i]);
     for (i = 0; at + 8 <= in->length / 2; i++)
-        at = c->write(in->bytes, in->length, at, kinds[i % 4], items[i % 4], length[i % 4]);
+        at = c->write(in->bytes, in->length, at, in->form, kinds[i % 4], items[i % 4], length[i % 4]);
     return at + in->bytes[at];
 }
 
@@ -168,8 +170,8 @@ static uint64_t index_on(const struct calls *c, struct input *in)
     uint64_t sum = 0;
 
     do {
-        sum = sum * 31 + c->index_enter(in->table, in->entries, in->bytes, in->length, at, SCAN);
-        at = c->after(in->bytes, in->length, at);
+        sum = sum * 31 + c->index_enter(in->table, in->entries, in->bytes, in->length, at, in->form, SCAN);
+        at = c->after(in->bytes, in->length, at, in->form);
     } while (at < in->length / 2);
     return sum + in->table[in->entries / 2].place;
 }
@@ -254,6 +256,30 @@ static void add_line(const char *name, job *run, fill_line *make, size_t small, 
     snprintf(r->name, sizeof r->name, "%s", name);
     add_short(r, make, small, large);
     r->large = line_of(make, large);
+}
+
+/* The same inputs to be read in two's complement. */
+static struct input *in_twos_complement(const struct input *from, unsigned pieces)
+{
+    struct input *to = malloc(pieces * sizeof *to);
+    unsigned i;
+
+    for (i = 0; i < pieces; i++) {
+        to[i] = from[i];
+        to[i].form = SIAMRUNG_FORM_TWOS_COMPLEMENT;
+    }
+    return to;
+}
+
+/* The last row once more, on the same lines. */
+static void add_twos_complement(const char *name)
+{
+    struct row *r = &rows[row_count++];
+
+    *r = r[-1];
+    snprintf(r->name, sizeof r->name, "%s", name);
+    r->small = in_twos_complement(r->small, r->pieces);
+    r->large = in_twos_complement(r->large, 1);
 }
 
 static void add_field(const char *name, unsigned type, int relayed)
@@ -393,6 +419,7 @@ static void make_rows(size_t large)
 
     add_line("full of reports: kind, after", walk, full_line, SHORT_LINE, large);
     add_line("full of reports: every item", record_all, full_line, SHORT_LINE, large);
+    add_twos_complement("read as two's complement: every item");
     add_line("mostly idle: kind, after", walk, idle_line, SHORT_LINE, large);
     add_line("one long run: kind, after", walk, long_run, SHORT_LINE, large);
     add_line("bad words, each a run: kind, after", walk, bad_words, SHORT_LINE, large);

@@ -6,9 +6,10 @@
 
 #include "plain.h"
 
-typedef uint32_t run_number(const uint8_t *, size_t, size_t);
-typedef size_t run_place(const uint8_t *, size_t, size_t);
-typedef double run_value(const uint8_t *, size_t, size_t);
+/* what reads or writes a line has the altitude's form behind the place */
+typedef uint32_t run_number(const uint8_t *, size_t, size_t, uint32_t);
+typedef size_t run_place(const uint8_t *, size_t, size_t, uint32_t);
+typedef double run_value(const uint8_t *, size_t, size_t, uint32_t);
 typedef uint32_t field_number(const uint8_t *, size_t, size_t, uint32_t);
 typedef size_t field_size(const uint8_t *, size_t, size_t, uint32_t);
 typedef uint32_t frame_number(const uint8_t *, size_t, size_t, size_t);
@@ -18,10 +19,10 @@ struct calls {
     run_number *kind, *refusal, *has_values;
     run_place *first, *after, *named;
     run_value *nmi, *degrees, *seconds;
-    uint32_t (*has)(const uint8_t *, size_t, size_t, uint32_t);
-    int64_t (*item)(const uint8_t *, size_t, size_t, uint32_t);
-    size_t (*write)(uint8_t *, size_t, size_t, uint32_t, const uint8_t *, size_t);
-    uint32_t (*write_refusal)(const uint8_t *, size_t, size_t, uint32_t, const uint8_t *, size_t);
+    uint32_t (*has)(const uint8_t *, size_t, size_t, uint32_t, uint32_t);
+    int64_t (*item)(const uint8_t *, size_t, size_t, uint32_t, uint32_t);
+    size_t (*write)(uint8_t *, size_t, size_t, uint32_t, uint32_t, const uint8_t *, size_t);
+    uint32_t (*write_refusal)(const uint8_t *, size_t, size_t, uint32_t, uint32_t, const uint8_t *, size_t);
     field_number *field_refusal, *field_type, *field_inner_type;
     field_size *field_entries, *field_text_place, *field_text_length;
     uint32_t (*field_has)(const uint8_t *, size_t, size_t, uint32_t, uint32_t);
@@ -35,7 +36,7 @@ struct calls {
     size_t (*frame_field)(const uint8_t *, size_t, size_t, size_t, uint8_t *, size_t);
     size_t (*frame_write)(uint8_t *, size_t, size_t, size_t, uint32_t, uint8_t, const uint8_t *, size_t, size_t);
     uint32_t (*frame_write_refusal)(const uint8_t *, size_t, size_t, size_t, uint32_t, uint8_t, const uint8_t *, size_t, size_t);
-    uint32_t (*index_enter)(siamrung_entry *, size_t, const uint8_t *, size_t, size_t, uint32_t);
+    uint32_t (*index_enter)(siamrung_entry *, size_t, const uint8_t *, size_t, size_t, uint32_t, uint32_t);
     uint32_t (*index_find)(const siamrung_entry *, size_t, uint32_t);
 };
 
@@ -51,8 +52,11 @@ uint64_t rnd(void);
 void put_word(uint8_t *b, size_t i, unsigned w);
 void put_be64(uint8_t *b, uint64_t x);
 
-/* The items of a random report of that kind; answers their length. */
+/* The items of a random report of that kind; answers their length. An altitude is one that both forms have. */
 size_t report_items(uint32_t kind, uint8_t *items);
+
+/* The items of a random DABS or ATCRBS with that altitude. */
+size_t altitude_items(uint32_t kind, int64_t altitude, uint8_t *items);
 
 /* A line of n words: full of reports, mostly idle, one long run of good words, bad words each a run of its own, and in one run. */
 typedef void fill_line(uint8_t *b, size_t n);
@@ -64,6 +68,10 @@ fill_line tracks_512, tracks_16;
 
 /* A line of reports of every kind, of few tracks and of none. */
 fill_line mixed_tracks;
+
+/* A line of DABS and ATCRBS reports, of few tracks, each with an altitude in two's complement. About a fourth of the altitudes are -2048, whose bits
+ * are minus zero in sign and magnitude. */
+fill_line altitude_tracks;
 
 /* The file number of a track, counted from 0: no two of the first 4,095 tracks have the same. */
 uint16_t track_number(size_t track);

@@ -52,12 +52,22 @@ size_t report_items(uint32_t kind, uint8_t *items)
     return (size_t)(at - items);
 }
 
+/* The altitude stands in the place of the last item, which is ALTITUDE or CARRIED. */
+size_t altitude_items(uint32_t kind, int64_t altitude, uint8_t *items)
+{
+    size_t length = report_items(kind, items);
+
+    put_be64(items + length - 16, SIAMRUNG_ITEM_ALTITUDE);
+    put_be64(items + length - 8, (uint64_t)altitude);
+    return length;
+}
+
 static size_t put_report(uint8_t *b, size_t n, size_t place)
 {
     uint8_t items[MOST_ITEMS];
     uint32_t kind = SIAMRUNG_KIND_SEARCH + (uint32_t)(rnd() % 15);
 
-    return plain_write(b, 2 * n, place, kind, items, report_items(kind, items));
+    return plain_write(b, 2 * n, place, SIAMRUNG_FORM_SIGN_MAGNITUDE, kind, items, report_items(kind, items));
 }
 
 static void idle(uint8_t *b, size_t n)
@@ -131,16 +141,23 @@ uint16_t track_number(size_t track)
     return (uint16_t)(1 + track * 1571 % 4095);
 }
 
-/* A report of that kind with that file number, if the kind has one. */
-static size_t put_track(uint8_t *b, size_t n, size_t place, uint32_t kind, uint16_t number)
+/* Gives the items that file number, if the kind has one. */
+static void put_number(uint8_t *items, size_t length, uint16_t number)
 {
-    uint8_t items[MOST_ITEMS];
-    size_t length = report_items(kind, items), i;
+    size_t i;
 
     for (i = 0; i < length; i += 16)
         if (items[i + 7] == SIAMRUNG_ITEM_FILE)
             put_be64(items + i + 8, number);
-    return plain_write(b, 2 * n, place, kind, items, length);
+}
+
+static size_t put_track(uint8_t *b, size_t n, size_t place, uint32_t kind, uint16_t number)
+{
+    uint8_t items[MOST_ITEMS];
+    size_t length = report_items(kind, items);
+
+    put_number(items, length, number);
+    return plain_write(b, 2 * n, place, SIAMRUNG_FORM_SIGN_MAGNITUDE, kind, items, length);
 }
 
 static void tracks_of(uint8_t *b, size_t n, size_t most)
@@ -173,6 +190,20 @@ void mixed_tracks(uint8_t *b, size_t n)
         uint32_t kind = SIAMRUNG_KIND_SEARCH + (uint32_t)(rnd() % 15);
         uint16_t number = rnd() % 8 ? track_number(rnd() % 24) : 0;
         place = put_track(b, n, place, kind, number) + rnd() % 2;
+    }
+}
+
+void altitude_tracks(uint8_t *b, size_t n)
+{
+    uint8_t items[MOST_ITEMS];
+    size_t place = 0, length;
+
+    idle(b, n);
+    while (place + 8 <= n) {
+        uint32_t kind = rnd() % 2 ? SIAMRUNG_KIND_DABS : SIAMRUNG_KIND_ATCRBS;
+        length = altitude_items(kind, rnd() % 4 ? (int64_t)(rnd() % 4096) - 2048 : -2048, items);
+        put_number(items, length, track_number(rnd() % 24));
+        place = plain_write(b, 2 * n, place, SIAMRUNG_FORM_TWOS_COMPLEMENT, kind, items, length);
     }
 }
 

@@ -111,8 +111,21 @@ static int32_t decode_target(const unsigned *w, struct plain_outcome *o, int dab
     return 0;
 }
 
+/* The sign without a magnitude. */
+#define MINUS_ZERO 2048
+
+/* Bits 79-90 as an altitude: the first of them is a sign, or in two's complement it weighs -2048. */
+static int32_t altitude(unsigned w, uint32_t form)
+{
+    int32_t low = BITS(w, 2, 12);
+
+    if (!BITS(w, 1, 1))
+        return low;
+    return form == SIAMRUNG_FORM_SIGN_MAGNITUDE ? -low : low - 2048;
+}
+
 /* Seven words: a refusal's number, or 0 and the kind set. */
-static uint32_t decode_seven(const unsigned *w, struct plain_outcome *o)
+static uint32_t decode_seven(const unsigned *w, uint32_t form, struct plain_outcome *o)
 {
     int32_t *v = o->item;
     int dabs = BITS(w[0], 4, 4);
@@ -147,10 +160,9 @@ static uint32_t decode_seven(const unsigned *w, struct plain_outcome *o)
         }
         v[SIAMRUNG_ITEM_CARRIED] = -1;
     } else if (BITS(w[0], 6, 6)) {
-        int32_t magnitude = BITS(w[6], 2, 12);
-        if (!spare && BITS(w[6], 1, 1) && magnitude == 0)
+        if (!spare && form == SIAMRUNG_FORM_SIGN_MAGNITUDE && BITS(w[6], 1, 12) == MINUS_ZERO)
             return SIAMRUNG_REFUSAL_MINUS_ZERO;
-        v[SIAMRUNG_ITEM_ALTITUDE] = BITS(w[6], 1, 1) ? -magnitude : magnitude;
+        v[SIAMRUNG_ITEM_ALTITUDE] = altitude(w[6], form);
         v[SIAMRUNG_ITEM_CARRIED] = -1;
     } else {
         v[SIAMRUNG_ITEM_CARRIED] = BITS(w[6], 1, 12);
@@ -178,19 +190,19 @@ static int known_first(unsigned w)
     }
 }
 
-static uint32_t judge(const uint8_t *b, struct plain_outcome *o)
+static uint32_t judge(const uint8_t *b, uint32_t form, struct plain_outcome *o)
 {
     unsigned w[7];
-    unsigned form = BITS(word_at(b, o->first), 2, 3);
-    size_t i, n = form == 3 ? 7 : 4;
+    unsigned size = BITS(word_at(b, o->first), 2, 3);
+    size_t i, n = size == 3 ? 7 : 4;
 
-    if (form != 3 && (form != 0 || !known_first(word_at(b, o->first))))
+    if (size != 3 && (size != 0 || !known_first(word_at(b, o->first))))
         return SIAMRUNG_REFUSAL_UNKNOWN_FORM;
     if (o->after - o->first != n)
         return SIAMRUNG_REFUSAL_WRONG_LENGTH;
     for (i = 0; i < n; i++)
         w[i] = word_at(b, o->first + i);
-    return n == 7 ? decode_seven(w, o) : decode_four(w, o);
+    return n == 7 ? decode_seven(w, form, o) : decode_four(w, o);
 }
 
 static void all_at(struct plain_outcome *o, uint32_t kind, uint32_t refusal, size_t place)
@@ -200,7 +212,7 @@ static void all_at(struct plain_outcome *o, uint32_t kind, uint32_t refusal, siz
     o->first = o->after = o->named = place;
 }
 
-void plain_read(const uint8_t *b, size_t length, size_t place, struct plain_outcome *o)
+void plain_read(const uint8_t *b, size_t length, size_t place, uint32_t form, struct plain_outcome *o)
 {
     size_t i = place, n = length / 2, wide = NONE, even = NONE;
     unsigned w;
@@ -235,7 +247,7 @@ void plain_read(const uint8_t *b, size_t length, size_t place, struct plain_outc
         o->refusal = wide != NONE ? SIAMRUNG_REFUSAL_WORD_TOO_WIDE : SIAMRUNG_REFUSAL_EVEN_WORD;
         o->named = wide != NONE ? wide : even;
     } else {
-        o->refusal = judge(b, o);
+        o->refusal = judge(b, form, o);
     }
     if (o->refusal != SIAMRUNG_REFUSAL_NONE)
         o->kind = SIAMRUNG_KIND_REFUSED;

@@ -18,7 +18,7 @@ static void list(size_t length)
     size_t at = 0, reported = 0, refused = 0;
 
     for (;;) {
-        plain_read(bytes, length, at, &o);
+        plain_read(bytes, length, at, SIAMRUNG_FORM_SIGN_MAGNITUDE, &o);
         if (o.kind == SIAMRUNG_KIND_END)
             break;
         at = o.after;

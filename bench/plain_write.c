@@ -59,8 +59,14 @@ unsigned plain_width(uint32_t kind, unsigned item)
     }
 }
 
+/* Only two's complement has -2048. */
+static int altitude_fits(int64_t z, uint32_t form)
+{
+    return z >= (form == SIAMRUNG_FORM_SIGN_MAGNITUDE ? -2047 : -2048) && z <= 2047;
+}
+
 /* The items of a record that is one of the kind, else 0. */
-static uint64_t take(uint32_t kind, const uint8_t *items, size_t items_length, int64_t *v)
+static uint64_t take(uint32_t form, uint32_t kind, const uint8_t *items, size_t items_length, int64_t *v)
 {
     uint64_t given = plain_take_items(items, items_length, 0, PLAIN_ITEMS, v);
     uint64_t all = plain_items_of(kind);
@@ -75,7 +81,7 @@ static uint64_t take(uint32_t kind, const uint8_t *items, size_t items_length, i
         if ((uint64_t)v[item] >> plain_width(kind, item))
             return 0;
     }
-    if (given & B(ALTITUDE) && (v[SIAMRUNG_ITEM_ALTITUDE] < -2047 || v[SIAMRUNG_ITEM_ALTITUDE] > 2047))
+    if (given & B(ALTITUDE) && !altitude_fits(v[SIAMRUNG_ITEM_ALTITUDE], form))
         return 0;
     return given;
 }
@@ -123,7 +129,15 @@ static void radar(uint32_t kind, const int64_t *v, unsigned *w)
     }
 }
 
-static unsigned seven(uint32_t kind, const int64_t *v, uint64_t given, unsigned *w)
+/* An altitude that fits, as bits 79-90. */
+static unsigned altitude_bits(int64_t z, uint32_t form)
+{
+    if (form == SIAMRUNG_FORM_SIGN_MAGNITUDE)
+        return z < 0 ? 2048 | (unsigned)-z : (unsigned)z;
+    return (unsigned)z & 4095;
+}
+
+static unsigned seven(uint32_t form, uint32_t kind, const int64_t *v, uint64_t given, unsigned *w)
 {
     int dabs = kind < SIAMRUNG_KIND_ATCRBS;
 
@@ -151,9 +165,8 @@ static unsigned seven(uint32_t kind, const int64_t *v, uint64_t given, unsigned 
     switch (kind - (dabs ? SIAMRUNG_KIND_DABS : SIAMRUNG_KIND_ATCRBS)) {
     case 0:
         if (given & B(ALTITUDE)) {
-            int64_t z = v[SIAMRUNG_ITEM_ALTITUDE];
             w[0] |= 1u << 6;
-            w[6] = z < 0 ? 2048 | (unsigned)-z : (unsigned)z;
+            w[6] = altitude_bits(v[SIAMRUNG_ITEM_ALTITUDE], form);
         } else {
             w[6] = V(CARRIED);
         }
@@ -174,7 +187,8 @@ static unsigned seven(uint32_t kind, const int64_t *v, uint64_t given, unsigned 
 
 /* ---- the calls */
 
-static uint32_t refusal(size_t length, size_t place, uint32_t kind, const uint8_t *items, size_t items_length, int64_t *v, uint64_t *given)
+static uint32_t refusal(size_t length, size_t place, uint32_t form, uint32_t kind, const uint8_t *items, size_t items_length, int64_t *v,
+                        uint64_t *given)
 {
     if (length > 65536)
         return SIAMRUNG_REFUSAL_LINE_TOO_LONG;
@@ -182,7 +196,7 @@ static uint32_t refusal(size_t length, size_t place, uint32_t kind, const uint8_
         return SIAMRUNG_REFUSAL_ODD_BYTE_COUNT;
     if (place > length / 2)
         return SIAMRUNG_REFUSAL_PLACE_BEYOND_LINE;
-    *given = take(kind, items, items_length, v);
+    *given = take(form, kind, items, items_length, v);
     if (*given == 0)
         return SIAMRUNG_REFUSAL_VALUE_TOO_LARGE;
     if (length / 2 - place < (kind < SIAMRUNG_KIND_DABS ? 5u : 8u))
@@ -190,17 +204,17 @@ static uint32_t refusal(size_t length, size_t place, uint32_t kind, const uint8_
     return SIAMRUNG_REFUSAL_NONE;
 }
 
-size_t plain_write(uint8_t *bytes, size_t length, size_t place, uint32_t kind, const uint8_t *items, size_t items_length)
+size_t plain_write(uint8_t *bytes, size_t length, size_t place, uint32_t form, uint32_t kind, const uint8_t *items, size_t items_length)
 {
     int64_t v[PLAIN_ITEMS];
     uint64_t given = 0;
     unsigned w[7], i, n;
     uint8_t *at;
 
-    if (refusal(length, place, kind, items, items_length, v, &given) != SIAMRUNG_REFUSAL_NONE)
+    if (refusal(length, place, form, kind, items, items_length, v, &given) != SIAMRUNG_REFUSAL_NONE)
         return place;
     at = bytes + 2 * place;
-    n = kind < SIAMRUNG_KIND_DABS ? four(kind, v, w) : seven(kind, v, given, w);
+    n = kind < SIAMRUNG_KIND_DABS ? four(kind, v, w) : seven(form, kind, v, given, w);
     for (i = 0; i < n; i++) {
         unsigned x = w[i] << 1 | (~(unsigned)__builtin_popcount(w[i]) & 1);
         at[2 * i] = (uint8_t)(x >> 8);
@@ -211,11 +225,12 @@ size_t plain_write(uint8_t *bytes, size_t length, size_t place, uint32_t kind, c
     return place + n + 1;
 }
 
-uint32_t plain_write_refusal(const uint8_t *bytes, size_t length, size_t place, uint32_t kind, const uint8_t *items, size_t items_length)
+uint32_t plain_write_refusal(const uint8_t *bytes, size_t length, size_t place, uint32_t form, uint32_t kind, const uint8_t *items,
+                             size_t items_length)
 {
     int64_t v[PLAIN_ITEMS];
     uint64_t given;
 
     (void)bytes;
-    return refusal(length, place, kind, items, items_length, v, &given);
+    return refusal(length, place, form, kind, items, items_length, v, &given);
 }
