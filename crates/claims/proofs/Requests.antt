@@ -151,6 +151,7 @@ stays = record { folds = folds-answer-the-same }
 input : TheFormAsAnInput
 input = record {
   run = forms.new-reading;
+  lowest = forms.minus-zero-is-lowest;
   place = forms.new-outcome;
   place-of-bytes = forms.new-outcome-of-bytes;
   same = forms.equal-readings;

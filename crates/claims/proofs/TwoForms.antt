@@ -10,7 +10,7 @@ use lib.Dec.{eqb, leb, ltb}
 use lib.IntN.{ℤ, pos, negsuc, negℤ, _-ℤ_}
 use lib.ListN.{length, getD, take}
 use Rattle.rows.specs.Rows.{Row, row, firstOf, each}
-use Rattle.rows.specs.Claims.{NoneHolds}
+use Rattle.rows.specs.Claims.{NoneHolds, Refusing}
 use Rattle.rows.proofs.Claims as rows
 use Rattle.rows.proofs.Claims.{differ}
 use Rattle.refusals.specs.declared.LineRefusal.the-variants.{WordTooWide, EvenWord, UnknownForm, WrongLength, UnassignedRadar, SpareBitSet, MinusZero, LineTooLong, OddByteCount, PlaceBeyondLine, ValueTooLarge, NoRoom}
@@ -51,7 +51,7 @@ use Rattle.lines.specs.declared.Wrote.the-variants as P
 use Rattle.lines.specs.Writing.{placeRows, writeAt, leftBy}
 use Rattle.lines.specs.ByteWriting.{writeBytes, bytesLeft}
 use Rattle.index.specs.Entries.{fileOf, numberIn, kindIn, entryOf}
-use Rattle.claims.specs.TwoForms.{dabsWith, atcrbsWith, heightBy, altitudeBy, ofHeight, ofAltitude, turn, turned, isMinusZero, answerAnew, NewReading, lowAltitude, EqualReadings, RestStays, NeverMinusZero, NeverMinusZeroInBytes, whatAnew, outcomeAnew, runFrom, NewOutcome, NewOutcomeOfBytes, isNine, SameEntry, ElevenFollows, EqualWriting, TurnedWords, WriteAlike, SameCalls}
+use Rattle.claims.specs.TwoForms.{dabsWith, atcrbsWith, heightBy, altitudeBy, ofHeight, ofAltitude, turn, turned, lowest, isMinusZero, answerAnew, NewReading, MinusZeroIsLowest, lowAltitude, EqualReadings, RestStays, NeverMinusZero, NeverMinusZeroInBytes, whatAnew, outcomeAnew, runFrom, NewOutcome, NewOutcomeOfBytes, isNine, SameEntry, ElevenFollows, EqualWriting, TurnedWords, WriteAlike, SameCalls}
 
 -- ---- the height of a report in two forms
 
@@ -195,6 +195,10 @@ no-minus ws = go (isSeven ws) (not (bit ws 12)) (bit ws 6)
     go true false c = refl
     go false b c = refl
 
+not-false : (b : Bool) → not b ≡ true → b ≡ false
+not-false true e = sym e
+not-false false e = refl
+
 -- of four tests the last, where the others hold
 fourth : (a b c d : Bool) → all (a ∷ b ∷ c ∷ d ∷ []) ≡ true → d ≡ true
 fourth a b c d h = both d true (both c _ (both b _ (both a _ h .1) .1) .1) .0
@@ -224,6 +228,57 @@ module _ (ws : List ℕ) where
 
 pub new-reading : NewReading
 new-reading ws = alike (common ws) _ _ (last-anew ws) ∙ rows.each-of RunAnswer RunAnswer (answerAnew ws) (common ws) (lastOf signMagnitude ws)
+
+-- ---- minus zero
+
+-- a run that gets 9 is minus zero: no row before the last gives it
+abbrev ninth : RunAnswer → Bool
+ninth (A.Accepted r) = false
+ninth (A.Refused q o) = isMinusZero q
+
+not-given : (rs : List (Row RunAnswer)) (x : RunAnswer) → Refusing ninth rs → ninth x ≡ false → ninth (firstOf rs x) ≡ false
+not-given [] x none e = e
+not-given (r ∷ rs) x none e = by-cond (λ y. ninth y ≡ false) (r .holds) (λ t. none .0) (λ t. not-given rs x (none .1) e)
+
+is-minus : (ws : List ℕ) (o : ℕ) → readRun signMagnitude ws ≡ A.Refused MinusZero o → minusZero signMagnitude ws ≡ true
+is-minus ws o e =
+    by-test (minusZero signMagnitude ws) (λ t. t)
+    (λ t. differ (sym (ap ninth e) ∙ not-given (common ws) (lastOf signMagnitude ws) (refl, (refl, (refl, (refl, (refl, (refl, tt)))))) (ap ninth (passed _ _ t))))
+
+-- it has an altitude
+has-altitude : (form : AltitudeForm) (ws : List ℕ) → isSeven ws ≡ true → bit ws 12 ≡ false → bit ws 6 ≡ true → ofAltitude (λ v. true) (reportOf form ws) ≡ true
+unfolding reportOf sevenOf heightOf
+has-altitude form ws s r c = by-test (bit ws 4) (λ b. simp (s, r, c, b)) (λ b. simp (s, r, c, b))
+
+-- a test of an altitude that is put in its place
+put-height : (test : ℤ → Bool) (z : ℤ) (h : Height) → ofHeight test (heightBy (λ v. z) h) ≡ ofHeight (λ v. test z) h
+put-height test z (H.Altitude v) = refl
+put-height test z (H.Carried n) = refl
+put-height test z (H.Cd c n) = refl
+put-height test z (H.Mtd c n) = refl
+put-height test z (H.Rdas c n) = refl
+
+put-altitude : (test : ℤ → Bool) (z : ℤ) (r : Report) → ofAltitude test (altitudeBy (λ v. z) r) ≡ ofAltitude (λ v. test z) r
+put-altitude test z (R.Search s) = refl
+put-altitude test z (R.Strobe s) = refl
+put-altitude test z (R.Map m) = refl
+put-altitude test z (R.Status s) = refl
+put-altitude test z (R.Rtqc s) = refl
+put-altitude test z (R.Dabs d) = put-height test z (d .height)
+put-altitude test z (R.Atcrbs a) = put-height test z (a .height)
+put-altitude test z (R.Mtd m) = refl
+put-altitude test z (R.Rdas r) = refl
+
+pub minus-zero-is-lowest : MinusZeroIsLowest
+minus-zero-is-lowest ws o e =
+    let m = is-minus ws o e in
+    let seven = both (isSeven ws) _ m in
+    let plain = both (not (bit ws 12)) _ (seven .1) in
+    let mode = both (bit ws 6) _ (plain .1) .0 in (
+      lowest (reportOf signMagnitude ws),
+      new-reading ws ∙ ap (answerAnew ws) e,
+      put-altitude _ (negℤ (pos 2048)) (reportOf signMagnitude ws) ∙ has-altitude signMagnitude ws (seven .0) (not-false (bit ws 12) (plain .0)) mode,
+    )
 
 -- ---- where the first bit is not one
 

@@ -214,12 +214,13 @@ pub record Ticket4 : Type 0 where
 -- "One sensor maker sends bits 79-90 as a twelve-bit two's complement number. Section 4.1.17 says "signed binary integer" and can be read so. Reading
 -- and writing an altitude now take the form as an input, and every caller passes it on from the public call." The promise of each of these calls has
 -- the form in it: judge of report_reader, words_of of report_writer, wide::read and bytes::read of line_reader, wide::write, bytes::write and
--- bytes::answer of line_writer, and the C calls. What the new form reads is told by what document 01's reads: of a run (run), at a place of a line
--- (place) and of bytes (place-of-bytes). Where no altitude has its first bit one, nothing differs (same); and nothing else of a report depends on its
+-- bytes::answer of line_writer, and the C calls. What the new form reads is told by what document 01's reads: of a run (run, lowest), at a place of a
+-- line (place) and of bytes (place-of-bytes). Where no altitude has its first bit one, nothing differs (same); and nothing else of a report depends on its
 -- altitude (rest), so the index is brought the same (entry). A report without an altitude below zero is written alike (written), and any other that
 -- document 01's form takes has the same words with its altitude turned (words); so the calls of the writers answer and leave the same (calls)
 pub record TheFormAsAnInput : Type 0 where
   pub run : forms.NewReading
+  pub lowest : forms.MinusZeroIsLowest
   pub place : forms.NewOutcome
   pub place-of-bytes : forms.NewOutcomeOfBytes
   pub same : forms.EqualReadings

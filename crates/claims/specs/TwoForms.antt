@@ -5,7 +5,7 @@ use mathlib.Core.Path.{_≡_}
 use mathlib.Core.Bool.{Bool, true, false, not, cond}
 use mathlib.Core.List.{List, [], _∷_}
 use lib.Dec.{eqb}
-use lib.IntN.{ℤ, pos, negℤ, _-ℤ_}
+use lib.IntN.{ℤ, pos, negℤ, natAbs, _-ℤ_}
 use lib.ListN.{drop}
 use Rattle.refusals.specs.declared.LineRefusal.{LineRefusal}
 use Rattle.refusals.specs.declared.LineRefusal.the-variants.{MinusZero, ValueTooLarge}
@@ -144,6 +144,12 @@ answerAnew ws (A.Refused q o) = cond (isMinusZero q) (A.Accepted (lowest (report
 
 abbrev pub NewReading : Type 0
 NewReading = (ws : List ℕ) → readRun twosComplement ws ≡ answerAnew ws (readRun signMagnitude ws)
+
+-- so minus zero is -2048: where document 01's form gives 9, the new one reads a report with that altitude
+abbrev pub MinusZeroIsLowest : Type 0
+MinusZeroIsLowest =
+    (ws : List ℕ) (o : ℕ) → readRun signMagnitude ws ≡ A.Refused MinusZero o
+    → (r : Report) × (readRun twosComplement ws ≡ A.Accepted r) × (ofAltitude (λ z. all (negative z ∷ eqb (natAbs z) 2048 ∷ [])) r ≡ true)
 
 -- bits 79-90 are an altitude whose first bit is one: seven words, bit 12 zero, bit 6 one and bit 79 one
 abbrev pub lowAltitude : List ℕ → Bool
