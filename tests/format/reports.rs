@@ -271,7 +271,8 @@ fn altitude(layouts: &[Layout], page: &[Table], found: &mut Findings) {
     let forms = table(page, "The forms of the altitude", "altitudes");
     for (form, least) in [("SignMagnitude", half - 1), ("TwosComplement", half)] {
         let said = format!("-{least} to {}", half - 1);
-        for text in [fields.at("field", "altitude", "meaning"), refusals.at("name", "ValueTooLarge", "given when"), forms.at("form", form, "altitudes")] {
+        let (row, refusal) = (fields.at("field", "altitude", "meaning"), refusals.at("name", "ValueTooLarge", "given when"));
+        for text in [row, refusal, forms.at("form", form, "altitudes")] {
             found.that(text.contains(&said), || format!("altitude: '{text}' does not say {said}"));
         }
         found.that(words(&code(ALTITUDE)).contains(&&least.to_string()[..]), || format!("altitude: {ALTITUDE} does not say {least}"));
