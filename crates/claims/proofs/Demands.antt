@@ -22,6 +22,7 @@ use Rattle.lines.specs.Spaced.{Spaced, lineOf, reportsOf, back}
 use Rattle.lines.specs.Writing.{leftBy}
 use Rattle.lines.specs.ByteWriting.{bytesLeft}
 use Rattle.lines.proofs.Refused as refused
+use Rattle.lines.proofs.Walked as walked
 use Rattle.lines.proofs.Outcomes as outcomes
 use Rattle.lines.proofs.Stretched.{runs-are}
 use Rattle.lines.proofs.Parts as parts
@@ -44,7 +45,7 @@ take-every-input = record {
   words = λ form line place r. (_, _, record { answers = refl; leaves = refl }, λ b left w. (w .answers, w .leaves));
   bytes = λ form bytes place r. (_, _, record { answers = refl; leaves = refl }, λ b left w. (w .answers, w .leaves));
   fields = λ r l t s. (_, _, record { answers = refl; leaves = refl }, λ b left w. (w .answers, w .leaves));
-  onward = outcomes.onward;
+  onward = walked.onward;
   enough = outcomes.calls-enough;
 }
 

@@ -32,7 +32,7 @@ use Rattle.lines.specs.ByteWriting.{writeBytes, bytesLeft, WritesBytes}
 use Rattle.words.proofs.Tests.{picked, passed, by-test}
 use Rattle.lines.proofs.Runs.{Free, good-free}
 use Rattle.lines.proofs.Puts.{write-cases}
-use Rattle.lines.proofs.Outcomes.{read-there, goes-on}
+use Rattle.lines.proofs.Walked.{read-there, goes-on}
 use Rattle.lines.proofs.Back.{reader-returns}
 use Rattle.lines.proofs.Written.{only-its-words}
 use Rattle.lines.proofs.ByteWords as byte-words

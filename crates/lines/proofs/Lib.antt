@@ -2,6 +2,7 @@ pub mod ByteWords
 pub mod Puts
 pub mod Runs
 pub mod Stretched
+pub mod Walked
 pub mod Outcomes
 pub mod Parts
 pub mod Totals

@@ -17,7 +17,8 @@ use Rattle.lines.specs.Stretches.{Run, runsFrom, runs}
 use Rattle.lines.specs.Claims.{Answer, moved, alone, beforeEnd, Splits, outside, Replaced}
 use Rattle.words.proofs.Tests.{picked, passed}
 use Rattle.lines.proofs.Runs.{All, all-runs, along, runs-along, runs-ends, runs-begins}
-use Rattle.lines.proofs.Outcomes.{alone-free, goes-on, one-each}
+use Rattle.lines.proofs.Walked.{goes-on}
+use Rattle.lines.proofs.Outcomes.{alone-free, one-each}
 
 -- ---- the outcomes before the end are those of the runs
 

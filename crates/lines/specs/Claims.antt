@@ -27,7 +27,7 @@ use Rattle.lines.specs.declared.Wrote.the-variants as P
 use Rattle.lines.specs.Line.{most, outcomeOf, endOf, notTaken, placed, isReport, isRefusal, isEnd, readBy, readAt, calls, outcomes}
 use Rattle.lines.specs.Bytes.{mostBytes, wordsIn, readBytes}
 use Rattle.lines.specs.ByteWriting.{byteWriterRows, writeBytes, bytesLeft}
-use Rattle.lines.specs.Stretches.{Run, runs, idleWords, reportedWords, refusedWords}
+use Rattle.lines.specs.Stretches.{Run, runs, runsAt, gathered, idleWords, reportedWords, refusedWords}
 use Rattle.lines.specs.Spaced.{Spaced, lineOf, reportsOf, AllFit, Apart, back}
 use Rattle.lines.specs.Rows.{rowsAt, byteRowsAt}
 use Rattle.lines.specs.Writing.{writerRows, writeAt, leftBy, puts, taken}
@@ -66,7 +66,7 @@ pub record PlacesGiven : Type 0 where
   pub report : (first n : ℕ) (r : Report) → placed first n (A.Accepted r) ≡ outcomeOf (W.Accepted r) first (first + n) (first + 0)
   pub not-taken : (q : LineRefusal) (place : ℕ) → notTaken q place ≡ outcomeOf (W.Refused q) place place place
 
--- ---- demand 1: the calls come to an end (proofs/Outcomes.antt)
+-- ---- demand 1: the calls come to an end (proofs/Walked.antt, proofs/Outcomes.antt)
 
 -- every outcome but the end goes on: the place after it lies beyond the caller's and within the line
 abbrev pub Onward : Type 0
@@ -100,6 +100,38 @@ shown p (r ∷ rs) n = replicate (r .place - p) idle ++ (r .words ++ shown (r .p
 -- the runs of a line are its unbroken stretches: such runs they are, and the line is they and idle words
 abbrev pub RunsAre : Type 0
 RunsAre = (line : List ℕ) → Stretches 0 (runs line) × (shown 0 (runs line) (length line) ≡ line)
+
+-- ---- the walk from outcome to outcome (proofs/Walked.antt): whatever is worked out of a line by reading it run after run goes by these two laws
+
+-- the outcome of a run on its line
+abbrev pub outcomeOfRun : Answer → Run → Outcome
+outcomeOfRun answer r = placed (r .place) (length (r .words)) (answer (r .words))
+
+-- the run that reading at a place meets
+pub record Meets (answer : Answer) (line : List ℕ) (place : ℕ) (r : Run) : Type 0 where
+  pub ahead : place ≤ r .place
+  pub some : 0 < length (r .words)
+  pub solid : Solid (r .words)
+  pub inside : r .place + length (r .words) ≤ length line
+  pub outcome : readBy answer line place ≡ outcomeOfRun answer r
+
+-- the induction: what holds at the end, where no run is left, and holds at a place whenever it holds behind the run that is met there, holds at every
+-- place, of the runs from there on
+abbrev pub AlongTheWalk : Type 1
+AlongTheWalk =
+    (answer : Answer) (line : List ℕ) → length line ≤ most → (P : ℕ → List Run → Type 0) →
+    ((place : ℕ) → place ≤ length line → readBy answer line place ≡ endOf (length line) → P place []) →
+    ((place : ℕ) (r : Run) (rs : List Run) → Meets answer line place r → P (r .place + length (r .words)) rs → P place (r ∷ rs)) →
+    (place : ℕ) → place ≤ length line → P place (runsAt line place)
+
+-- the step: what the runs from a place on bring is what the outcome there brings, and behind it what the runs from the place after it bring. Here ofRun
+-- says what a run brings, and of the same by its outcome
+abbrev pub StepByStep : Type 1
+StepByStep =
+    (answer : Answer) (line : List ℕ) → length line ≤ most →
+    (X : Type 0) (ofRun : Run → List X) (of : Outcome → List X) → of (endOf (length line)) ≡ [] → ((r : Run) → of (outcomeOfRun answer r) ≡ ofRun r) →
+    (place : ℕ) → place ≤ length line →
+    gathered ofRun (runsAt line place) ≡ of (readBy answer line place) ++ gathered ofRun (runsAt line (readBy answer line place .after))
 
 -- ---- demand 3: one outcome for each stretch (proofs/Outcomes.antt)
 

@@ -4,7 +4,7 @@ use Prim.Native.Nat.{ℕ, suc, _+_}
 use mathlib.Core.Bool.{Bool, not, cond}
 use mathlib.Core.List.{List, [], _∷_, _++_}
 use lib.Dec.{eqb}
-use lib.ListN.{length}
+use lib.ListN.{length, drop}
 use Rattle.words.specs.Word.{idle}
 use Rattle.reports.specs.declared.RunAnswer.{RunAnswer}
 use Rattle.reports.specs.Runs.{isAccepted}
@@ -28,6 +28,15 @@ runsFrom place open′ (w ∷ ws) =
 -- the stretches of a line, in order; RunsAre (Claims.antt) says what else they are
 abbrev pub runs : List ℕ → List Run
 runs line = runsFrom 0 [] line
+
+-- those from a place on, each at its place on the whole line
+abbrev pub runsAt : List ℕ → ℕ → List Run
+runsAt line place = runsFrom place [] (drop place line)
+
+-- what each run brings, one behind the other
+unfoldable pub gathered : {X : Type 0} → (Run → List X) → List Run → List X
+gathered brings [] = []
+gathered brings (r ∷ rs) = brings r ++ gathered brings rs
 
 -- ---- totals
 

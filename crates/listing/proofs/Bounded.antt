@@ -10,7 +10,7 @@ use Rattle.lines.specs.declared.Outcome.{Outcome}
 use Rattle.lines.specs.Bytes.{mostBytes, wordsIn, readBytes}
 use Rattle.lines.specs.Line.{most, endOf, gap, runIn, placed, outcomeAt, readBy}
 use Rattle.lines.proofs.ByteWords.{words-length, bytes-as-words}
-use Rattle.lines.proofs.Outcomes.{read-there, onward}
+use Rattle.lines.proofs.Walked.{read-there, onward}
 use Rattle.listing.specs.declared.Walk.{Walk}
 use Rattle.listing.specs.Listing.{listerForm, answer}
 use Rattle.listing.specs.Bounds.{Within}

@@ -1,11 +1,10 @@
--- Successive fills are the whole listing: the claim Whole. The walk goes through the reader's outcomes one by one; those are one for each
--- run, the one that its words get, and the end (laws of lines). Assumes nothing.
-use Prim.Native.Nat.{ℕ, zero, suc, _+_, _-_, _/_, _%_, _≤_}
+-- Successive fills are the whole listing: the claim Whole. The walk over a line from outcome to outcome is a law of lines; here is what is said of
+-- a run, and at the end. Assumes nothing.
+use Prim.Native.Nat.{ℕ, zero, suc, _+_, _-_, _/_, _%_, _≤_, _<_}
 use native.Mathlib.Nat.{add-zero, zero-add, add-assoc}
 use mathlib.Core.Path.{_≡_, refl, ap, sym, _∙_}
 use mathlib.Core.Bool.{Bool, true, false, not, cond}
-use mathlib.Core.Logic.{_⊎_, ⊎-elim}
-use mathlib.Core.List.{List, [], _∷_, _++_, map, append-nil, append-assoc}
+use mathlib.Core.List.{List, [], _∷_, _++_, append-nil, append-assoc}
 use native.Mathlib.Omega.{arith}
 use lib.Dec.{eqb, ltb}
 use lib.ListN.{length}
@@ -14,25 +13,23 @@ use Rattle.refusals.specs.Numbers.{lineNumber}
 use Rattle.reports.specs.declared.RunAnswer.{RunAnswer}
 use Rattle.reports.specs.declared.RunAnswer.the-variants as A
 use Rattle.reports.specs.Kinds.{kindOf}
-use Rattle.lines.specs.declared.What.{What}
-use Rattle.lines.specs.declared.What.the-variants as W
 use Rattle.lines.specs.declared.Outcome.{Outcome}
 use Rattle.lines.specs.Bytes.{mostBytes, wordsIn}
-use Rattle.lines.specs.Line.{most, endOf, isEnd, placed, readBy, calls}
+use Rattle.lines.specs.Line.{most, endOf, placed, readBy}
 use Rattle.reports.specs.Runs.{isAccepted}
 use Rattle.lines.specs.Stretches.{Run, runs, idleWords, wordsWhere}
-use Rattle.lines.specs.Claims.{alone}
+use Rattle.lines.specs.Claims.{outcomeOfRun, Meets}
 use Rattle.words.proofs.Tests.{picked, passed, by-test}
 use Rattle.lines.proofs.ByteWords.{words-length}
-use Rattle.lines.proofs.Runs.{All, all-runs}
-use Rattle.lines.proofs.Outcomes as reader
+use Rattle.lines.proofs.Walked.{along-the-walk}
+use Rattle.lines.proofs.Outcomes.{few-runs}
 use Rattle.lines.proofs.Totals.{totals-add}
 use Rattle.listing.specs.declared.Walk.{Walk}
 use Rattle.listing.specs.Letters.{text, reportLine, refusedLine, totalsLine}
 use Rattle.listing.specs.Listing.{answer, lineFor, runLines, listingOf, listing}
-use Rattle.listing.specs.Walking.{at, start, closed, Step, Says, Ended, stepFor, stepOn, stepAt, said, onward, fills, reached}
+use Rattle.listing.specs.Walking.{at, start, closed, Step, Says, Ended, stepOn, stepAt, said, onward, fills, reached}
 use Rattle.listing.specs.Claims.{Whole}
-use Rattle.listing.proofs.Bounded.{between, by-words}
+use Rattle.listing.proofs.Bounded.{by-words}
 use Rattle.listing.proofs.Telling.{roomy, is-long, is-odd, is-read}
 
 -- ---- calls and fills
@@ -58,72 +55,7 @@ one-fill k bytes w s rest e r = (
   ap (λ (s : Step). reached k bytes (onward w s) .done) e ∙ r .1,
 )
 
--- what is said of outcomes, one after the other, on a line of n words
-told : ℕ → Walk → List Outcome → List ℕ
-told n w [] = []
-told n w (o ∷ os) = said (stepOn n w o) ++ told n (onward w (stepOn n w o)) os
-
-hasEnd : List Outcome → Bool
-hasEnd [] = false
-hasEnd (o ∷ os) = cond (isEnd (o .what)) true (hasEnd os)
-
--- a walk that has counted no more words than lie before its place
-pub record Under-way (n : ℕ) (w : Walk) : Type 0 where
-  pub going : w .done ≡ false
-  pub inside : w .place ≤ n
-  pub counted : w .reported + w .refused ≤ w .place
-
--- an outcome that is no end leaves such a walk at the place after it
-goes-on : (n : ℕ) (w : Walk) (what : What) (first after named : ℕ) → Under-way n w → isEnd what ≡ false → w .place ≤ first → first ≤ after → after ≤ n
-    → Under-way n (onward w (stepFor n w what first after named)) × (onward w (stepFor n w what first after named) .place ≡ after)
-goes-on n w (W.Accepted r) first after named s e a b c = let k = s .counted in (record { going = refl; inside = c; counted = omega arith }, refl)
-goes-on n w (W.Refused q) first after named s e a b c = let k = s .counted in (record { going = refl; inside = c; counted = omega arith }, refl)
-goes-on n w W.End first after named s e a b c = absurd (let z : _≡_ {A = ℕ} 0 1 = cc in omega arith)
-
-module _ (bytes : List ℕ) (short : length bytes ≤ mostBytes) (even : length bytes % 2 ≡ 1 → ⊥) where
-  abbrev n : ℕ
-  n = length (wordsIn bytes)
-
-  few : n ≤ most
-  few = let k = words-length bytes in omega arith
-
-  step-is : (w : Walk) → Under-way n w → stepAt bytes w ≡ stepOn n w (readBy answer (wordsIn bytes) (w .place))
-  step-is w s =
-      let k = s .counted in
-      is-read bytes w n (s .going) short even (words-length bytes) (s .inside) (omega arith) (omega arith)
-      ∙ ap (stepOn n w) (by-words bytes (w .place) short even)
-
-  -- the fills say what the calls of the reader answer
-  fills-told : (k : ℕ) (w : Walk) → Under-way n w → hasEnd (calls answer k (wordsIn bytes) (w .place)) ≡ true
-      → Says-all k bytes w (told n w (calls answer k (wordsIn bytes) (w .place)))
-  unfolding calls told hasEnd
-  fills-told zero w s h = absurd (let z : _≡_ {A = Bool} true false = sym h in let y : _≡_ {A = ℕ} 0 1 = cc in omega arith)
-  fills-told (suc k) w s h =
-      let line = wordsIn bytes in
-      let o = readBy answer line (w .place) in
-      let t = stepOn n w o in
-      let b = between line (w .place) few (s .inside) in
-      ⊎-elim
-      (λ e.
-      let stop : isEnd (o .what) ≡ true = ap (λ (x : Outcome). isEnd (x .what)) e in
-      let last : onward w t .done ≡ true = ap (λ (x : Outcome). onward w (stepOn n w x) .done) e in
-      let all = one-fill k bytes w t [] (step-is w s) (done-fills k bytes (onward w t) last) in (
-        all .0 ∙ ap (λ (os : List Outcome). said t ++ told n (onward w t) os) (sym (picked [] (calls answer k line (o .after)) stop)),
-        all .1,
-      ))
-      (λ e.
-      let on = goes-on n w (o .what) (o .first) (o .after) (o .named) s (e .0) (b .behind) (b .forward) (b .inside) in
-      let same : calls answer k line (onward w t .place) ≡ calls answer k line (o .after) = ap (calls answer k line) (on .1) in
-      let rest : cond (isEnd (o .what)) [] (calls answer k line (o .after)) ≡ calls answer k line (o .after) = passed _ _ (e .0) in
-      let more = fills-told k (onward w t) (on .0)
-      (ap hasEnd same ∙ sym (ap hasEnd rest) ∙ sym (passed true (hasEnd (cond (isEnd (o .what)) [] (calls answer k line (o .after)))) (e .0)) ∙ h) in
-      let all = one-fill k bytes w t _ (step-is w s) more in (
-        all .0 ∙ ap (λ (os : List Outcome). said t ++ told n (onward w t) os) (same ∙ sym rest),
-        all .1,
-      ))
-      (reader.onward answer line (w .place) few (s .inside))
-
--- ---- the outcomes and the runs
+-- ---- one outcome
 
 -- the words of the runs that pass a test
 abbrev reported : List Run → ℕ
@@ -136,70 +68,98 @@ refused rs = wordsWhere (λ a. not (isAccepted a)) answer rs
 abbrev totals : ℕ → ℕ → ℕ → List ℕ
 totals n r q = totalsLine (n - r - q) r q n
 
--- a run gets the outcome of its words, at its place
-Placed : Run → Type 0
-Placed r = alone answer r ≡ placed (r .place) (length (r .words)) (answer (r .words))
+-- the walk behind a run of c words at f that got this answer
+abbrev behind : Walk → ℕ → ℕ → RunAnswer → Walk
+behind w f c a = at (f + c) (w .reported + cond (isAccepted a) c 0) (w .refused + cond (not (isAccepted a)) c 0)
 
--- what is said of one run, and what is counted
-one-told : (n p r q f c : ℕ) (a : RunAnswer) (os : List Outcome)
-    → told n (at p r q) (placed f c a ∷ os) ≡ lineFor f c a ++ told n (at (f + c) (r + cond (isAccepted a) c 0) (q + cond (not (isAccepted a)) c 0)) os
-unfolding told
-one-told n p r q f c (A.Accepted report) os =
+run-said : (n : ℕ) (w : Walk) (f c : ℕ) (a : RunAnswer) → stepOn n w (placed f c a) ≡ Says (lineFor f c a) (behind w f c a)
+run-said n w f c (A.Accepted report) =
     let z : f + c - f ≡ c = omega arith in
-    ap (λ (k : ℕ). reportLine f (kindOf report) k ++ told n (at (f + c) (r + k) q) os) z
-    ∙ ap (λ (k : ℕ). reportLine f (kindOf report) c ++ told n (at (f + c) (r + c) k) os) (sym (add-zero q))
-one-told n p r q f c (A.Refused why k) os =
+    ap (λ (k : ℕ). Says (reportLine f (kindOf report) k) (at (f + c) (w .reported + k) (w .refused))) z
+    ∙ ap (λ (k : ℕ). Says (reportLine f (kindOf report) c) (at (f + c) (w .reported + c) k)) (sym (add-zero (w .refused)))
+run-said n w f c (A.Refused why o) =
     let z : f + c - f ≡ c = omega arith in
-    ap (λ (j : ℕ). refusedLine f (lineNumber why) j (f + k) ++ told n (at (f + c) r (q + j)) os) z
-    ∙ ap (λ (j : ℕ). refusedLine f (lineNumber why) c (f + k) ++ told n (at (f + c) j (q + c)) os) (sym (add-zero r))
+    ap (λ (k : ℕ). Says (refusedLine f (lineNumber why) k (f + o)) (at (f + c) (w .reported) (w .refused + k))) z
+    ∙ ap (λ (k : ℕ). Says (refusedLine f (lineNumber why) c (f + o)) (at (f + c) k (w .refused + c))) (sym (add-zero (w .reported)))
 
-runs-told : (n p r q : ℕ) (rs : List Run) → All Placed rs
-    → told n (at p r q) (map (alone answer) rs ++ (endOf n ∷ [])) ≡ runLines rs ++ totals n (r + reported rs) (q + refused rs)
-unfolding told runLines wordsWhere Placed
-runs-told n p r q [] h =
-    append-nil (totals n r q) ∙ ap (λ (k : ℕ). totals n k q) (sym (add-zero r)) ∙ ap (totals n (r + 0)) (sym (add-zero q))
-runs-told n p r q (x ∷ rs) h =
-    let f = x .place in
-    let c = length (x .words) in
-    let a = answer (x .words) in
-    let r2 = r + cond (isAccepted a) c 0 in
-    let q2 = q + cond (not (isAccepted a)) c 0 in
-    ap (λ (o : Outcome). told n (at p r q) (o ∷ (map (alone answer) rs ++ (endOf n ∷ [])))) (h .0)
-    ∙ one-told n p r q f c a (map (alone answer) rs ++ (endOf n ∷ []))
-    ∙ ap (λ (l : List ℕ). lineFor f c a ++ l) (runs-told n (f + c) r2 q2 rs (h .1))
-    ∙ sym (append-assoc (lineFor f c a) (runLines rs) (totals n (r2 + reported rs) (q2 + refused rs)))
-    ∙ ap (λ (k : ℕ). lineFor f c a ++ runLines rs ++ totals n k (q2 + refused rs)) (add-assoc r (cond (isAccepted a) c 0) (reported rs))
-    ∙ ap (λ (k : ℕ). lineFor f c a ++ runLines rs ++ totals n (r + (cond (isAccepted a) c 0 + reported rs)) k) (add-assoc q (cond (not (isAccepted a)) c 0) (refused rs))
+-- a walk that has counted no more words than lie before its place
+pub record Under-way (n : ℕ) (w : Walk) : Type 0 where
+  pub going : w .done ≡ false
+  pub inside : w .place ≤ n
+  pub counted : w .reported + w .refused ≤ w .place
 
-end-last : (n : ℕ) (os : List Outcome) → hasEnd (os ++ (endOf n ∷ [])) ≡ true
-unfolding hasEnd
-end-last n [] = refl
-end-last n (o ∷ os) = by-test (isEnd (o .what)) (λ e. picked _ _ e) (λ e. passed _ _ e ∙ end-last n os)
+one-counts : (b : Bool) (c : ℕ) → cond b c 0 + cond (not b) c 0 ≡ c
+one-counts true c = add-zero c
+one-counts false c = zero-add c
 
--- ---- the whole
+-- ---- the walk
 
-module _ (bytes : List ℕ) (short : length bytes ≤ mostBytes) (even : length bytes % 2 ≡ 1 → ⊥) (k : ℕ) (enough : (length (wordsIn bytes) + 1) / 2 + 1 ≤ k) where
+module _ (bytes : List ℕ) (short : length bytes ≤ mostBytes) (even : length bytes % 2 ≡ 1 → ⊥) where
   abbrev line : List ℕ
   line = wordsIn bytes
 
-  all-placed : All Placed (runs line)
-  unfolding Placed
-  all-placed =
-      all-runs Placed 0 (length line) (λ p w ws f a b. reader.alone-free answer p w ws (let m = few bytes short even in omega arith) f) 0 [] line tt (omega arith) (omega arith)
+  abbrev n : ℕ
+  n = length line
 
-  outcomes-are : calls answer k line 0 ≡ map (alone answer) (runs line) ++ (endOf (length line) ∷ [])
-  outcomes-are = reader.calls-enough answer line k (few bytes short even) enough ∙ reader.one-each answer line (few bytes short even)
+  few : n ≤ most
+  few = let k = words-length bytes in omega arith
 
-  words-said : Says-all k bytes start (listingOf line)
-  words-said =
-      let n = length line in
+  -- what a call says, by the outcome at the walk's place
+  step-is : (w : Walk) (p : ℕ) (o : Outcome) → Under-way n w → w .place ≡ p → readBy answer line p ≡ o → stepAt bytes w ≡ stepOn n w o
+  step-is w p o s at e =
+      let k = s .counted in
+      is-read bytes w n (s .going) short even (words-length bytes) (s .inside) (omega arith) (omega arith)
+      ∙ ap (stepOn n w) (by-words bytes (w .place) short even ∙ ap (readBy answer line) at ∙ e)
+
+  -- from a place on, a walk that is under way says these runs and then the totals
+  abbrev Told : ℕ → List Run → Type 0
+  Told p rs =
+      (k : ℕ) (w : Walk) → Under-way n w → w .place ≡ p → length rs < k →
+      Says-all k bytes w (runLines rs ++ totals n (w .reported + reported rs) (w .refused + refused rs))
+
+  end-told : (p : ℕ) → p ≤ n → readBy answer line p ≡ endOf n → Told p []
+  unfolding runLines wordsWhere
+  end-told p h e zero w s at b = absurd (omega arith)
+  end-told p h e (suc k) w s at b =
+      let t = Says (totals n (w .reported) (w .refused)) (closed w) in
+      let all = one-fill k bytes w t [] (step-is w p (endOf n) s at e) (done-fills k bytes (closed w) refl) in (
+        all .0
+            ∙ append-nil (totals n (w .reported) (w .refused))
+            ∙ (λ i. totals n (sym (add-zero (w .reported)) i) (sym (add-zero (w .refused)) i)),
+        all .1,
+      )
+
+  run-told : (p : ℕ) (r : Run) (rs : List Run) → Meets answer line p r → Told (r .place + length (r .words)) rs → Told p (r ∷ rs)
+  unfolding runLines wordsWhere
+  run-told p r rs meets more zero w s at b = absurd (omega arith)
+  run-told p r rs meets more (suc k) w s at b =
+      let f = r .place in
+      let c = length (r .words) in
+      let a = answer (r .words) in
+      let next = behind w f c a in
+      let ahead = meets .ahead in
+      let so-far = s .counted in
+      let one = one-counts (isAccepted a) c in
+      let on : Under-way n next = record { going = refl; inside = meets .inside; counted = omega arith } in
+      let is = step-is w p (outcomeOfRun answer r) s at (meets .outcome) ∙ run-said n w f c a in
+      let all = one-fill k bytes w (Says (lineFor f c a) next) _ is (more k next on refl (omega arith)) in (
+        all .0
+            ∙ sym (append-assoc (lineFor f c a) (runLines rs) (totals n (next .reported + reported rs) (next .refused + refused rs)))
+            ∙ (λ i. (lineFor f c a ++ runLines rs)
+            ++ totals n (add-assoc (w .reported) (cond (isAccepted a) c 0) (reported rs) i) (add-assoc (w .refused) (cond (not (isAccepted a)) c 0) (refused rs) i)),
+        all .1,
+      )
+
+  -- ---- the whole
+
+  words-said : (k : ℕ) → (n + 1) / 2 + 1 ≤ k → Says-all k bytes start (listingOf line)
+  words-said k enough =
+      let runs-are = few-runs line in
       let ok : Under-way n start = record { going = refl; inside = omega arith; counted = omega arith } in
-      let all = fills-told bytes short even k start ok (ap hasEnd outcomes-are ∙ end-last n (map (alone answer) (runs line))) in
+      let all = along-the-walk answer line few Told end-told run-told 0 (omega arith) k start ok refl (omega arith) in
       let add = totals-add answer line in
       let left : n - (0 + reported (runs line)) - (0 + refused (runs line)) ≡ idleWords line = omega arith in (
         all .0
-            ∙ ap (told n start) outcomes-are
-            ∙ runs-told n 0 0 0 (runs line) all-placed
             ∙ ap (λ (i : ℕ). runLines (runs line) ++ totalsLine i (0 + reported (runs line)) (0 + refused (runs line)) n) left
             ∙ ap (λ (r : ℕ). runLines (runs line) ++ totalsLine (idleWords line) r (0 + refused (runs line)) n) (zero-add (reported (runs line)))
             ∙ ap (λ (q : ℕ). runLines (runs line) ++ totalsLine (idleWords line) (reported (runs line)) q n) (zero-add (refused (runs line))),
