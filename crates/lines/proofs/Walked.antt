@@ -99,7 +99,8 @@ next-run answer line p m h =
         let short = run-short ws in
         let size = ap length e in
         let d = length-drop p line in
-        inr (record { place = f; words = w ∷ l },
+        inr (
+          record { place = f; words = w ∷ l },
           record {
             ahead = omega arith;
             some = omega arith;
@@ -107,7 +108,8 @@ next-run answer line p m h =
             inside = omega arith;
             outcome = read-there answer line p m h ∙ ap (outcomeAt answer (length line) f) e;
           },
-          runs-some p line w l e)
+          runs-some p line w l e,
+        )
 
 -- ---- the laws
 
@@ -129,7 +131,7 @@ pub along-the-walk : AlongTheWalk
 along-the-walk answer line m P end run p h = along answer line m P end run (suc (length line)) p h (omega arith)
 
 -- behind the last word is no run
-none-left : (line : List ℕ) → runsAt line (length line) ≡ []
+pub none-left : (line : List ℕ) → runsAt line (length line) ≡ []
 unfolding runsFrom
 none-left line = ap (runsFrom (length line) []) (drop-length line)
 

@@ -110,7 +110,7 @@ pub record Held (ws : List ℕ) (r : Report) : Type 0 where
   pub report : fourOf ws ≡ r
 
 -- bits 4 to 8 of a Map are zero, so bits 4 to 10 are no other kind's
-not-map : (ws : List ℕ) (n : ℕ) → bits ws 4 8 ≡ mapPattern → 4 ≤ n → eqb (bits ws 4 10) n ≡ false
+pub not-map : (ws : List ℕ) (n : ℕ) → bits ws 4 8 ≡ mapPattern → 4 ≤ n → eqb (bits ws 4 10) n ≡ false
 not-map ws n z l = ne-eqb (bits ws 4 10) n (λ e. omega arith)
 
 module _ (ws : List ℕ) where

@@ -1,0 +1,104 @@
+-- What a call answers and leaves: how the rows are gone through, and the claims of the calls. Assumes nothing.
+use Prim.Native.Nat.{ℕ, _+_, _*_, _/_, _%_, _≤_, _<_}
+use mathlib.Core.Path.{_≡_, refl, ap, sym, _∙_}
+use mathlib.Core.Bool.{Bool, true, false, cond}
+use mathlib.Core.List.{List, [], _∷_, _++_}
+use native.Mathlib.Omega.{arith}
+use lib.Dec.{eqb, ltb}
+use lib.ListN.{length, take, drop, length-append, length-drop}
+use lib.Seq.{take-append-seam, drop-append-seam}
+use borrow.Author.Tests.{lt-ltb, le-ltb, eq-eqb, ne-eqb, ltb-true, ltb-false, eqb-false}
+use Rattle.rows.specs.Rows.{Row, row, firstOf}
+use Rattle.rows.proofs.Claims as law
+use Rattle.rows.proofs.Claims.{differ}
+use Rattle.refusals.specs.declared.LineRefusal.the-variants.{LineTooLong, OddByteCount}
+use Rattle.words.proofs.Tests.{picked, passed, by-test}
+use Rattle.reports.specs.Altitude.{AltitudeForm}
+use Rattle.lines.specs.Line.{most}
+use Rattle.lines.specs.Bytes.{mostBytes, wordsIn, bytesOf}
+use Rattle.lines.proofs.ByteWords.{words-length}
+use Rattle.manners.specs.declared.MannersRefusal.the-variants.{ListTooSmall}
+use Rattle.manners.specs.declared.Listed.{Listed}
+use Rattle.manners.specs.declared.Listed.the-variants as L
+use Rattle.manners.specs.Breaches.{Breach, breaches, numbersOf}
+use Rattle.manners.specs.Listing.{tooSmall, leftBy, listRows, listed, byteListRows, listedBytes, Gives}
+use Rattle.manners.specs.Claims.{isListed, ListRefuses, ByteListRefuses, ListedExactly, ByteListedExactly, RefusedStays, BehindStays, BytesAsWords}
+use Rattle.manners.proofs.Stored.{as-numbers, as-bytes}
+
+-- ---- the answer of the rows
+
+module _ (form : AltitudeForm) (line : List ℕ) (room : ℕ) (short : length line ≤ most) where
+  pub small : room < length (breaches form line) * 2 → listed form line room ≡ L.Refused ListTooSmall (length (breaches form line))
+  unfolding listed
+  small h =
+      let n = as-numbers .each (breaches form line) in
+      passed _ _ (le-ltb most (length line) short) ∙ picked _ _ (lt-ltb room (length (numbersOf (breaches form line))) (omega arith))
+
+  pub enough : length (breaches form line) * 2 ≤ room → listed form line room ≡ L.Breaches (length (breaches form line))
+  unfolding listed
+  enough h =
+      let n = as-numbers .each (breaches form line) in
+      passed _ _ (le-ltb most (length line) short) ∙ passed _ _ (le-ltb room (length (numbersOf (breaches form line))) (omega arith))
+
+pub long : (form : AltitudeForm) (line : List ℕ) (room : ℕ) → most < length line → listed form line room ≡ L.LineRefused LineTooLong
+unfolding listed
+long form line room h = picked _ _ (lt-ltb most (length line) h)
+
+-- bytes are answered as the words that they hold, where neither 2 nor 14 is given
+pub bytes-as-words : BytesAsWords
+unfolding listedBytes listed
+bytes-as-words form bytes room m even =
+    let bs = breaches form (wordsIn bytes) in
+    let w = words-length bytes in
+    passed _ _ (le-ltb mostBytes (length bytes) m)
+    ∙ passed _ _ (ne-eqb (length bytes % 2) 1 (λ z. omega arith))
+    ∙ ap (λ (b : Bool). cond b (L.Refused ListTooSmall (length bs)) (L.Breaches (length bs))) (half room (length bs) (as-numbers .each bs) (as-bytes .each bs))
+    ∙ sym (passed _ _ (le-ltb most (length (wordsIn bytes)) (omega arith)))
+  where
+    half : (room n : ℕ) {w v : ℕ} → w ≡ n * 2 → v ≡ n * 4 → ltb room v ≡ ltb (room / 2) w
+    half room n {w} {v} e f =
+        by-test (ltb room v)
+        (λ t. let l = ltb-true room v t in t ∙ sym (lt-ltb (room / 2) w (omega arith)))
+        (λ t. let l = ltb-false room v t in t ∙ sym (le-ltb (room / 2) w (omega arith)))
+
+pub long-bytes : (form : AltitudeForm) (bytes : List ℕ) (room : ℕ) → mostBytes < length bytes → listedBytes form bytes room ≡ L.LineRefused LineTooLong
+unfolding listedBytes
+long-bytes form bytes room h = picked _ _ (lt-ltb mostBytes (length bytes) h)
+
+pub odd-bytes : (form : AltitudeForm) (bytes : List ℕ) (room : ℕ) → length bytes ≤ mostBytes → length bytes % 2 ≡ 1 → listedBytes form bytes room ≡ L.LineRefused OddByteCount
+unfolding listedBytes
+odd-bytes form bytes room m h = passed _ _ (le-ltb mostBytes (length bytes) m) ∙ picked _ _ (eq-eqb (length bytes % 2) 1 h)
+
+module _ (form : AltitudeForm) (bytes : List ℕ) (room : ℕ) (short : length bytes ≤ mostBytes) (even : length bytes % 2 ≡ 0) where
+  abbrev found : ℕ
+  found = length (breaches form (wordsIn bytes))
+
+  pub small-bytes : room < found * 4 → listedBytes form bytes room ≡ L.Refused ListTooSmall found
+  small-bytes h =
+      let w = words-length bytes in
+      bytes-as-words form bytes room short even ∙ small form (wordsIn bytes) (room / 2) (omega arith) (omega arith)
+
+  pub enough-bytes : found * 4 ≤ room → listedBytes form bytes room ≡ L.Breaches found
+  enough-bytes h =
+      let w = words-length bytes in
+      bytes-as-words form bytes room short even ∙ enough form (wordsIn bytes) (room / 2) (omega arith) (omega arith)
+
+-- ---- what a call gives
+
+pub refused-stays : RefusedStays
+refused-stays (L.Breaches n) needed list e = differ e
+refused-stays (L.LineRefused q) needed list e = refl
+refused-stays (L.Refused q n) needed list e = refl
+
+-- a refusal leaves the list
+pub gives-refusal : {to a : Listed} {needed list : List ℕ} → to ≡ a → isListed a ≡ false → Gives to needed list a list
+gives-refusal {to} {a} {needed} {list} e r =
+    record { answers = sym e; leaves = sym (ap (λ (x : Listed). leftBy x needed list) e ∙ refused-stays a needed list r) }
+
+-- all that is needed, and behind it what stood there
+pub gives-all : {to : Listed} {needed list exit : List ℕ} {n k : ℕ} → to ≡ L.Breaches n → length needed ≡ k → exit ≡ needed ++ drop k list
+    → Gives to needed list (L.Breaches n) exit
+gives-all {to} {needed} {list} {exit} e n l = record {
+  answers = sym e;
+  leaves = l ∙ ap (λ (i : ℕ). needed ++ drop i list) (sym n) ∙ sym (ap (λ (x : Listed). leftBy x needed list) e);
+}

@@ -1,0 +1,4 @@
+pub mod Stored
+pub mod Broken
+pub mod Gathered
+pub mod Answered

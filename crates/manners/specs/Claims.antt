@@ -1,0 +1,166 @@
+-- What is claimed of manners (document 02, Ticket 6). Statements only, with what they need to be said. Proved in proofs/: the file is named at each.
+use Prim.Native.Nat.{ℕ, _+_, _*_, _/_, _%_, _≤_, _<_}
+use mathlib.Core.Bool.{Bool, true, false, not, cond}
+use mathlib.Core.List.{List, [], _∷_, _++_, map}
+use mathlib.Core.Logic.{_↔_, _⊎_}
+use mathlib.Core.Path.{_≡_}
+use lib.Dec.{ltb}
+use lib.ListN.{length, take, drop}
+use Rattle.rows.specs.Claims.{FirstIs}
+use Rattle.refusals.specs.declared.LineRefusal.{LineRefusal}
+use Rattle.refusals.specs.declared.LineRefusal.the-variants.{LineTooLong, OddByteCount}
+use Rattle.words.specs.Word.{idle}
+use Rattle.reports.specs.declared.Report.{Report}
+use Rattle.reports.specs.declared.RunAnswer.the-variants as A
+use Rattle.reports.specs.declared.altitude.Form.{Form}
+use Rattle.reports.specs.Altitude.{AltitudeForm, signMagnitude, twosComplement, formOf}
+use Rattle.reports.specs.Runs.{readRun, isAccepted}
+use Rattle.lines.specs.declared.Outcome.{Outcome}
+use Rattle.lines.specs.Line.{most, outcomes}
+use Rattle.lines.specs.Bytes.{mostBytes, wordsIn, bytesOf}
+use Rattle.lines.specs.Stretches.{Run, runs}
+use Rattle.lines.specs.Claims.{EndsIdle, BeginsIdle}
+use Rattle.manners.specs.declared.Rule.{Rule}
+use Rattle.manners.specs.declared.Found.the-variants as F
+use Rattle.manners.specs.declared.Listed.{Listed}
+use Rattle.manners.specs.declared.Listed.the-variants as L
+use Rattle.manners.specs.declared.MannersRefusal.{MannersRefusal}
+use Rattle.manners.specs.declared.MannersRefusal.the-variants.{ListTooSmall}
+use Rattle.manners.specs.Rules.{broken, breaks}
+use Rattle.manners.specs.Breaches.{Breach, breach, breaches, numbersOf, foundOf, broughtBy}
+use Rattle.manners.specs.Listing.{mostBreaches, listRows, listed, byteListRows, listedBytes, leftBy}
+
+-- ---- the rules (proofs/Broken.antt)
+
+-- a rule is the same over the words and over the record, for every accepted run
+abbrev pub SameOfRecord : Type 0
+SameOfRecord = (f : Form) (ws : List ℕ) (r : Report) → readRun (formOf f) ws ≡ A.Accepted r → (rule : Rule) → broken rule ws ≡ breaks r rule
+
+-- no run can have two of the four, accepted or not; nor can a record
+abbrev pub AtMostOne : Type 0
+AtMostOne = (ws : List ℕ) (a b : Rule) → broken a ws ≡ true → broken b ws ≡ true → a ≡ b
+
+abbrev pub AtMostOneOfRecord : Type 0
+AtMostOneOfRecord = (r : Report) (a b : Rule) → breaks r a ≡ true → breaks r b ≡ true → a ≡ b
+
+-- so what the code finds in an accepted run's record is the one rule that its words break
+abbrev pub FoundExactly : Type 0
+FoundExactly = (f : Form) (ws : List ℕ) (r : Report) → readRun (formOf f) ws ≡ A.Accepted r → (rule : Rule) → (foundOf r ≡ F.Breach rule) ↔ (broken rule ws ≡ true)
+
+-- ---- the list (proofs/Exactly.antt)
+
+-- one of a list
+abbrev pub Among : {X : Type 0} → X → List X → Type 0
+Among x [] = ⊥
+Among x (y ∷ ys) = (x ≡ y) ⊎ Among x ys
+
+-- "The list has exactly the breaches": a place and a rule are in it exactly where a run begins at the place, is accepted, and breaks the rule
+abbrev pub ExactlyTheBreaches : Type 0
+ExactlyTheBreaches =
+    (form : AltitudeForm) (line : List ℕ) (place : ℕ) (rule : Rule) →
+    Among (breach place rule) (breaches form line)
+    ↔ ((ws : List ℕ) × Among (record { place = place; words = ws }) (runs line) × (isAccepted (readRun form ws) ≡ true) × (broken rule ws ≡ true))
+
+-- the places rise, from one on
+abbrev pub RisingFrom : ℕ → List Breach → Type 0
+RisingFrom p [] = Unit {0}
+RisingFrom p (b ∷ bs) = (p ≤ b .place) × RisingFrom (b .place + 1) bs
+
+-- "by place and then in this order": as no run has two, each place is greater than the one before it
+abbrev pub ByPlace : Type 0
+ByPlace = (form : AltitudeForm) (line : List ℕ) → RisingFrom 0 (breaches form line)
+
+-- what outcomes bring, one after the other
+unfoldable pub broughtByAll : List Outcome → List Breach
+broughtByAll [] = []
+broughtByAll (o ∷ os) = broughtBy o ++ broughtByAll os
+
+-- it is what the outcomes of the line bring, of which demand 3 speaks
+abbrev pub FromTheOutcomes : Type 0
+FromTheOutcomes = (f : Form) (line : List ℕ) → length line ≤ most → breaches (formOf f) line ≡ broughtByAll (outcomes (readRun (formOf f)) line)
+
+-- a run that only one form of the altitude accepts breaks no rule: the list is the same in both
+abbrev pub SameInBothForms : Type 0
+SameInBothForms = (line : List ℕ) → breaches signMagnitude line ≡ breaches twosComplement line
+
+-- a breach takes four words at least, and an idle word parts it from the next: a line has no more than this
+abbrev pub NoMore : Type 0
+NoMore = (form : AltitudeForm) (line : List ℕ) → (5 * length (breaches form line) ≤ length line + 1) × (length line ≤ most → length (breaches form line) ≤ mostBreaches)
+
+-- ---- a line in parts (proofs/Exactly.antt)
+
+-- a breach with its place moved along
+abbrev pub along : ℕ → Breach → Breach
+along p b = breach (p + b .place) (b .rule)
+
+-- a line in three parts that meet at idle words has the breaches of the parts, moved along
+abbrev pub Splits : Type 0
+Splits =
+    (form : AltitudeForm) (pre mid post : List ℕ) → EndsIdle pre → BeginsIdle post →
+    breaches form (pre ++ (mid ++ post))
+    ≡ breaches form pre ++ (map (along (length pre)) (breaches form mid) ++ map (along (length pre + length mid)) (breaches form post))
+
+-- the breaches whose place does not lie from one place up to another
+unfoldable pub outside : ℕ → ℕ → List Breach → List Breach
+outside lo hi [] = []
+outside lo hi (b ∷ bs) = cond (ltb (b .place) lo) (b ∷ outside lo hi bs) (cond (ltb (b .place) hi) (outside lo hi bs) (b ∷ outside lo hi bs))
+
+-- the words between two idle words that stay are replaced by equally many others: every breach outside is the same
+abbrev pub Replaced : Type 0
+Replaced =
+    (form : AltitudeForm) (a x y b : List ℕ) → length x ≡ length y →
+    outside (length a + 1) (length a + 1 + length x) (breaches form (a ++ (idle ∷ (x ++ (idle ∷ b)))))
+    ≡ outside (length a + 1) (length a + 1 + length x) (breaches form (a ++ (idle ∷ (y ++ (idle ∷ b)))))
+
+-- ---- the calls (proofs/Answered.antt)
+
+-- all breaches are in the list
+abbrev pub isListed : Listed → Bool
+isListed (L.Breaches n) = true
+isListed (L.LineRefused q) = false
+isListed (L.Refused q n) = false
+
+-- each of 2, 14 and 52 is given exactly where its row is the first that holds
+abbrev pub ListRefuses : Type 0
+ListRefuses =
+    (form : AltitudeForm) (line : List ℕ) (room : ℕ) (a : Listed) → isListed a ≡ false → (listed form line room ≡ a) ↔ FirstIs (listRows form line room) a
+
+abbrev pub ByteListRefuses : Type 0
+ByteListRefuses =
+    (form : AltitudeForm) (bytes : List ℕ) (room : ℕ) (a : Listed) → isListed a ≡ false → (listedBytes form bytes room ≡ a) ↔ FirstIs (byteListRows form bytes room) a
+
+-- how many breaches: exactly where the line is short enough, and the list has two numbers for each, or four bytes
+abbrev pub ListedExactly : Type 0
+ListedExactly =
+    (form : AltitudeForm) (line : List ℕ) (room n : ℕ) →
+    (listed form line room ≡ L.Breaches n) ↔ ((length line ≤ most) × (length (breaches form line) * 2 ≤ room) × (length (breaches form line) ≡ n))
+
+abbrev pub ByteListedExactly : Type 0
+ByteListedExactly =
+    (form : AltitudeForm) (bytes : List ℕ) (room n : ℕ) →
+    (listedBytes form bytes room ≡ L.Breaches n)
+    ↔ ((length bytes ≤ mostBytes) × (length bytes % 2 ≡ 0) × (length (breaches form (wordsIn bytes)) * 4 ≤ room) × (length (breaches form (wordsIn bytes)) ≡ n))
+
+-- a refused call leaves the list as it was
+abbrev pub RefusedStays : Type 0
+RefusedStays = (a : Listed) (needed list : List ℕ) → isListed a ≡ false → leftBy a needed list ≡ list
+
+-- "What stands behind the list stays": where the list has room, its front is all that is needed, its length stays, and so does the rest
+abbrev pub BehindStays : Type 0
+BehindStays =
+    (n : ℕ) (needed list : List ℕ) → length needed ≤ length list →
+    (take (length needed) (leftBy (L.Breaches n) needed list) ≡ needed)
+    × (drop (length needed) (leftBy (L.Breaches n) needed list) ≡ drop (length needed) list)
+    × (length (leftBy (L.Breaches n) needed list) ≡ length list)
+
+-- bytes that are few enough and even in number are answered as the words that they hold, with half as many numbers of room as bytes
+abbrev pub BytesAsWords : Type 0
+BytesAsWords =
+    (form : AltitudeForm) (bytes : List ℕ) (room : ℕ) → length bytes ≤ mostBytes → length bytes % 2 ≡ 0 →
+    listedBytes form bytes room ≡ listed form (wordsIn bytes) (room / 2)
+
+-- two bytes hold every number of a list
+abbrev pub NumbersInBytes : Type 0
+NumbersInBytes =
+    (form : AltitudeForm) (line : List ℕ) → length line ≤ most →
+    wordsIn (bytesOf (numbersOf (breaches form line))) ≡ numbersOf (breaches form line)
