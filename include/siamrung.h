@@ -1,15 +1,16 @@
 /*
  * siamrung.h: the calls of the Siamrung converter for C and C++ programs. They read a line of words, write a report into a line, read a link
- * data field and write one, read a frame of the communications channel and write one, and serve an index of the last report of each file number.
+ * data field and write one, read a frame of the communications channel and write one, serve an index of the last report of each file number, and
+ * list where a line breaks rules between fields.
  *
  * Lines. A line is a slice of bytes: a pointer and the number of bytes. Two bytes are a word, high byte first. A line has at most 65,536
  * bytes, which are 32,768 words. An empty slice may be NULL with the length 0. A place is a number of words from the start of the line,
  * counted from 0. Every slice and every place gets an answer. What cannot be read gets a refusal; it is never passed over.
  *
  * Reading. A call that reads a line answers one number about the run of words at the place. It skips the idle words from the place on. From a
- * place inside a run, the run begins at that place. A call that reads writes nothing (but siamrung_frame_field, which copies, and
- * siamrung_index_enter, which writes into its table). A call reads its own run and no more of the line. So a program that goes from run to run by
- * siamrung_after does work in proportion to the line.
+ * place inside a run, the run begins at that place. A call that reads writes nothing (but siamrung_frame_field, which copies,
+ * siamrung_index_enter, which writes into its table, and siamrung_manners, which writes its list). A call reads its own run and no more of the line
+ * (but siamrung_manners, which reads the whole line). So a program that goes from run to run by siamrung_after does work in proportion to the line.
  *
  * Altitudes. Sensors send the altitude of DABS and ATCRBS in one of two forms. The words do not tell which: the program must know it, and passes it
  * as the argument form to every call that reads a line or writes a report. 0 (SIAMRUNG_FORM_SIGN_MAGNITUDE) is a sign and eleven bits. Any other
@@ -30,14 +31,17 @@
  *
  * The index. The program keeps a table of entries and lends it to each call: see "calls of the index" below.
  *
+ * Manners. A report that breaks a rule between its fields is accepted all the same; one call lists such reports: see "the call of manners" below.
+ *
  * Versions. The numbers below keep their meaning: none is ever used for something else. siamrung_version grows with each change of the calls, and of
  * what they accept. Version 3 added the calls of frames. Version 4 accepts an ELM_DOWNLINK with LENGTH 0, alone and relayed, which was refused (28,
  * and 30 in writing). Version 5 added the calls of the index. Version 6 added the argument form behind place, in the calls from siamrung_kind to
  * siamrung_seconds, in siamrung_write, siamrung_write_refusal and siamrung_index_enter; with 0 they do what they did before. A program that has such
- * a call does not compile with this header until it passes a form. A program that was compiled with the header of another version must be compiled
- * again before it is linked with this library: its calls would pass no form, and altitudes would be wrong. siamrung_version tells it: compare its
- * answer with the version that the program was written for. A call that accepts more than before keeps its name. If the meaning of a call changes in
- * any other way under the same arguments, it gets a new name, so that an old program does not link with it.
+ * a call does not compile with this header until it passes a form. A program that was compiled with the header of a version before 6 must be
+ * compiled again before it is linked with this library: its calls would pass no form, and altitudes would be wrong. siamrung_version tells it:
+ * compare its answer with the version that the program was written for. Version 7 added siamrung_manners. A call that accepts more than before keeps
+ * its name. If the meaning of a call changes in any other way under the same arguments, it gets a new name, so that an old program does not link
+ * with it.
  */
 #ifndef SIAMRUNG_H
 #define SIAMRUNG_H
@@ -275,6 +279,27 @@ extern "C" {
 /* entering: the report's number is not 0 and not in the table, and the table has no unused entry */
 #define SIAMRUNG_INDEX_REFUSAL_TABLE_FULL 51
 
+/* ---- manners: the rules between fields whose breaches siamrung_manners lists, by the bits and sections of document 004. No run breaks two */
+
+/* an ATCRBS report with substitution (ATCRBS_CD, ATCRBS_MTD, ATCRBS_RDAS) has bit 5, MODE3A, set (4.2.7) */
+#define SIAMRUNG_BREACH_SUBSTITUTION_MODE3A 1
+/* a DABS report, with substitution or without, is relayed (bit 47, RELAY, is one), and bit 6 is zero (4.1.4): it has CARRIED, or MODE_C is 0 */
+#define SIAMRUNG_BREACH_RELAY_WITHOUT_MODE_C 2
+/* an ATCRBS report without substitution has bit 6 one and bits 79-90 all zeros (4.2.2): ALTITUDE is 0. An aircraft at sea level may look so */
+#define SIAMRUNG_BREACH_MODE_C_ALL_ZEROS 3
+/* a Map has a STOP below its START (bits 40-50 and 14-24 of Table 4-2). If they are equal, it is no breach */
+#define SIAMRUNG_BREACH_MAP_STOP_BELOW_START 4
+
+/* ---- manners: what was done, as siamrung_manners_done takes it out of an answer; else it is one of the refusals 2, 14, 52 */
+
+/* every breach of the line is in the list */
+#define SIAMRUNG_MANNERS_LISTED 128
+/* the refusal 52: the list has too few bytes for all breaches. Nothing is written */
+#define SIAMRUNG_MANNERS_REFUSAL_LIST_TOO_SMALL 52
+
+/* no line has more breaches */
+#define SIAMRUNG_MANNERS_MOST 6553
+
 /*
  * ---- items of link data fields, for siamrung_field_has, siamrung_field_item and siamrung_field_write. Each has the bits that the document
  * gives it.
@@ -351,7 +376,7 @@ extern "C" {
 
 /* ---- calls that read a line */
 
-/* Answers the version of these calls: 6. It grows with each change of the calls, and of what they accept. */
+/* Answers the version of these calls: 7. It grows with each change of the calls, and of what they accept. */
 uint32_t siamrung_version(void);
 
 /* Answers what stands at the place: a kind of report, SIAMRUNG_KIND_REFUSED or SIAMRUNG_KIND_END. */
@@ -600,6 +625,56 @@ uint32_t siamrung_index_enter(siamrung_entry *table, size_t entries, const uint8
  * siamrung_index_entry takes out which entry it is; else MISSING. Number 0 and numbers above 65,535 are in no entry.
  */
 uint32_t siamrung_index_find(const siamrung_entry *table, size_t entries, uint32_t number);
+
+/*
+ * ---- the call of manners: where a sensor breaks rules between fields
+ *
+ * Document 004 has rules between fields, and reports are accepted either way. The SIAMRUNG_BREACH_ numbers name four of them. A breach is a run that is
+ * accepted and breaks one of them. A refused run has no breach, and no run has two. The line is not changed, and other calls answer about it as before.
+ *
+ * A list is a slice of bytes, four bytes a breach: two for the place of the run's first word, two for the rule's number, both high byte first.
+ * siamrung_breach_place and siamrung_breach_rule take them out. The breaches stand in the order of their places.
+ *
+ * An answer has two parts: what was done, and how many breaches the line has. siamrung_manners_done and siamrung_manners_breaches take them out. Do not
+ * compare an answer itself with a refusal: take it apart first.
+ */
+
+/* Takes out of an answer what was done: SIAMRUNG_MANNERS_LISTED, or the refusal 2, 14 or 52. */
+static inline uint32_t siamrung_manners_done(uint32_t answer)
+{
+    return answer % 256;
+}
+
+/* Takes out of an answer how many breaches the line has: so many are in the list after LISTED, and would have to be in it after 52. After 2 and 14 it
+ * is 0, and the line was not looked at. */
+static inline size_t siamrung_manners_breaches(uint32_t answer)
+{
+    return answer / 256;
+}
+
+/* Take out of a list the place of breach k, and the number of its rule. k is counted from 0, and below the number of breaches in the list. */
+static inline size_t siamrung_breach_place(const uint8_t *list, size_t k)
+{
+    return (size_t)list[4 * k] * 256 + list[4 * k + 1];
+}
+
+static inline uint32_t siamrung_breach_rule(const uint8_t *list, size_t k)
+{
+    return (uint32_t)list[4 * k + 2] * 256 + list[4 * k + 3];
+}
+
+/*
+ * Lists the breaches of the whole line, from the start of the list on. siamrung_manners_done takes out of the answer the first of 2, 14, 52 whose
+ * condition holds, else LISTED. 52 means that the list has fewer than four bytes for each breach of the line. After a refusal every byte of the list is
+ * as it was; after LISTED every byte behind the last breach is. A list of 4 * SIAMRUNG_MANNERS_MOST bytes is large enough for every line. A shorter one
+ * may be: if it is not, the answer says how many breaches the line has, and the program can lend more. If the line has no breach, an empty list is
+ * large enough; it may be NULL with the length 0.
+ *
+ * Pass the form of the altitude as to the other calls. But the answer and the list are the same in both forms: a run that only one of them accepts,
+ * with the bits 100000000000 for the altitude, has no breach. The list must not overlap the line. The work is in proportion to the line: it is read
+ * once to count the breaches, and, if there are any, once more to list them, up to the last one.
+ */
+uint32_t siamrung_manners(const uint8_t *bytes, size_t length, uint32_t form, uint8_t *list, size_t list_length);
 
 #ifdef __cplusplus
 }

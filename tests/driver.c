@@ -1,6 +1,6 @@
 /*
  * driver.c: answers cases with the Siamrung library, so that a program in another language can compare every answer with its own
- * (tests/independent). It relies on siamrung.h alone and knows nothing of reports, fields, frames or indexes: it asks and passes on.
+ * (tests/independent). It relies on siamrung.h alone and knows nothing of reports, fields, frames, indexes or rules: it asks and passes on.
  *
  * Input: cases, one behind the other, until the end. Every number has its high byte first. "bytes" is a length of four bytes and as many
  * bytes; "numbers" is a count of four bytes and as many numbers of eight.
@@ -15,6 +15,8 @@
  *       'e' line (4), place (8), form (4), scan (4): to enter what stands there, the line by its number among the lines
  *       'w' line (4), place (8), form (4), scan (4): to enter every outcome of the line from the place on
  *       'f' number (4): to look for a number
+ *   'M' bytes, length (8), form (4), count (4), count times: form (4), front (4), length (8), behind (4): a line, the length to pass with it,
+ *       the form to walk it in, before the calls and after them; the calls of siamrung_manners in turn, each with its form and its list
  * "form" is the argument form of siamrung.h, any number of 32 bits: it is passed on as it came.
  * "table" is front (4), entries (8), count (4), count times: number (2), kind (2), scan (4), place (8): the entries that are there. The
  * table begins behind as many of them as front says, and is passed with that number of entries; the others stand around it. A number of
@@ -23,11 +25,16 @@
  * from which to walk it, and the sizes of the buffers that each field is asked with. A length is that of the bytes, or is only said to be
  * greater; no bit is counted that is not there, and other bytes stand behind. A size above 256 is only said too: 256 bytes are there, and no
  * field needs more. A buffer holds 165, 172, 179 .. (modulo 256) before the call.
+ * A list for siamrung_manners has that many bytes in front of it and behind it. All of them and the list hold the same pattern before the
+ * call. A length of a list above 26,220 is only said: 26,220 bytes are there, and no line needs more than 26,212. Where no byte is there, NULL
+ * is passed. A length of a line that is not that of the bytes is only said: it is greater, and more than 65,536 bytes are there then.
  * Output: answers, each with its length (4) before it. The first is a head: the version (4) and the size of a size_t (4). Then follows one
  * for each case: the numbers that the calls gave, four bytes for a uint32_t, eight for the others, one for siamrung_has and
  * siamrung_field_has (255 for any number but 0 and 1), and the bytes after each writing, a field buffer's too. Behind each call of the
  * index stand the entries that it changed: how many (4), and each with its number among all that are there (4); in a walk also
- * siamrung_after. At the end of the case stand all entries. An answer ends with one byte: 1 if nothing that is only read was changed.
+ * siamrung_after. At the end of the case stand all entries. Behind each call of siamrung_manners stand its parts, the place and the rule of
+ * each breach in the list, and the list with the bytes around it; a walk has siamrung_kind, siamrung_first and siamrung_after of each
+ * outcome. An answer ends with one byte: 1 if nothing that is only read was changed.
  *
  * Every slice is malloc'ed to its exact length, so that valgrind sees an access outside; an empty slice is passed as NULL.
  */
@@ -48,6 +55,8 @@ static const uint32_t no_items[NO_ITEMS] = {68, 265, 457, 0x80000004};
 #define SELDOM 8
 /* no field of a frame needs more bytes */
 #define MOST_ROOM 256
+/* no list of breaches needs more bytes: 26,220 */
+#define MOST_LIST (4 * SIAMRUNG_MANNERS_MOST + 8)
 
 /* ---- the slices of a case, each with a copy */
 
@@ -70,6 +79,17 @@ static void *take(size_t length)
         fail("no memory");
     }
     return space;
+}
+
+/* A buffer that holds a pattern; NULL where it has no byte. */
+static uint8_t *take_pattern(size_t length)
+{
+    uint8_t *bytes = length > 0 ? take(length) : NULL;
+    size_t i;
+    for (i = 0; i < length; i++) {
+        bytes[i] = (uint8_t)(165 + 7 * i);
+    }
+    return bytes;
 }
 
 static void get(uint8_t *bytes, size_t length)
@@ -368,11 +388,7 @@ static void drop_stream(struct stream *stream)
 static void put_frame_field(const struct stream *stream, size_t count, size_t place, size_t room)
 {
     size_t there = room < MOST_ROOM ? room : MOST_ROOM;
-    uint8_t *field = there > 0 ? take(there) : NULL;
-    size_t i;
-    for (i = 0; i < there; i++) {
-        field[i] = (uint8_t)(165 + 7 * i);
-    }
+    uint8_t *field = take_pattern(there);
     put_number(siamrung_frame_field(stream->slice.bytes, stream->length, count, place, field, room), 8);
     put(field, there);
     free(field);
@@ -616,6 +632,70 @@ static void answer_index(void)
     free(table.copy);
 }
 
+/* ---- manners */
+
+static void walk_line(const struct slice *line, size_t length, uint32_t form)
+{
+    size_t place = 0;
+    size_t turn = 0;
+    int end = 0;
+    /* a library that never ends is stopped here: no line has more places to look at */
+    while (!end && turn <= line->length / 2 + 1) {
+        uint32_t kind = siamrung_kind(line->bytes, length, place, form);
+        size_t after = siamrung_after(line->bytes, length, place, form);
+        put_number(kind, 4);
+        put_number(siamrung_first(line->bytes, length, place, form), 8);
+        put_number(after, 8);
+        end = kind == SIAMRUNG_KIND_END || after == place;
+        place = after;
+        turn++;
+    }
+}
+
+/* The breaches as the header's functions take them out of the list. A library that counts too many is stopped where the list ends. */
+static void put_breaches(const uint8_t *list, size_t there, uint32_t number)
+{
+    size_t breaches = siamrung_manners_done(number) == SIAMRUNG_MANNERS_LISTED ? siamrung_manners_breaches(number) : 0;
+    size_t k;
+    for (k = 0; k < breaches && k < there / 4; k++) {
+        put_number(siamrung_breach_place(list, k), 8);
+        put_number(siamrung_breach_rule(list, k), 4);
+    }
+}
+
+static void put_manners(const struct slice *line, size_t length)
+{
+    uint32_t form = (uint32_t)get_number(4);
+    size_t front = (size_t)get_number(4);
+    size_t list_length = (size_t)get_number(8);
+    size_t behind = (size_t)get_number(4);
+    size_t there = list_length < MOST_LIST ? list_length : MOST_LIST;
+    uint8_t *whole = take_pattern(front + there + behind);
+    uint8_t *list = whole == NULL ? NULL : whole + front;
+    uint32_t number = siamrung_manners(line->bytes, length, form, list, list_length);
+    put_number(number, 4);
+    put_number(siamrung_manners_done(number), 4);
+    put_number(siamrung_manners_breaches(number), 8);
+    put_breaches(list, there, number);
+    put(whole, front + there + behind);
+    free(whole);
+}
+
+static void answer_manners(void)
+{
+    struct slice line = get_slice();
+    size_t length = (size_t)get_number(8);
+    uint32_t form = (uint32_t)get_number(4);
+    uint64_t calls = get_number(4);
+    walk_line(&line, length, form);
+    for (; calls > 0; calls--) {
+        put_manners(&line, length);
+    }
+    walk_line(&line, length, form);
+    put_number(same(&line) ? 1 : 0, 1);
+    drop(&line);
+}
+
 /* ---- the whole */
 
 static void answer_case(int tag)
@@ -641,6 +721,9 @@ static void answer_case(int tag)
         break;
     case 'I':
         answer_index();
+        break;
+    case 'M':
+        answer_manners();
         break;
     default:
         fail("no such case");

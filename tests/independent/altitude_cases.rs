@@ -26,7 +26,7 @@ const TABLE_OF_ALTITUDES: u64 = 15;
 /// Numbers that a form may be from C. The first is document 01's form; all others are two's complement, whichever of their bits are zero.
 pub const FORMS: [u32; 8] = [0, 1, 2, 255, 256, 65_536, 0x8000_0000, 0xFFFF_FFFF];
 
-fn complement(rng: &mut Rng) -> u32 {
+pub fn complement(rng: &mut Rng) -> u32 {
     match rng.below(8) {
         0 => 1 << rng.below(32),
         1 => (rng.next() as u32).max(1),
@@ -34,7 +34,7 @@ fn complement(rng: &mut Rng) -> u32 {
     }
 }
 
-fn either(rng: &mut Rng) -> u32 {
+pub fn either(rng: &mut Rng) -> u32 {
     if rng.once_in(2) {
         0
     } else {

@@ -8,6 +8,7 @@ use crate::frame_case::{Reading, Writing};
 use crate::index_case::Indexing;
 use crate::layout::Layout;
 use crate::line::{self, Look};
+use crate::manners_case::Checking;
 use crate::report;
 use crate::totals::Totals;
 
@@ -57,6 +58,8 @@ pub enum Case {
     FrameWrites(Writing),
     /// A table is lent to the calls of the index.
     Index(Indexing),
+    /// The breaches of a line are listed.
+    Manners(Checking),
 }
 
 const ITEMS: std::ops::RangeInclusive<u32> = 0..=40;
@@ -117,6 +120,7 @@ impl Case {
             Case::Frames(reading) => reading.put(&mut message),
             Case::FrameWrites(writing) => writing.put(&mut message),
             Case::Index(indexing) => indexing.put(&mut message),
+            Case::Manners(checking) => checking.put(&mut message),
         }
         message
     }
@@ -130,6 +134,7 @@ impl Case {
             Case::Frames(_) => b'S',
             Case::FrameWrites(_) => b'T',
             Case::Index(_) => b'I',
+            Case::Manners(_) => b'M',
         }
     }
 
@@ -152,6 +157,7 @@ impl Case {
             Case::Frames(reading) => reading.expect(&mut answer, &mut totals.frames),
             Case::FrameWrites(writing) => writing.expect(&mut answer, &mut totals.frames),
             Case::Index(indexing) => indexing.expect(tables, &mut answer, totals),
+            Case::Manners(checking) => checking.expect(tables, &mut answer, totals),
         }
         answer.u8("bytes that are only read stay (1)", 0, 0, 1);
         answer
@@ -167,6 +173,7 @@ impl Case {
                 format!("\nwords from place {}: {:?}", from, &words[from..to])
             }
             Case::Frames(reading) => reading.near(place),
+            Case::Manners(checking) => checking.near(place),
             _ => String::new(),
         }
     }
@@ -195,6 +202,7 @@ impl Case {
             Case::Frames(reading) => reading.shown(),
             Case::FrameWrites(writing) => writing.shown(),
             Case::Index(indexing) => indexing.shown(),
+            Case::Manners(checking) => checking.shown(),
         }
     }
 }

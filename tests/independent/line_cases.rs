@@ -60,7 +60,7 @@ pub fn valid_text(rng: &mut Rng, layout: &Layout) -> String {
     report::with_parity(&text)
 }
 
-fn valid(rng: &mut Rng, tables: &Tables) -> Vec<u16> {
+pub fn valid(rng: &mut Rng, tables: &Tables) -> Vec<u16> {
     let layout = rng.pick(&tables.reports);
     report::to_words(&valid_text(rng, layout))
 }

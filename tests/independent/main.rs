@@ -7,15 +7,17 @@
 //!                                                           many writings of each; then half as many ELMs of one segment as fields, read
 //!                                                           and written; then the calls of the index on TABLES tables; all these in
 //!                                                           document 01's form of the altitude; then as many lines, writings of reports
-//!                                                           and tables in both forms, and more whose altitudes stand at the limits; from
-//!                                                           20,000 lines and 50,000 fields on (ELMs: 50,000 fields; both forms: 20,000
-//!                                                           lines), from 20,000 streams on, and from 20,000 tables on, the quotas have
-//!                                                           to be met; 0 leaves a part out
+//!                                                           and tables in both forms, and more whose altitudes stand at the limits; then
+//!                                                           the breaches of LINES lines made for them, and of a quarter as many others;
+//!                                                           from 20,000 lines and 50,000 fields on (ELMs: 50,000 fields; both forms and
+//!                                                           breaches: 20,000 lines), from 20,000 streams on, and from 20,000 tables on,
+//!                                                           the quotas have to be met; 0 leaves a part out
 //!   independent chosen COMMAND..                            compares nmi, degrees and seconds for every count of every field, and the
-//!                                                           cases of chosen.rs, segment_chosen.rs, altitude_chosen.rs, frame_chosen.rs
-//!                                                           and index_chosen.rs
+//!                                                           cases of chosen.rs, segment_chosen.rs, altitude_chosen.rs, frame_chosen.rs,
+//!                                                           index_chosen.rs and manners_chosen.rs
 //!   independent chosen-frames COMMAND..                     compares the cases of frame_chosen.rs alone
 //!   independent chosen-index COMMAND..                      compares the cases of index_chosen.rs alone, those that take long left out
+//!   independent chosen-manners COMMAND..                    compares the cases of manners_chosen.rs alone, those that take long left out
 //!
 //! A difference is printed with its case, and the program then ends with 1.
 
@@ -44,6 +46,12 @@ mod index_totals;
 mod layout;
 mod line;
 mod line_cases;
+mod manners;
+mod manners_case;
+mod manners_cases;
+mod manners_chosen;
+mod manners_runs;
+mod manners_totals;
 mod report;
 mod rng;
 mod run;
@@ -126,6 +134,15 @@ fn cases_of_forms(seed: u64, lines: u64, count: u64) -> impl Iterator<Item = Nam
     })
 }
 
+/// The cases of breaches, in order.
+fn cases_of_manners(seed: u64, lines: u64) -> impl Iterator<Item = Named> {
+    let tables = Rc::new(Tables::new());
+    let others = Rc::clone(&tables);
+    let line = move |number| (format!("seed {}, line of breaches {}", seed, number), manners_cases::line(&tables, seed, number));
+    let other = move |number| (format!("seed {}, any line of breaches {}", seed, number), manners_cases::any_line(&others, seed, number));
+    (0..lines).map(line).chain((0..lines / 4).map(other))
+}
+
 fn compare(seed: u64, [lines, fields, frames, tables]: [u64; 4], command: &[String]) -> Result<(), String> {
     println!("seed {}", seed);
     let all = move || cases(seed, lines, fields).chain(cases_of_frames(seed, frames)).chain(cases_of_index(seed, tables));
@@ -156,11 +173,20 @@ fn compare(seed: u64, [lines, fields, frames, tables]: [u64; 4], command: &[Stri
         short.extend(of_lines.into_iter().filter(|_| lines >= 20_000));
         short.extend(of_index.into_iter().filter(|_| tables >= 20_000));
     }
+    if lines > 0 {
+        short.extend(compare_manners(seed, lines, command)?);
+    }
     if !short.is_empty() {
         return Err(format!("below the quota: {}", short.join("; ")));
     }
     println!("no difference");
     Ok(())
+}
+
+/// The breaches, in a run of their own: no other quota needs these lines. Answers what is below its quota.
+fn compare_manners(seed: u64, lines: u64, command: &[String]) -> Result<Vec<String>, String> {
+    let below = run::run(command, move || cases_of_manners(seed, lines))?.manners.report();
+    Ok(below.into_iter().filter(|_| lines >= 20_000).collect())
 }
 
 fn chosen(command: &[String]) -> Result<(), String> {
@@ -172,7 +198,8 @@ fn chosen(command: &[String]) -> Result<(), String> {
     println!("chosen cases: {} runs and fields read, {} written, no difference", reads, writes);
     chosen_altitudes(command)?;
     chosen_frames(command)?;
-    chosen_index(command, true)
+    chosen_index(command, true)?;
+    chosen_manners(command, true)
 }
 
 fn chosen_altitudes(command: &[String]) -> Result<(), String> {
@@ -195,13 +222,20 @@ fn chosen_index(command: &[String], long: bool) -> Result<(), String> {
     Ok(())
 }
 
+fn chosen_manners(command: &[String], long: bool) -> Result<(), String> {
+    let (lines, calls) = run::run(command, move || manners_chosen::cases(long))?.manners.both();
+    println!("chosen cases of manners: {} lines, {} calls, no difference", lines, calls);
+    Ok(())
+}
+
 fn start(arguments: &[String]) -> Result<(), String> {
     worked::check(&Tables::new());
-    let usage = "usage: independent SEED LINES FIELDS FRAMES TABLES COMMAND.. | (chosen | chosen-frames | chosen-index) COMMAND..";
+    let usage = "usage: independent SEED LINES FIELDS FRAMES TABLES COMMAND.. | (chosen | chosen-frames | chosen-index | chosen-manners) COMMAND..";
     match arguments.first().map(|first| first.as_str()) {
         Some("chosen") if arguments.len() >= 2 => return chosen(&arguments[1..]),
         Some("chosen-frames") if arguments.len() >= 2 => return chosen_frames(&arguments[1..]),
         Some("chosen-index") if arguments.len() >= 2 => return chosen_index(&arguments[1..], false),
+        Some("chosen-manners") if arguments.len() >= 2 => return chosen_manners(&arguments[1..], false),
         _ if arguments.len() < 6 => return Err(usage.to_string()),
         _ => (),
     }

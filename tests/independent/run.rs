@@ -30,8 +30,8 @@ impl Driver {
         let output = child.stdout.take().ok_or("no output of the driver")?;
         let mut driver = Driver { child, output: BufReader::with_capacity(1 << 16, output) };
         let head = driver.answer()?;
-        if head != [0, 0, 0, 6, 0, 0, 0, 8] {
-            return Err(format!("version 6 and a size_t of 8 bytes are needed, came {:?}", head));
+        if head != [0, 0, 0, 7, 0, 0, 0, 8] {
+            return Err(format!("version 7 and a size_t of 8 bytes are needed, came {:?}", head));
         }
         Ok((driver, input))
     }

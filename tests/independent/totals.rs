@@ -5,6 +5,7 @@ use crate::field::{Record, RELAY};
 use crate::frame_totals::FrameTotals;
 use crate::index_totals::IndexTotals;
 use crate::line::{self, Look, MOST_BYTES};
+use crate::manners_totals::MannersTotals;
 use crate::segment_totals::SegmentTotals;
 use std::collections::BTreeMap;
 
@@ -30,6 +31,7 @@ pub struct Totals {
     pub index: IndexTotals,
     pub segments: SegmentTotals,
     pub altitudes: AltitudeTotals,
+    pub manners: MannersTotals,
     /// reports by place in the list of layouts
     layouts: Tally,
     types: Tally,

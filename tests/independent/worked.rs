@@ -1,5 +1,6 @@
 //! The worked cases of document 01 (C1 to C12, the lister's example, the flipped bit of "Three easy errors"), an ELM of one segment, both forms
-//! of every altitude, known frames and a small index, run on this program itself: before it judges the library it has to agree with the paper.
+//! of every altitude, known frames, a small index and a line with breaches, run on this program itself: before it judges the library it has to
+//! agree with the paper.
 
 use crate::altitude_cases::FORMS;
 use crate::bits;
@@ -12,6 +13,7 @@ use crate::index_plain;
 use crate::layout::{decode, encode, Rule};
 use crate::line;
 use crate::line_cases::{item_bytes, valid_items};
+use crate::manners::{self, Breach};
 use crate::report;
 use crate::rng::Rng;
 
@@ -183,6 +185,28 @@ fn index(tables: &Tables) {
     assert_eq!([(123, 511), (50, 0)].map(index::answer), [123 + 256 * 511, 50]);
 }
 
+/// A line of all four breaches, and lists for it (Ticket 6 of document 02). In both forms, the bits and the items of a report break the same rule.
+fn manners(tables: &Tables) {
+    let runs: [&[u16]; 4] = [&[3331, 1, 1, 1, 1, 1, 8], &[3584, 1, 1, 32, 1, 1, 1], &[3200, 1, 1, 1, 1, 1, 1], &[1, 21, 1, 16]];
+    let words = runs.join(&line::IDLE);
+    let breaches = [(0, 1), (8, 2), (16, 3), (24, 4)].map(|(place, rule)| Breach { place, rule });
+    let lists = [56, 57, 65_537, 65_538].map(|length| manners::of_line(&tables.reports, length, &words));
+    assert_eq!(lists, [Ok(breaches.to_vec()), Err(14), Err(2), Err(2)]);
+    assert_eq!(manners::to_bytes(&breaches), [0, 0, 0, 1, 0, 8, 0, 2, 0, 16, 0, 3, 0, 24, 0, 4]);
+    let answers = [(0, 15), (0, 16), (1, 16), (2, 16)].map(|(list, length)| manners::answer(manners::done(&lists[list], length)));
+    assert_eq!(answers, [4 * 256 + 52, 4 * 256 + 128, 14, 2]);
+    let rng = &mut Rng::new(0, 0, 2);
+    for layouts in [0, 1].map(|form| tables.of(form)) {
+        for layout in layouts {
+            for _ in 0..100 {
+                let words = report::write(layouts, layout.number, &valid_items(rng, layout)).expect("valid values are written");
+                let read = report::read(layouts, &words).unwrap_or_else(|refusal| panic!("{:?} got {:?}", words, refusal));
+                assert_eq!(manners::broken(&manners::text_of(&words)), manners::broken_by(&read), "{:?}", words);
+            }
+        }
+    }
+}
+
 /// Stops the program where it disagrees with document 01.
 pub fn check(tables: &Tables) {
     assert_eq!((tables.reports.len(), tables.fields.len()), (17, 21));
@@ -192,6 +216,7 @@ pub fn check(tables: &Tables) {
     segments(tables);
     frames();
     index(tables);
+    manners(tables);
     patterns();
     altitudes();
     forms(tables);

@@ -4,7 +4,7 @@ use native.Mathlib.Nat.{add-zero}
 use mathlib.Core.Path.{_≡_, refl, ap, sym, _∙_, subst}
 use mathlib.Core.Bool.{false}
 use mathlib.Core.Logic.{_⊎_, inl, inr, ⊎-elim}
-use mathlib.Core.List.{List, [], _∷_, _++_}
+use mathlib.Core.List.{List, [], _∷_, _++_, append-assoc}
 use native.Mathlib.Omega.{arith}
 use lib.Dec.{eqb}
 use lib.ListN.{length, drop, length-drop}
@@ -19,6 +19,14 @@ use Rattle.lines.specs.Stretches.{Run, closed, runsFrom, runsAt, gathere
 use Rattle.lines.specs.Claims.{Answer, Solid, Meets, AlongTheWalk, StepByStep, Onward}
 use Rattle.words.proofs.Tests.{picked, passed, by-test}
 use Rattle.lines.proofs.Runs.{runs-next, gap-all}
+
+-- ---- what runs bring
+
+pub gathered-append : {X : Type 0} (brings : Run → List X) (rs ts : List Run) → gathered brings (rs ++ ts) ≡ gathered brings rs ++ gathered brings ts
+unfolding gathered
+gathered-append brings [] ts = refl
+gathered-append brings (r ∷ rs) ts =
+    ap (λ (l : List _). brings r ++ l) (gathered-append brings rs ts) ∙ sym (append-assoc (brings r) (gathered brings rs) (gathered brings ts))
 
 -- ---- what is read at a place
 

@@ -288,7 +288,7 @@ module _ (form : AltitudeForm) (sound : Sound form) (zero : form .bitsOf (pos 0)
 -- ---- no two
 
 -- the rule that words could break, by their form
-abbrev could : List ℕ → Rule
+abbrev pub could : List ℕ → Rule
 could ws = cond (isSeven ws) (cond (bit ws 4) R.RelayWithoutModeC (cond (bit ws 12) R.SubstitutionMode3a R.ModeCAllZeros)) R.MapStopBelowStart
 
 -- substitution is of seven words with bit 12 one

@@ -2,3 +2,4 @@ pub mod Stored
 pub mod Broken
 pub mod Gathered
 pub mod Answered
+pub mod Exactly
