@@ -10,16 +10,11 @@
 #include "siamrung.h"
 
 #include "altitude_form.h"
+#include "kind_names.h"
 #include "line_reason.h"
 
 /* One byte more than a line may have, so that the library sees when a recording is too long. */
 #define MOST 65537
-
-static const char *const kind_names[] = {
-    "SEARCH", "STROBE", "MAP", "STATUS", "RTQC", "DABS", "DABS-CD", "DABS-MTD", "DABS-RDAS",
-    "ATCRBS", "ATCRBS-CD", "ATCRBS-MTD", "ATCRBS-RDAS", "MTD", "RDAS",
-};
-#define KINDS (sizeof kind_names / sizeof kind_names[0])
 
 /* Items that are printed with their names, if the report has them. The printed value is the count times the scale. */
 static const struct {

@@ -1,0 +1,109 @@
+/*
+ * A technician's look at a sensor: manners [--twos-complement]. It reads a recording from standard input. For each report that breaks a rule
+ * between its fields it prints a line: the place, the kind, and what is wrong, with the section of FAA-RD-80-14. At the end it prints how often
+ * each rule was broken, and how many reports there were. A run that is refused is not judged: standard error names it, with its reason. With
+ * --twos-complement altitudes are read in that form.
+ */
+#include <inttypes.h>
+#include <stdio.h>
+
+#include "siamrung.h"
+
+#include "altitude_form.h"
+#include "kind_names.h"
+#include "line_reason.h"
+
+/* One byte more than a line may have, so that the library sees when a recording is too long. */
+#define MOST 65537
+
+struct line {
+    uint8_t bytes[MOST];
+    size_t length;
+    /* how its sensor sends altitudes */
+    uint32_t form;
+};
+
+/* What is wrong, by the number of the rule; none has number 0. */
+static const char *const wrong[] = {
+    "",
+    "bit 5, Mode 3/A, is set though a radar stands in for the height (4.2.7)",
+    "it is relayed, and bit 6, Mode C, is zero (4.1.4)",
+    "bit 6, Mode C, is one, and bits 79-90 are all zeros; at sea level it may be right (4.2.2)",
+    "the range stop is below the range start (Table 4-2)",
+};
+#define RULES (sizeof wrong / sizeof wrong[0])
+
+static const char *reason(uint32_t refusal)
+{
+    return refusal == SIAMRUNG_MANNERS_REFUSAL_LIST_TOO_SMALL ? "the list is too small for the breaches" : line_reason(refusal);
+}
+
+/* How many reports and how many refused runs there are. Each refused run is named on standard error. */
+static void count_runs(const struct line *l, size_t *reports, size_t *refused)
+{
+    size_t place = 0;
+    uint32_t kind;
+    while ((kind = siamrung_kind(l->bytes, l->length, place, l->form)) != SIAMRUNG_KIND_END) {
+        if (kind == SIAMRUNG_KIND_REFUSED) {
+            uint32_t why = siamrung_refusal(l->bytes, l->length, place, l->form);
+            fprintf(stderr, "manners: place %zu REFUSED %" PRIu32 " at %zu: %s\n", siamrung_first(l->bytes, l->length, place, l->form), why,
+                    siamrung_named(l->bytes, l->length, place, l->form), reason(why));
+            ++*refused;
+        } else {
+            ++*reports;
+        }
+        place = siamrung_after(l->bytes, l->length, place, l->form);
+    }
+}
+
+static void print_breaches(const struct line *l, const uint8_t *list, size_t breaches, size_t *counts)
+{
+    size_t k;
+    for (k = 0; k < breaches; k++) {
+        size_t place = siamrung_breach_place(list, k);
+        uint32_t rule = siamrung_breach_rule(list, k), kind = siamrung_kind(l->bytes, l->length, place, l->form);
+        printf("%zu %s: %s\n", place, kind_names[kind - SIAMRUNG_KIND_SEARCH], wrong[rule]);
+        counts[rule]++;
+    }
+}
+
+/* Answers 0 if the breaches of the line cannot be listed; standard error says why. */
+static int judge(const struct line *l)
+{
+    /* enough for every line */
+    static uint8_t list[4 * SIAMRUNG_MANNERS_MOST];
+    size_t counts[RULES] = {0}, reports = 0, refused = 0, rule;
+    uint32_t answer = siamrung_manners(l->bytes, l->length, l->form, list, sizeof list), done = siamrung_manners_done(answer);
+    if (done != SIAMRUNG_MANNERS_LISTED) {
+        fprintf(stderr, "manners: NOT JUDGED %" PRIu32 ": %s\n", done, reason(done));
+        return 0;
+    }
+    count_runs(l, &reports, &refused);
+    print_breaches(l, list, siamrung_manners_breaches(answer), counts);
+    for (rule = 1; rule < RULES; rule++)
+        printf("%zu of rule %zu: %s\n", counts[rule], rule, wrong[rule]);
+    printf("%zu reports, %zu breaches; %zu refused\n", reports, siamrung_manners_breaches(answer), refused);
+    return 1;
+}
+
+int main(int argc, char **argv)
+{
+    static struct line l;
+    int good;
+    l.form = SIAMRUNG_FORM_SIGN_MAGNITUDE;
+    if (take_form(argc, argv, &l.form) != argc) {
+        fprintf(stderr, "usage: manners [--twos-complement] < RECORDING\n");
+        return 2;
+    }
+    l.length = fread(l.bytes, 1, MOST, stdin);
+    if (ferror(stdin)) {
+        perror("manners: standard input");
+        return 1;
+    }
+    good = judge(&l);
+    if (fflush(stdout) != 0 || ferror(stdout)) {
+        perror("manners: standard output");
+        return 1;
+    }
+    return good ? 0 : 1;
+}
