@@ -1,7 +1,7 @@
 -- A line in parts that meet at idle words, and words that are replaced between two idle words: the claims Splits and Replaced, for any
 -- answer to a run. Assumes nothing.
 use Prim.Native.Nat.{ℕ, _+_, _≤_, _<_}
-use native.Mathlib.Nat.{add-zero, zero-add, add-assoc}
+use native.Mathlib.Nat.{add-zero, add-assoc}
 use mathlib.Core.Path.{_≡_, refl, ap, sym, _∙_}
 use mathlib.Core.Bool.{Bool, true, false, cond}
 use mathlib.Core.Logic.{inr}
@@ -16,7 +16,7 @@ use Rattle.lines.specs.Line.{most, outcomeOf, endOf, isEnd, readBy, outc
 use Rattle.lines.specs.Stretches.{Run, runsFrom, runs}
 use Rattle.lines.specs.Claims.{Answer, moved, alone, beforeEnd, Splits, outside, Replaced}
 use Rattle.words.proofs.Tests.{picked, passed}
-use Rattle.lines.proofs.Runs.{All, all-runs, along, runs-along, runs-ends, runs-begins}
+use Rattle.lines.proofs.Runs.{All, all-runs, along, runs-along, runs-three}
 use Rattle.lines.proofs.Walked.{goes-on}
 use Rattle.lines.proofs.Outcomes.{alone-free, one-each}
 
@@ -78,10 +78,7 @@ splits answer pre mid post a b m =
     let q = p + length mid in
     let one = alone answer in
     let size : length line ≡ q + length post = length-append pre (mid ++ post) ∙ (let z = length-append mid post in omega arith) in
-    let rs : runs line ≡ runs pre ++ (runsFrom p [] mid ++ runsFrom q [] post) =
-    runs-ends 0 pre (mid ++ post) a
-    ∙ ap (λ (k : ℕ). runs pre ++ runsFrom k [] (mid ++ post)) (zero-add p)
-    ∙ ap (λ (ts : List Run). runs pre ++ ts) (runs-begins p mid post b) in
+    let rs = runs-three pre mid post a b in
     let end = endOf (length line) ∷ [] in
     let M = map (moved p) (map one (runs mid)) in
     let P = map (moved q) (map one (runs post)) in

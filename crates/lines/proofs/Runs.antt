@@ -1,7 +1,7 @@
 -- The runs of a line: the first is what stands behind the idle words in front; what every run has; the runs of a line in parts.
 -- Assumes nothing.
 use Prim.Native.Nat.{ℕ, zero, suc, _+_, _≤_}
-use native.Mathlib.Nat.{add-zero}
+use native.Mathlib.Nat.{add-zero, zero-add}
 use mathlib.Core.Path.{_≡_, refl, ap, sym, _∙_}
 use mathlib.Core.Bool.{Bool, false}
 use mathlib.Core.Logic.{⊎-elim}
@@ -16,7 +16,7 @@ use Rattle.words.proofs.Claims.{no-report-word-is-idle}
 use Rattle.words.proofs.Faults.{NoneHas}
 use Rattle.reports.proofs.Tests.{by-cond}
 use Rattle.lines.specs.Line.{gap, stretch, runIn}
-use Rattle.lines.specs.Stretches.{Run, closed, runsFrom}
+use Rattle.lines.specs.Stretches.{Run, closed, runsFrom, runs}
 use Rattle.lines.specs.Claims.{EndsIdle, BeginsIdle}
 use Rattle.words.proofs.Tests.{picked, passed, by-test}
 
@@ -208,7 +208,7 @@ runs-along q p open′ (w ∷ ws) =
     ∙ ap (map (along q)) (sym (passed (closed p open′ (runsFrom n [] ws)) (runsFrom p (open′ ++ (w ∷ [])) ws) e)))
 
 -- the runs of a line in three parts that meet at idle words
-pub runs-ends : (p : ℕ) (pre ws : List ℕ) → EndsIdle pre → runsFrom p [] (pre ++ ws) ≡ runsFrom p [] pre ++ runsFrom (p + length pre) [] ws
+runs-ends : (p : ℕ) (pre ws : List ℕ) → EndsIdle pre → runsFrom p [] (pre ++ ws) ≡ runsFrom p [] pre ++ runsFrom (p + length pre) [] ws
 unfolding runsFrom
 runs-ends p pre ws =
     ⊎-elim
@@ -226,7 +226,7 @@ runs-ends p pre ws =
     ∙ ap (λ (rs : List Run). rs ++ runsFrom (p + length (a ++ (idle ∷ []))) [] ws) (sym (append-nil (runsFrom p [] a)) ∙ sym (runs-parts p a []))
     ∙ ap (λ (l : List ℕ). runsFrom p [] l ++ runsFrom (p + length l) [] ws) (sym (h .1)))
 
-pub runs-begins : (p : ℕ) (ws post : List ℕ) → BeginsIdle post → runsFrom p [] (ws ++ post) ≡ runsFrom p [] ws ++ runsFrom (p + length ws) [] post
+runs-begins : (p : ℕ) (ws post : List ℕ) → BeginsIdle post → runsFrom p [] (ws ++ post) ≡ runsFrom p [] ws ++ runsFrom (p + length ws) [] post
 unfolding runsFrom
 runs-begins p ws post =
     ⊎-elim
@@ -241,3 +241,11 @@ runs-begins p ws post =
     ∙ runs-parts p ws b
     ∙ ap (λ (k : ℕ). runsFrom p [] ws ++ runsFrom k [] b) (let z : p + length ws + 1 ≡ p + length ws + 0 + 1 = omega arith in z)
     ∙ ap (λ (l : List ℕ). runsFrom p [] ws ++ runsFrom (p + length ws) [] l) (sym (h .1)))
+
+pub runs-three : (pre mid post : List ℕ) → EndsIdle pre → BeginsIdle post
+    → runs (pre ++ (mid ++ post)) ≡ runs pre ++ (runsFrom (length pre) [] mid ++ runsFrom (length pre + length mid) [] post)
+runs-three pre mid post a b =
+    let p = length pre in
+    runs-ends 0 pre (mid ++ post) a
+    ∙ ap (λ (k : ℕ). runs pre ++ runsFrom k [] (mid ++ post)) (zero-add p)
+    ∙ ap (λ (ts : List Run). runs pre ++ ts) (runs-begins p mid post b)

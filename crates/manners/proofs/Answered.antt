@@ -102,3 +102,53 @@ gives-all {to} {needed} {list} {exit} e n l = record {
   answers = sym e;
   leaves = l ∙ ap (λ (i : ℕ). needed ++ drop i list) (sym n) ∙ sym (ap (λ (x : Listed). leftBy x needed list) e);
 }
+
+pub behind-stays : BehindStays
+behind-stays n needed list h =
+    let d = length-drop (length needed) list in (
+      take-append-seam needed (drop (length needed) list),
+      drop-append-seam needed (drop (length needed) list),
+      length-append needed (drop (length needed) list) ∙ (let z : length needed + length (drop (length needed) list) ≡ length list = omega arith in z),
+    )
+
+-- ---- each refusal exactly under its condition
+
+pub list-refuses : ListRefuses
+unfolding listed
+list-refuses form line room a bad =
+    law.refused-exactly Listed isListed (listRows form line room) (L.Breaches (length (breaches form line))) a refl bad
+
+pub byte-list-refuses : ByteListRefuses
+unfolding listedBytes
+byte-list-refuses form bytes room a bad =
+    law.refused-exactly Listed isListed (byteListRows form bytes room) (L.Breaches (length (breaches form (wordsIn bytes)))) a refl bad
+
+-- how many breaches an answer tells
+abbrev countOf : Listed → ℕ
+countOf (L.Breaches n) = n
+countOf (L.LineRefused q) = 0
+countOf (L.Refused q n) = n
+
+pub listed-exactly : ListedExactly
+unfolding listed
+listed-exactly form line room n = (
+  λ e.
+      let none = law.accepted-exactly Listed isListed (listRows form line room) (L.Breaches (length (breaches form line))) (L.Breaches n) (refl, (refl, tt)) refl .0 e in
+      let w = as-numbers .each (breaches form line) in
+      let l = ltb-false room (length (numbersOf (breaches form line))) (none .0 .1 .0) in
+      (ltb-false most (length line) (none .0 .0), omega arith, ap countOf (none .1)),
+  λ h. enough form line room (h .0) (h .1) ∙ ap L.Breaches (h .2),
+)
+
+pub byte-listed-exactly : ByteListedExactly
+unfolding listedBytes
+byte-listed-exactly form bytes room n =
+    let bs = breaches form (wordsIn bytes) in (
+      λ e.
+          let none = law.accepted-exactly Listed isListed (byteListRows form bytes room) (L.Breaches (length bs)) (L.Breaches n) (refl, (refl, (refl, tt))) refl .0 e in
+          let w = as-bytes .each bs in
+          let odd = eqb-false (length bytes % 2) 1 (none .0 .1 .0) in
+          let l = ltb-false room (length (bytesOf (numbersOf bs))) (none .0 .1 .1 .0) in
+          (ltb-false mostBytes (length bytes) (none .0 .0), omega arith, omega arith, ap countOf (none .1)),
+      λ h. enough-bytes form bytes room (h .0) (h .1) (h .2) ∙ ap L.Breaches (h .3),
+    )

@@ -54,7 +54,7 @@ only true = refl
 only false = refl
 
 -- the first test holds, and so do the others
-splits : (a rest : Bool) → cond a rest false ≡ true → (a ≡ true) × (rest ≡ true)
+pub splits : (a rest : Bool) → cond a rest false ≡ true → (a ≡ true) × (rest ≡ true)
 splits true rest e = (refl, e)
 splits false rest e = differ (sym e)
 
@@ -292,14 +292,14 @@ abbrev pub could : List ℕ → Rule
 could ws = cond (isSeven ws) (cond (bit ws 4) R.RelayWithoutModeC (cond (bit ws 12) R.SubstitutionMode3a R.ModeCAllZeros)) R.MapStopBelowStart
 
 -- substitution is of seven words with bit 12 one
-substitution-told : (ws : List ℕ) → isSubstitution ws ≡ true → (isSeven ws ≡ true) × (bit ws 12 ≡ true)
+pub substitution-told : (ws : List ℕ) → isSubstitution ws ≡ true → (isSeven ws ≡ true) × (bit ws 12 ≡ true)
 substitution-told ws u =
     by-test (isSeven ws)
     (λ s. by-test (bit ws 12) (λ t. (s, t))
     (λ t. differ (sym u ∙ (λ i. any (all (s i ∷ eqb (cond (t i) (bits ws 88 90) noRadar) cdCode ∷ []) ∷ all (s i ∷ eqb (cond (t i) (bits ws 88 90) noRadar) mtdCode ∷ []) ∷ all (s i ∷ eqb (cond (t i) (bits ws 88 90) noRadar) rdasCode ∷ []) ∷ [])))))
     (λ s. differ (sym u ∙ (λ i. any (all (s i ∷ eqb (radarCode ws) cdCode ∷ []) ∷ all (s i ∷ eqb (radarCode ws) mtdCode ∷ []) ∷ all (s i ∷ eqb (radarCode ws) rdasCode ∷ []) ∷ []))))
 
-is-false : (b : Bool) → not b ≡ true → b ≡ false
+pub is-false : (b : Bool) → not b ≡ true → b ≡ false
 is-false false e = refl
 is-false true e = sym e
 

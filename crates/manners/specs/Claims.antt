@@ -108,9 +108,9 @@ outside lo hi (b ∷ bs) = cond (ltb (b .place) lo) (b ∷ outside lo hi bs) (co
 -- the words between two idle words that stay are replaced by equally many others: every breach outside is the same
 abbrev pub Replaced : Type 0
 Replaced =
-    (form : AltitudeForm) (a x y b : List ℕ) → length x ≡ length y →
-    outside (length a + 1) (length a + 1 + length x) (breaches form (a ++ (idle ∷ (x ++ (idle ∷ b)))))
-    ≡ outside (length a + 1) (length a + 1 + length x) (breaches form (a ++ (idle ∷ (y ++ (idle ∷ b)))))
+    (f : Form) (a x y b : List ℕ) → length x ≡ length y → length (a ++ (idle ∷ (x ++ (idle ∷ b)))) ≤ most →
+    outside (length a + 1) (length a + 1 + length x) (breaches (formOf f) (a ++ (idle ∷ (x ++ (idle ∷ b)))))
+    ≡ outside (length a + 1) (length a + 1 + length x) (breaches (formOf f) (a ++ (idle ∷ (y ++ (idle ∷ b)))))
 
 -- ---- the calls (proofs/Answered.antt)
 
