@@ -1,6 +1,6 @@
--- The rules over the words and over the record: the claims SameOfRecord, AtMostOne, AtMostOneOfRecord and FoundExactly; and what a run's outcome brings
+-- The rules over the words and over the record: the claims SameOfRecord, AtMostOne, AtMostOneOfRecord, FoundExactly and RulesDiffer; and what a run's outcome brings
 -- to the list. Assumes nothing.
-use Prim.Native.Nat.{ℕ, _<_}
+use Prim.Native.Nat.{ℕ, _-_, _<_}
 use mathlib.Core.Path.{_≡_, refl, ap, sym, _∙_, subst}
 use mathlib.Core.Bool.{Bool, true, false, not, cond}
 use mathlib.Core.List.{List, [], _∷_, map}
@@ -8,7 +8,7 @@ use mathlib.Core.Logic.{⊎-elim}
 use native.Mathlib.Omega.{arith}
 use lib.Dec.{eqb, ltb}
 use lib.IntN.{ℤ, pos, negsuc}
-use lib.ListN.{length}
+use lib.ListN.{length, getD}
 use borrow.Author.Tests.{eqb-true, eq-eqb}
 use Rattle.rows.specs.Claims.{FirstIs}
 use Rattle.rows.proofs.Claims as law
@@ -44,10 +44,11 @@ use Rattle.manners.specs.declared.Rule.{Rule}
 use Rattle.manners.specs.declared.Rule.the-variants as R
 use Rattle.manners.specs.declared.Found.{Found}
 use Rattle.manners.specs.declared.Found.the-variants as F
+use Rattle.manners.specs.Numbers.{ruleNumber}
 use Rattle.manners.specs.Rules.{isSubstitution, broken, isZero, isSeaLevel, atcrbsBreaks, dabsBreaks, mapBreaks, breaks}
 use Rattle.manners.specs.Breaches.{breach, rules, passing, brokenBy, breachesOf, ruleRows, foundOf, listOf, broughtBy}
 use Rattle.manners.specs.Steps.{atcrbsFound}
-use Rattle.manners.specs.Claims.{SameOfRecord, AtMostOne, AtMostOneOfRecord, FoundExactly}
+use Rattle.manners.specs.Claims.{SameOfRecord, AtMostOne, AtMostOneOfRecord, FoundExactly, RulesDiffer}
 
 only : (b : Bool) → b ≡ cond b true false
 only true = refl
@@ -328,6 +329,20 @@ told R.MapStopBelowStart ws e =
 
 pub at-most-one : AtMostOne
 at-most-one ws a b e f = sym (told a ws e) ∙ told b ws f
+
+-- a number leads back to its rule, by the list of them
+numbered : ℕ → Rule
+numbered n = getD rules (n - 1) R.SubstitutionMode3a
+
+back : (a : Rule) → numbered (ruleNumber a) ≡ a
+unfolding numbered
+back R.SubstitutionMode3a = refl
+back R.RelayWithoutModeC = refl
+back R.ModeCAllZeros = refl
+back R.MapStopBelowStart = refl
+
+pub rules-differ : RulesDiffer
+rules-differ a b e = sym (back a) ∙ ap numbered e ∙ back b
 
 -- ---- what is found in a record
 

@@ -3,3 +3,4 @@ pub mod Broken
 pub mod Gathered
 pub mod Answered
 pub mod Exactly
+pub mod Worked

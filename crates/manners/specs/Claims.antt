@@ -18,7 +18,7 @@ use Rattle.reports.specs.Runs.{readRun, isAccepted}
 use Rattle.lines.specs.declared.Outcome.{Outcome}
 use Rattle.lines.specs.Line.{most, outcomes}
 use Rattle.lines.specs.Bytes.{mostBytes, wordsIn, bytesOf}
-use Rattle.lines.specs.Stretches.{Run, runs}
+use Rattle.lines.specs.Stretches.{Run, runs, gathered}
 use Rattle.lines.specs.Claims.{EndsIdle, BeginsIdle}
 use Rattle.manners.specs.declared.Rule.{Rule}
 use Rattle.manners.specs.declared.Found.the-variants as F
@@ -26,8 +26,9 @@ use Rattle.manners.specs.declared.Listed.{Listed}
 use Rattle.manners.specs.declared.Listed.the-variants as L
 use Rattle.manners.specs.declared.MannersRefusal.{MannersRefusal}
 use Rattle.manners.specs.declared.MannersRefusal.the-variants.{ListTooSmall}
+use Rattle.manners.specs.Numbers.{ruleNumber}
 use Rattle.manners.specs.Rules.{broken, breaks}
-use Rattle.manners.specs.Breaches.{Breach, breach, breaches, numbersOf, foundOf, broughtBy}
+use Rattle.manners.specs.Breaches.{Breach, breach, breachesOf, breaches, numbersOf, foundOf, broughtBy}
 use Rattle.manners.specs.Listing.{mostBreaches, listRows, listed, byteListRows, listedBytes, leftBy}
 
 -- ---- the rules (proofs/Broken.antt)
@@ -46,6 +47,10 @@ AtMostOneOfRecord = (r : Report) (a b : Rule) → breaks r a ≡ true → breaks
 -- so what the code finds in an accepted run's record is the one rule that its words break
 abbrev pub FoundExactly : Type 0
 FoundExactly = (f : Form) (ws : List ℕ) (r : Report) → readRun (formOf f) ws ≡ A.Accepted r → (rule : Rule) → (foundOf r ≡ F.Breach rule) ↔ (broken rule ws ≡ true)
+
+-- a number names one rule
+abbrev pub RulesDiffer : Type 0
+RulesDiffer = (a b : Rule) → ruleNumber a ≡ ruleNumber b → a ≡ b
 
 -- ---- the list (proofs/Exactly.antt)
 
@@ -86,6 +91,22 @@ SameInBothForms = (line : List ℕ) → breaches signMagnitude line ≡ breaches
 -- a breach takes four words at least, and an idle word parts it from the next: a line has no more than this
 abbrev pub NoMore : Type 0
 NoMore = (form : AltitudeForm) (line : List ℕ) → (5 * length (breaches form line) ≤ length line + 1) × (length line ≤ most → length (breaches form line) ≤ mostBreaches)
+
+-- worked runs (proofs/Worked.antt). At 1 an ATCRBS-CD report with bit 5 set; at 9 a relayed DABS report with bit 6 zero; at 17 a Map with its stop below its
+-- start, refused for an even word; at 23 an ATCRBS report with bit 6 one and bits 79-90 all zeros; at 31 a Map with start and stop equal; at 36 a Map with
+-- its stop below its start
+abbrev pub workedRuns : List Run
+workedRuns =
+    record { place = 1; words = 3331 ∷ 1 ∷ 1 ∷ 1 ∷ 1281 ∷ 38 ∷ 3080 ∷ [] }
+    ∷ record { place = 9; words = 3584 ∷ 1 ∷ 1 ∷ 32 ∷ 334 ∷ 1030 ∷ 1 ∷ [] }
+    ∷ record { place = 17; words = 1 ∷ 400 ∷ 1 ∷ 396 ∷ [] }
+    ∷ record { place = 23; words = 3457 ∷ 1 ∷ 1 ∷ 1 ∷ 1281 ∷ 44 ∷ 1 ∷ [] }
+    ∷ record { place = 31; words = 1 ∷ 400 ∷ 1 ∷ 400 ∷ [] }
+    ∷ record { place = 36; words = 1 ∷ 400 ∷ 1 ∷ 397 ∷ [] }
+    ∷ []
+
+abbrev pub Worked : Type 0
+Worked = (f : Form) → numbersOf (gathered (breachesOf (formOf f)) workedRuns) ≡ 1 ∷ 1 ∷ 9 ∷ 2 ∷ 23 ∷ 3 ∷ 36 ∷ 4 ∷ []
 
 -- ---- a line in parts (proofs/Exactly.antt)
 
