@@ -9,10 +9,11 @@ use Rattle.refusals.specs.declared.LineRefusal.the-variants as L
 use Rattle.refusals.specs.declared.FieldRefusal.the-variants as F
 use Rattle.frames.specs.declared.FrameRefusal.the-variants as R
 use Rattle.index.specs.declared.IndexRefusal.the-variants as X
+use Rattle.manners.specs.declared.MannersRefusal.the-variants as M
 use Rattle.reports.specs.declared.kinds.Kind.the-variants as K
-use Rattle.claims.specs.Numbers.{Named, line, field, frame, index, kind, numberOf, NumbersDiffer, NoNumberIsZero}
+use Rattle.claims.specs.Numbers.{Named, line, field, frame, index, manners, kind, numberOf, NumbersDiffer, NoNumberIsZero}
 
--- 1 to 11 and 14; 20 to 31; 40 to 46; 50 and 51; 101 to 115
+-- 1 to 11 and 14; 20 to 31; 40 to 46; 50 and 51; 52; 101 to 115
 abbrev named : ℕ → Named
 named n =
     cond (ltb n 20)
@@ -56,7 +57,7 @@ named n =
     (n - 40)
     R.NoRoom))
     (cond (ltb n 100)
-    (index (getD (X.TableBroken ∷ []) (n - 50) X.TableFull))
+    (getD (index X.TableBroken ∷ index X.TableFull ∷ []) (n - 50) (manners M.ListTooSmall))
     (kind
     (getD
     (K.Search
@@ -111,6 +112,7 @@ back (frame R.UnknownAddress) = (refl, tt)
 back (frame R.NoRoom) = (refl, tt)
 back (index X.TableBroken) = (refl, tt)
 back (index X.TableFull) = (refl, tt)
+back (manners M.ListTooSmall) = (refl, tt)
 back (kind K.Search) = (refl, tt)
 back (kind K.Strobe) = (refl, tt)
 back (kind K.Map) = (refl, tt)

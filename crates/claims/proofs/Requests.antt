@@ -11,7 +11,11 @@ use Rattle.frames.proofs.Lists as lists
 use Rattle.frames.proofs.Refused as refused
 use Rattle.frames.proofs.Zeros as zeros
 use Rattle.index.proofs.Claims as index
-use Rattle.claims.specs.Requests.{ReadAndWriteThem, FlagsAndIdle, PlacesAnswered, TheWriter, TheirOwnRoundTrip, FrameRefusals, Ticket1, OneSegmentAccepted, UplinkKeepsItsMinimum, RefusalsLoseThisCase, TakesReportsWithANumber, EntersAndReplaces, EqualsTheOneWorkedOutAfresh, IndexRefusals, CountsTheOnes, ItsPromiseStays, TheFormAsAnInput, RangeAndPatterns, RefusalsOfAltitudes, Requests}
+use Rattle.manners.proofs.Answered as answered
+use Rattle.manners.proofs.Broken as broken
+use Rattle.manners.proofs.Exactly as exactly
+use Rattle.manners.proofs.Worked.{worked}
+use Rattle.claims.specs.Requests.{ReadAndWriteThem, FlagsAndIdle, PlacesAnswered, TheWriter, TheirOwnRoundTrip, FrameRefusals, Ticket1, OneSegmentAccepted, UplinkKeepsItsMinimum, RefusalsLoseThisCase, TakesReportsWithANumber, EntersAndReplaces, EqualsTheOneWorkedOutAfresh, IndexRefusals, CountsTheOnes, ItsPromiseStays, TheFormAsAnInput, RangeAndPatterns, RefusalsOfAltitudes, TheRules, ExactlyTheBreaches, StaysAccepted, MannersRefusals, Requests}
 use Rattle.claims.proofs.Numbers.{numbers-differ, no-number-is-zero}
 use Rattle.claims.proofs.OneSegment as segment
 use Rattle.claims.proofs.Folds.{folds-answer-the-same}
@@ -173,6 +177,49 @@ range = record {
 altitude-refusals : RefusalsOfAltitudes
 altitude-refusals = record { never-9 = forms.never-minus-zero; never-9-in-bytes = forms.never-minus-zero-in-bytes; eleven = forms.eleven-follows }
 
+-- ---- Ticket 6
+
+rules : TheRules
+rules = record {
+  same = broken.same-of-record;
+  found = broken.found-exactly;
+  one = broken.at-most-one;
+  one-of-record = broken.at-most-one-of-record;
+  numbers = broken.rules-differ;
+  worked = worked;
+}
+
+exactly-the-breaches : ExactlyTheBreaches
+exactly-the-breaches = record {
+  exactly = exactly.exactly-the-breaches;
+  by-place = exactly.by-place;
+  outcomes = exactly.from-the-outcomes;
+  both-forms = exactly.same-in-both-forms;
+  parts = exactly.splits-in-parts;
+  outside = exactly.replaced;
+  no-more = exactly.no-more;
+}
+
+stays-accepted : StaysAccepted
+stays-accepted = record {
+  one-answer = λ form line list. (_, _, record { answers = refl; leaves = refl }, λ b left w. (w .answers, w .leaves));
+  one-answer-of-bytes = λ form bytes list. (_, _, record { answers = refl; leaves = refl }, λ b left w. (w .answers, w .leaves));
+  listed = answered.listed-exactly;
+  bytes-listed = answered.byte-listed-exactly;
+}
+
+manners-refusals : MannersRefusals
+manners-refusals = record {
+  words = answered.list-refuses;
+  of-bytes = answered.byte-list-refuses;
+  nothing-written = answered.refused-stays;
+  behind = answered.behind-stays;
+  bytes = answered.bytes-as-words;
+  numbers-in-bytes = exactly.numbers-in-bytes;
+  numbers = numbers-differ;
+  none-is-0 = no-number-is-zero;
+}
+
 -- ---- all of them
 
 pub requests : Requests
@@ -201,4 +248,5 @@ requests = record {
     one-form = record { demands = demands .each-form; sound = altitudes.forms-sound };
     refusals = altitude-refusals;
   };
+  ticket-6 = record { rules = rules; list = exactly-the-breaches; stays = stays-accepted; refusals = manners-refusals };
 }

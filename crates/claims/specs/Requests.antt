@@ -17,6 +17,9 @@ use Rattle.index.specs.declared.Indexed.{Indexed}
 use Rattle.index.specs.Entries.{uncorrelated, numberIn}
 use Rattle.index.specs.Indexing.{Indexes}
 use Rattle.index.specs.Claims as index
+use Rattle.reports.specs.Altitude.{AltitudeForm}
+use Rattle.manners.specs.Listing.{Lists, ListsBytes}
+use Rattle.manners.specs.Claims as manners
 use Rattle.claims.specs.Demands.{AllowsOne, InEachForm}
 use Rattle.claims.specs.Twelve.{InTheNewForm, WrittenInTheNewForm}
 use Rattle.claims.specs.TwoForms as forms
@@ -262,6 +265,62 @@ pub record Ticket5 : Type 0 where
   pub one-form : OneFormAtATime
   pub refusals : RefusalsOfAltitudes
 
+-- ---- Ticket 6: check a sensor's manners
+
+-- "Site technicians want to know whether a new sensor follows rules between fields that we accept either way. Over a line, list each breach with the
+-- run's place: an ATCRBS substitution report with bit 5 set (4.2.7); a relayed DABS report with bit 6 zero (4.1.4); an ATCRBS report with bit 6 one,
+-- bit 12 zero and altitude field all zeros, which the technician wants to see although sea level may look so; a Map whose stop is below its start."
+-- manners/specs/Rules.antt has the four rules, by the printed bits of a run and over the record; for an accepted run the two are the same (same), and
+-- what the code finds in the record is the rule that the bits break (found). No run and no record breaks two (one, one-of-record). Each rule has its
+-- number (numbers). Six runs are worked out (worked)
+pub record TheRules : Type 0 where
+  pub same : manners.SameOfRecord
+  pub found : manners.FoundExactly
+  pub one : manners.AtMostOne
+  pub one-of-record : manners.AtMostOneOfRecord
+  pub numbers : manners.RulesDiffer
+  pub worked : manners.Worked
+
+-- "The list has exactly the breaches, by place and then in this order." A breach is in the list exactly where an accepted run breaks the rule at that
+-- place (exactly); the places rise (by-place). It is what the outcomes of demand 3 bring (outcomes). It does not depend on the altitude's form
+-- (both-forms). Parts of a line that meet at idle words have their own breaches (parts), and words that are replaced between two idle words change no
+-- breach outside (outside). No line has more than 6,553 (no-more)
+pub record ExactlyTheBreaches : Type 0 where
+  pub exactly : manners.ExactlyTheBreaches
+  pub by-place : manners.ByPlace
+  pub outcomes : manners.FromTheOutcomes
+  pub both-forms : manners.SameInBothForms
+  pub parts : manners.Splits
+  pub outside : manners.Replaced
+  pub no-more : manners.NoMore
+
+-- "An accepted line stays accepted." A call has the line only to read it, and the definitions of what is read do not name the rules: that is in the
+-- code and in the `use` lines, not here. What a call answers and leaves is one for every input, of words and of bytes. It refuses no line for what
+-- stands on it: a line that is short enough is listed if the list has room (listed, bytes-listed)
+pub record StaysAccepted : Type 0 where
+  pub one-answer : (form : AltitudeForm) (line list : List ℕ) → AllowsOne (Lists form line list)
+  pub one-answer-of-bytes : (form : AltitudeForm) (bytes list : List ℕ) → AllowsOne (ListsBytes form bytes list)
+  pub listed : manners.ListedExactly
+  pub bytes-listed : manners.ByteListedExactly
+
+-- "Refusals: 2, then 52 list buffer too small, with nothing written." In bytes 14 stands between them. What stands behind the list stays (behind).
+-- Bytes are answered as the words that they hold (bytes), and two bytes hold each number of the list (numbers-in-bytes)
+pub record MannersRefusals : Type 0 where
+  pub words : manners.ListRefuses
+  pub of-bytes : manners.ByteListRefuses
+  pub nothing-written : manners.RefusedStays
+  pub behind : manners.BehindStays
+  pub bytes : manners.BytesAsWords
+  pub numbers-in-bytes : manners.NumbersInBytes
+  pub numbers : NumbersDiffer
+  pub none-is-0 : NoNumberIsZero
+
+pub record Ticket6 : Type 0 where
+  pub rules : TheRules
+  pub list : ExactlyTheBreaches
+  pub stays : StaysAccepted
+  pub refusals : MannersRefusals
+
 -- ---- all of them
 
 pub record Requests : Type 0 where
@@ -270,3 +329,4 @@ pub record Requests : Type 0 where
   pub ticket-3 : Ticket3
   pub ticket-4 : Ticket4
   pub ticket-5 : Ticket5
+  pub ticket-6 : Ticket6

@@ -124,8 +124,8 @@ AlongTheWalk =
     ((place : ℕ) (r : Run) (rs : List Run) → Meets answer line place r → P (r .place + length (r .words)) rs → P place (r ∷ rs)) →
     (place : ℕ) → place ≤ length line → P place (runsAt line place)
 
--- the step: what the runs from a place on bring is what the outcome there brings, and behind it what the runs from the place after it bring. Here ofRun
--- says what a run brings, and of the same by its outcome
+-- the step: what the runs from a place on bring is what the outcome there brings, and behind it what the runs from the place after it bring. Here
+-- ofRun says what a run brings, and of the same by its outcome
 abbrev pub StepByStep : Type 1
 StepByStep =
     (answer : Answer) (line : List ℕ) → length line ≤ most →

@@ -99,6 +99,7 @@ accepted-long form ws = by-answer (readRun form ws) refl
     counts : (b : Bool) → 4 ≤ cond b 7 4
     counts true = omega arith
     counts false = omega arith
+
     by-answer : (a : RunAnswer) → readRun form ws ≡ a → isAccepted a ≡ true → 4 ≤ length ws
     by-answer (A.Accepted r) e t =
         let l : length ws ≡ wordCount ws = eqb-true (length ws) (wordCount ws) (holds (eqb (length ws) (wordCount ws)) (accepted-layout form ws r e .0 .whole)) in
@@ -288,8 +289,11 @@ exactly-the-breaches form line place rule =
           let k = of-run form r place rule (t .2) in
           (r .words, subst (λ (q : Run). Among q (runs line)) (λ i. record { place = sym (k .0) i; words = r .words }) (t .1), k .1, k .2),
       λ h.
-          all .1 (record { place = place; words = h .0 }, h .1,
-          subst (Among (breach place rule)) (sym (picked _ _ (h .2))) (passing-among place (λ x. broken x (h .0)) rule rules (each-rule rule) (h .3))),
+          all .1 (
+            record { place = place; words = h .0 },
+            h .1,
+            subst (Among (breach place rule)) (sym (picked _ _ (h .2))) (passing-among place (λ x. broken x (h .0)) rule rules (each-rule rule) (h .3)),
+          ),
     )
 
 -- ---- the two forms of the altitude
@@ -376,6 +380,7 @@ run-along form q r = by-test′ (isAccepted (readRun form (r .words)))
     each-along : (l : List Rule) → map (breach (q + r .place)) l ≡ map (along q) (map (breach (r .place)) l)
     each-along [] = refl
     each-along (rule ∷ l) = ap (λ (bs : List Breach). breach (q + r .place) rule ∷ bs) (each-along l)
+
     by-test′ : (b : Bool) → cond b (map (breach (q + r .place)) (brokenBy (r .words))) [] ≡ map (along q) (cond b (map (breach (r .place)) (brokenBy (r .words))) [])
     by-test′ true = each-along (brokenBy (r .words))
     by-test′ false = refl

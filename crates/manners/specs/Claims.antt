@@ -46,7 +46,9 @@ AtMostOneOfRecord = (r : Report) (a b : Rule) → breaks r a ≡ true → breaks
 
 -- so what the code finds in an accepted run's record is the one rule that its words break
 abbrev pub FoundExactly : Type 0
-FoundExactly = (f : Form) (ws : List ℕ) (r : Report) → readRun (formOf f) ws ≡ A.Accepted r → (rule : Rule) → (foundOf r ≡ F.Breach rule) ↔ (broken rule ws ≡ true)
+FoundExactly =
+    (f : Form) (ws : List ℕ) (r : Report) → readRun (formOf f) ws ≡ A.Accepted r → (rule : Rule) →
+    (foundOf r ≡ F.Breach rule) ↔ (broken rule ws ≡ true)
 
 -- a number names one rule
 abbrev pub RulesDiffer : Type 0
@@ -90,11 +92,13 @@ SameInBothForms = (line : List ℕ) → breaches signMagnitude line ≡ breaches
 
 -- a breach takes four words at least, and an idle word parts it from the next: a line has no more than this
 abbrev pub NoMore : Type 0
-NoMore = (form : AltitudeForm) (line : List ℕ) → (5 * length (breaches form line) ≤ length line + 1) × (length line ≤ most → length (breaches form line) ≤ mostBreaches)
+NoMore =
+    (form : AltitudeForm) (line : List ℕ) →
+    (5 * length (breaches form line) ≤ length line + 1) × (length line ≤ most → length (breaches form line) ≤ mostBreaches)
 
--- worked runs (proofs/Worked.antt). At 1 an ATCRBS-CD report with bit 5 set; at 9 a relayed DABS report with bit 6 zero; at 17 a Map with its stop below its
--- start, refused for an even word; at 23 an ATCRBS report with bit 6 one and bits 79-90 all zeros; at 31 a Map with start and stop equal; at 36 a Map with
--- its stop below its start
+-- worked runs (proofs/Worked.antt). At 1 an ATCRBS-CD report with bit 5 set; at 9 a relayed DABS report with bit 6 zero; at 17 a Map with its stop
+-- below its start, refused for an even word; at 23 an ATCRBS report with bit 6 one and bits 79-90 all zeros; at 31 a Map with start and stop equal;
+-- at 36 a Map with its stop below its start
 abbrev pub workedRuns : List Run
 workedRuns =
     record { place = 1; words = 3331 ∷ 1 ∷ 1 ∷ 1 ∷ 1281 ∷ 38 ∷ 3080 ∷ [] }
@@ -144,11 +148,13 @@ isListed (L.Refused q n) = false
 -- each of 2, 14 and 52 is given exactly where its row is the first that holds
 abbrev pub ListRefuses : Type 0
 ListRefuses =
-    (form : AltitudeForm) (line : List ℕ) (room : ℕ) (a : Listed) → isListed a ≡ false → (listed form line room ≡ a) ↔ FirstIs (listRows form line room) a
+    (form : AltitudeForm) (line : List ℕ) (room : ℕ) (a : Listed) → isListed a ≡ false →
+    (listed form line room ≡ a) ↔ FirstIs (listRows form line room) a
 
 abbrev pub ByteListRefuses : Type 0
 ByteListRefuses =
-    (form : AltitudeForm) (bytes : List ℕ) (room : ℕ) (a : Listed) → isListed a ≡ false → (listedBytes form bytes room ≡ a) ↔ FirstIs (byteListRows form bytes room) a
+    (form : AltitudeForm) (bytes : List ℕ) (room : ℕ) (a : Listed) → isListed a ≡ false →
+    (listedBytes form bytes room ≡ a) ↔ FirstIs (byteListRows form bytes room) a
 
 -- how many breaches: exactly where the line is short enough, and the list has two numbers for each, or four bytes
 abbrev pub ListedExactly : Type 0
@@ -160,7 +166,10 @@ abbrev pub ByteListedExactly : Type 0
 ByteListedExactly =
     (form : AltitudeForm) (bytes : List ℕ) (room n : ℕ) →
     (listedBytes form bytes room ≡ L.Breaches n)
-    ↔ ((length bytes ≤ mostBytes) × (length bytes % 2 ≡ 0) × (length (breaches form (wordsIn bytes)) * 4 ≤ room) × (length (breaches form (wordsIn bytes)) ≡ n))
+    ↔ ((length bytes ≤ mostBytes)
+    × (length bytes % 2 ≡ 0)
+    × (length (breaches form (wordsIn bytes)) * 4 ≤ room)
+    × (length (breaches form (wordsIn bytes)) ≡ n))
 
 -- a refused call leaves the list as it was
 abbrev pub RefusedStays : Type 0

@@ -1,5 +1,5 @@
--- The rules whose breaches are listed (document 02, Ticket 6; the sections are document 004's). Each is said by the printed bit numbers over the words of
--- a run, and once more over the record. SameOfRecord (Claims.antt) says that the two are the same for every accepted run. Definitions only.
+-- The rules whose breaches are listed (document 02, Ticket 6; the sections are document 004's). Each is said by the printed bit numbers over the
+-- words of a run, and once more over the record. SameOfRecord (Claims.antt) says that the two are the same for every accepted run. Definitions only.
 use Prim.Native.Nat.{ℕ}
 use mathlib.Core.Bool.{Bool, true, false, not}
 use mathlib.Core.List.{List, [], _∷_}
@@ -33,7 +33,8 @@ substitutionMode3a ws = all (isSubstitution ws ∷ not (bit ws 4) ∷ bit ws 5 �
 abbrev pub relayWithoutModeC : List ℕ → Bool
 relayWithoutModeC ws = all (isDabs ws ∷ bit ws 47 ∷ not (bit ws 6) ∷ [])
 
--- 3: an ATCRBS report (bit 4 zero) with bit 6 one, bit 12 zero and altitude field all zeros. Mode C is set only where the code is not all zeros (4.2.2)
+-- 3: an ATCRBS report (bit 4 zero) with bit 6 one, bit 12 zero and altitude field all zeros. Mode C is set only where the code is not all zeros
+-- (4.2.2)
 abbrev pub modeCAllZeros : List ℕ → Bool
 modeCAllZeros ws = all (isSeven ws ∷ not (bit ws 4) ∷ bit ws 6 ∷ not (bit ws 12) ∷ eqb (bits ws 79 90) 0 ∷ [])
 

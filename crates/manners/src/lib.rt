@@ -1,6 +1,6 @@
-// A sensor's manners (document 02, Ticket 6): rules between fields that are accepted either way. Over a whole line, the list of the runs that break one,
-// each with its place. Here are the rules by name, the refusal, and what a call answers.
-// Relies on line_reader for the outcome at a place; specs/Listing.antt says what a call answers and what the list then holds.
+// A sensor's manners (document 02, Ticket 6): rules between fields that are accepted either way. Over a whole line, the list of the runs that break
+// one, each with its place. Here are the rules by name, the refusal, and what a call answers. Relies on line_reader for the outcome at a place;
+// specs/Listing.antt says what a call answers and what the list then holds.
 ghost use mathlib.Core.Path.{_≡_};
 ghost use Rattle.manners.specs.Numbers.{ruleNumber, mannersNumber};
 use refusals::LineRefusal;
