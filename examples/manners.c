@@ -1,8 +1,8 @@
 /*
  * A technician's look at a sensor: manners [--twos-complement]. It reads a recording from standard input. For each report that breaks a rule
- * between its fields it prints a line: the place, the kind, and what is wrong, with the section of FAA-RD-80-14. At the end it prints how often
- * each rule was broken, and how many reports there were. A run that is refused is not judged: standard error names it, with its reason. With
- * --twos-complement altitudes are read in that form.
+ * between its fields it prints a line: the place, the kind, the rule's number, and what is wrong, with the section of FAA-RD-80-14. At the end it
+ * prints how often each rule was broken, and how many reports there were. A run that is refused is not judged: standard error names it, with its
+ * reason. The exit status is 0 if the recording was judged, with breaches or without. With --twos-complement altitudes are read in that form.
  */
 #include <inttypes.h>
 #include <stdio.h>
@@ -23,13 +23,12 @@ struct line {
     uint32_t form;
 };
 
-/* What is wrong, by the number of the rule; none has number 0. */
+/* What is wrong, by the number of the rule. There is no rule 0. */
 static const char *const wrong[] = {
-    "",
-    "bit 5, Mode 3/A, is set though a radar stands in for the height (4.2.7)",
-    "it is relayed, and bit 6, Mode C, is zero (4.1.4)",
-    "bit 6, Mode C, is one, and bits 79-90 are all zeros; at sea level it may be right (4.2.2)",
-    "the range stop is below the range start (Table 4-2)",
+    [SIAMRUNG_BREACH_SUBSTITUTION_MODE3A] = "an ATCRBS substitution report has bit 5, Mode 3/A, set (4.2.7)",
+    [SIAMRUNG_BREACH_RELAY_WITHOUT_MODE_C] = "a relayed DABS report has bit 6, Mode C, zero (4.1.4)",
+    [SIAMRUNG_BREACH_MODE_C_ALL_ZEROS] = "an ATCRBS report has bit 6, Mode C, set and bits 79-90 all zeros (4.2.2); at sea level it may be right",
+    [SIAMRUNG_BREACH_MAP_STOP_BELOW_START] = "a Map has its range stop below its range start (Table 4-2)",
 };
 #define RULES (sizeof wrong / sizeof wrong[0])
 
@@ -62,7 +61,7 @@ static void print_breaches(const struct line *l, const uint8_t *list, size_t bre
     for (k = 0; k < breaches; k++) {
         size_t place = siamrung_breach_place(list, k);
         uint32_t rule = siamrung_breach_rule(list, k), kind = siamrung_kind(l->bytes, l->length, place, l->form);
-        printf("%zu %s: %s\n", place, kind_names[kind - SIAMRUNG_KIND_SEARCH], wrong[rule]);
+        printf("%zu %s rule %" PRIu32 ": %s\n", place, kind_names[kind - SIAMRUNG_KIND_SEARCH], rule, wrong[rule]);
         counts[rule]++;
     }
 }
@@ -82,7 +81,7 @@ static int judge(const struct line *l)
     print_breaches(l, list, siamrung_manners_breaches(answer), counts);
     for (rule = 1; rule < RULES; rule++)
         printf("%zu of rule %zu: %s\n", counts[rule], rule, wrong[rule]);
-    printf("%zu reports, %zu breaches; %zu refused\n", reports, siamrung_manners_breaches(answer), refused);
+    printf("%zu reports, %zu breaches; %zu refused and not judged\n", reports, siamrung_manners_breaches(answer), refused);
     return 1;
 }
 

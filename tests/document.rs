@@ -120,7 +120,7 @@ pub fn string(words: &[u16]) -> String {
     words.iter().map(|w| format!("{w:013b}")).collect()
 }
 
-fn part<'a>(bits: &'a str, (a, b): (usize, usize)) -> &'a str {
+pub fn part<'a>(bits: &'a str, (a, b): (usize, usize)) -> &'a str {
     bits.get(a - 1..b).unwrap_or("")
 }
 

@@ -1,5 +1,5 @@
 // Holds docs/FORMAT.md to the definitions and to the C header, number by number and both ways: limits, weights, kinds, the bits of every layout of
-// a report and of every type of link data field, frames, refusals and the order in which each call tests them. Besides, the page must agree with itself:
+// a report and of every type of link data field, frames, rules, refusals and the order in which each call tests them. Besides, the page must agree with itself:
 // every data bit of a layout stands in it once, no two layouts fit the same words, and the examples say what their bits say.
 // What a bit means, the page says in words: that is not compared.
 mod definitions;
@@ -7,6 +7,8 @@ mod definitions;
 mod fields;
 #[path = "format/frames.rs"]
 mod frames;
+#[path = "format/manners.rs"]
+mod manners;
 #[path = "format/page.rs"]
 mod page;
 #[path = "format/refusals.rs"]
@@ -88,6 +90,7 @@ fn main() {
     refusals::refusals(&tables, &specs, &header, &mut found);
     fields::link_fields(&tables, &specs, &header, &mut found);
     frames::frames(&tables, &specs, &mut found);
+    manners::manners(&tables, &specs, &header, &mut found);
     for text in &found.wrong {
         eprintln!("tests: {PAGE}: {text}");
     }

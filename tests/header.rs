@@ -1,9 +1,10 @@
 // Holds include/siamrung.h to the crates, wherever in them something stands.
-// Numbers: every form of the altitude, kind, type, refusal and item that specs/ numbers stands in the header with the same number, as does what a
-// call of the index has done, and the header has no other. No two kinds, refusals and numbers of what was done are the same, and no two items are.
+// Numbers: every form of the altitude, kind, type, refusal, item and rule of manners that specs/ numbers stands in the header with the same number, as
+// does what a call of the index or of manners has done, and the header has no other. No two kinds, refusals and numbers of what was done are the same,
+// no two items are, and no two rules.
 // Structs: every `#[repr(C)]` struct stands in the header with the same fields, in order and by name and type, and the header has no other.
 // Calls: every `extern "C"` function stands in the header with the same arguments, in order and by name and type, and the same answer, and the
-// header has no other, but two that it defines itself.
+// header has no other, but those that it defines itself.
 mod definitions;
 use definitions::{defines, files, kinds, number, numbered, single, upper, File, Numbers};
 use std::collections::BTreeMap;
@@ -71,14 +72,18 @@ fn numbers(header: &str) {
     add(&mut expected, numbered(specs.iter(), "frameNumber R."), "FRAME_REFUSAL");
     add(&mut expected, numbered(specs.iter(), "indexNumber R."), "INDEX_REFUSAL");
     add(&mut expected, done(&specs), "INDEX");
+    add(&mut expected, numbered(specs.iter(), "ruleNumber R."), "BREACH");
+    add(&mut expected, numbered(specs.iter(), "mannersNumber M."), "MANNERS_REFUSAL");
+    add(&mut expected, [("Listed", "listedDone"), ("Most", "mostBreaches")].map(|(name, of)| (name.into(), single(&specs, of))).into(), "MANNERS");
     add(&mut expected, numbered(items(false), ""), "ITEM");
     add(&mut expected, numbered(items(true), ""), "FIELD_ITEM");
     add_types(&mut expected, &specs);
     expected.insert("REFUSAL_NONE".into(), 0);
     let found = defines(header);
     compare("number", &expected, &found);
-    differ(&found, |name| name.starts_with("KIND") || name.contains("REFUSAL") || name.starts_with("INDEX"));
+    differ(&found, |name| name.starts_with("KIND") || name.contains("REFUSAL") || name.starts_with("INDEX") || name == "MANNERS_LISTED");
     differ(&found, |name| name.starts_with("ITEM") || name.starts_with("FIELD_ITEM"));
+    differ(&found, |name| name.starts_with("BREACH"));
 }
 
 // ---- the text of the header
@@ -230,8 +235,15 @@ fn declared(code: &str) -> Calls {
     calls
 }
 
-// What the header defines itself: these take an answer of the index apart, and are no calls of the library.
-const OWN: [&str; 2] = ["uint32_t siamrung_index_done(uint32_t answer)", "size_t siamrung_index_entry(uint32_t answer)"];
+// What the header defines itself: these take an answer of the index or of manners apart, or a list of breaches, and are no calls of the library.
+const OWN: [&str; 6] = [
+    "uint32_t siamrung_index_done(uint32_t answer)",
+    "size_t siamrung_index_entry(uint32_t answer)",
+    "uint32_t siamrung_manners_done(uint32_t answer)",
+    "size_t siamrung_manners_breaches(uint32_t answer)",
+    "size_t siamrung_breach_place(const uint8_t *list, size_t k)",
+    "uint32_t siamrung_breach_rule(const uint8_t *list, size_t k)",
+];
 
 fn structs_and_calls(header: &str) {
     let mut code = code(header);

@@ -1,15 +1,19 @@
 // Makes the sample recordings of examples/recordings, those of chance from fixed seeds, and what C programs must print of them, by
 // tests/document.rs: `recordings NAME` writes the bytes, `recordings NAME printed` what examples/recorder.c prints, `recordings NAME heights` what
 // README.md's lines do. `recordings track NUMBER FILE..` and `recordings refused FILE..` print what examples/track.c must say (tests/tracks.rs).
-// With --twos-complement in front, altitudes are read in that form.
+// `recordings breaches FILE` and `recordings not-judged FILE` print what examples/manners.c must say (tests/manners.rs), on standard output and on
+// standard error. With --twos-complement in front, altitudes are read in that form.
 //   story    a sensor that sends ATCRBS and Search reports, and then begins to send DABS reports in place of ATCRBS
 //   morning  every form, with idle words between
 //   damaged  the morning with bits turned over here and there
 //   scan1    some tracks, reports that belong to no track, and reports that have no file number
 //   scan2    the next scan: tracks that go on, that are lost, that are new, and a damaged report
 //   below    a sensor that sends altitudes in two's complement, some of them below zero
+//   manners  a sensor that breaks rules between fields, and reports that almost break them
 //   crowd    more tracks than a table has entries; it is made for the test only
+//   full     as many breaches of a rule as a line can have; it is made for the test only
 mod document;
+mod manners;
 mod tracks;
 use document::*;
 use std::io::Write;
@@ -61,9 +65,24 @@ fn recording(name: &str) -> Vec<u16> {
         "scan1" => tracks::line(all_forms(), &tracks::SCAN1),
         "scan2" => tracks::line(all_forms(), &tracks::SCAN2),
         "below" => tracks::line(complement_forms(), &tracks::BELOW),
+        "manners" => tracks::line(all_forms(), &manners::MANNERS),
         "crowd" => tracks::crowd(),
+        "full" => manners::full(),
         _ => random_line(name),
     }
+}
+
+// Why a recording is refused as a whole.
+fn refused_whole(bytes: &[u8]) -> Option<u8> {
+    match bytes.len() {
+        length if length > 65536 => Some(2),
+        length if length % 2 == 1 => Some(14),
+        _ => None,
+    }
+}
+
+fn words(bytes: &[u8]) -> Vec<u16> {
+    bytes.chunks_exact(2).map(|word| u16::from_be_bytes([word[0], word[1]])).collect()
 }
 
 // Each run of a line: its place, and what stands there.
@@ -175,6 +194,8 @@ fn main() {
     let bytes = match (&words[1][..], words.get(2).map(String::as_str)) {
         ("track", Some(number)) => tracks::last(forms, number.parse().unwrap(), &files(3)).into_bytes(),
         ("refused", _) => tracks::refused(forms, &files(2)).into_bytes(),
+        ("breaches", Some(name)) => manners::printed(forms, &std::fs::read(name).unwrap()).into_bytes(),
+        ("not-judged", Some(name)) => manners::refused(forms, &std::fs::read(name).unwrap()).into_bytes(),
         (name, None) => recording(name).iter().flat_map(|w| w.to_be_bytes()).collect(),
         (name, Some("printed")) => printed(forms, &recording(name)).into_bytes(),
         (name, Some("heights")) => heights(forms, &recording(name)).into_bytes(),

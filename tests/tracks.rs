@@ -1,7 +1,7 @@
 // Tracks: the sample scans, made from what their reports say, and what examples/track.c must say of any recordings. No table is kept here. All
 // that stands on the recordings is gathered, and the last report of a number is looked for from the end.
 use crate::document::*;
-use crate::{measures, name_of, reason, runs, value, IDLE};
+use crate::{measures, name_of, reason, refused_whole, runs, value, words, IDLE};
 
 // ---- scans
 
@@ -61,7 +61,7 @@ fn bits_of((name, stretches, shown): &Field, value: i64) -> String {
 }
 
 // The words of the first form of that name that has all fields which are said.
-fn words_said(forms: &[Form], said: &str) -> Vec<u16> {
+pub fn words_said(forms: &[Form], said: &str) -> Vec<u16> {
     let has = |form: &Form, name: &str| form.fields.iter().any(|field| field.0 == name);
     let mut forms = forms.iter().filter(|form| form.name == name_of(said));
     let form = forms.find(|form| said.split(' ').skip(1).step_by(2).all(|name| has(form, name)));
@@ -115,12 +115,7 @@ impl Seen {
 fn seen(forms: &[Form], recordings: &[Vec<u8>]) -> Vec<Seen> {
     let mut all = Vec::new();
     for (bytes, scan) in recordings.iter().zip(1..) {
-        let line: Vec<u16> = bytes.chunks_exact(2).map(|word| u16::from_be_bytes([word[0], word[1]])).collect();
-        let found = match bytes.len() {
-            length if length > 65536 => vec![(0, Read::Refused(2, 0))],
-            length if length % 2 == 1 => vec![(0, Read::Refused(14, 0))],
-            _ => runs(forms, &line),
-        };
+        let found = refused_whole(bytes).map_or_else(|| runs(forms, &words(bytes)), |number| vec![(0, Read::Refused(number, 0))]);
         all.extend(found.into_iter().map(|(place, what)| Seen { scan, place, what }));
     }
     all

@@ -1,12 +1,13 @@
 // The refusals: names and numbers, the order in which each call tests them, the places that they name.
 use crate::definitions::{numbered, upper, File, Numbers};
 use crate::page::{plain, table, Findings, Table, PAGE};
-use crate::sources::{cases, words, FRAMES, HEADER, INDEX, NUMBERS, REFUSALS};
+use crate::sources::{cases, words, FRAMES, HEADER, INDEX, MANNERS, NUMBERS, REFUSALS};
 use std::collections::BTreeMap;
 use std::fs::read_to_string;
 
 // Which refusals of a line calls on bytes alone give, the writer alone, and reader and writer both: the others are the reader's. And which
-// refusals of a field are its writer's; which of a frame are the writer's, its own or the reader's too; which of the index are not of finding.
+// refusals of a field are its writer's; which of a frame are the writer's, its own or the reader's too; which of the index are not of finding; and
+// which of a line stand before those of manners.
 const OF_BYTES: [&str; 1] = ["OddByteCount"];
 const OF_WRITING: [&str; 2] = ["ValueTooLarge", "NoRoom"];
 const OF_BOTH: [&str; 2] = ["LineTooLong", "PlaceBeyondLine"];
@@ -14,13 +15,16 @@ const OF_WRITING_FIELDS: [&str; 2] = ["NotWritable", "NoRoom"];
 const OF_WRITING_FRAMES: [&str; 3] = ["CountOrFlag", "WrongLength", "NoRoom"];
 const NOT_OF_READING_FRAMES: [&str; 1] = ["NoRoom"];
 const NOT_OF_FINDING: [&str; 1] = ["TableFull"];
+const BEFORE_LISTING: [&str; 1] = ["LineTooLong"];
 
 // What each call can answer, in the order of the cases of an enum, which is that of the papers' tables.
-fn orders(line: &[(String, u32)], field: &[(String, u32)], frame: &[(String, u32)], index: &[(String, u32)]) -> BTreeMap<String, Vec<u32>> {
+fn orders([line, field, frame, index, manners]: [&[(String, u32)]; 5]) -> BTreeMap<String, Vec<u32>> {
     let pick = |of: &[(String, u32)], asked: &dyn Fn(&str) -> bool| of.iter().filter(|case| asked(&case.0)).map(|case| case.1).collect::<Vec<u32>>();
     let reads = |case: &str| !OF_WRITING.contains(&case) && !OF_BYTES.contains(&case);
     let writes = |case: &str| OF_WRITING.contains(&case) || OF_BOTH.contains(&case);
     let of_bytes = |case: &str| OF_BYTES.contains(&case);
+    let lists = |case: &str| BEFORE_LISTING.contains(&case);
+    let then = |before: Vec<u32>| [before, pick(manners, &|_| true)].concat();
     BTreeMap::from([
         ("reading a line of words".to_string(), pick(line, &reads)),
         ("reading a line of bytes".to_string(), pick(line, &|case| reads(case) || of_bytes(case))),
@@ -32,6 +36,8 @@ fn orders(line: &[(String, u32)], field: &[(String, u32)], frame: &[(String, u32
         ("writing a frame".to_string(), pick(frame, &|case| OF_WRITING_FRAMES.contains(&case))),
         ("entering into the index".to_string(), pick(index, &|_| true)),
         ("finding in the index".to_string(), pick(index, &|case| !NOT_OF_FINDING.contains(&case))),
+        ("listing the breaches of a line of words".to_string(), then(pick(line, &lists))),
+        ("listing the breaches of a line of bytes".to_string(), then(pick(line, &|case| lists(case) || of_bytes(case)))),
     ])
 }
 
@@ -42,6 +48,7 @@ pub fn refusals(page: &[Table], specs: &[File], header: &Numbers, found: &mut Fi
         ("9. Refusals of link data fields", "fieldNumber F.", "FIELD_REFUSAL_", cases(REFUSALS, "FieldRefusal")),
         ("11. Refusals of frames", "frameNumber R.", "FRAME_REFUSAL_", cases(FRAMES, "FrameRefusal")),
         ("12. The index", "indexNumber R.", "INDEX_REFUSAL_", cases(INDEX, "IndexRefusal")),
+        ("13. Manners", "mannersNumber M.", "MANNERS_REFUSAL_", cases(MANNERS, "MannersRefusal")),
     ] {
         let table = table(page, heading, "given when");
         let here = table.numbers("name", "number");
@@ -56,7 +63,7 @@ pub fn refusals(page: &[Table], specs: &[File], header: &Numbers, found: &mut Fi
         ordered.push(cases.iter().map(|case| (case.clone(), number(case))).collect::<Vec<(String, u32)>>());
     }
     conditions(page, found);
-    let there = orders(&ordered[0], &ordered[1], &ordered[2], &ordered[3]);
+    let there = orders([&ordered[0], &ordered[1], &ordered[2], &ordered[3], &ordered[4]]);
     let table = table(page, "The order of refusals", "order");
     let number = |one: &str| one.parse::<u32>().unwrap_or_else(|_| panic!("{PAGE}: '{one}' is no refusal's number"));
     let numbers = |cell: &str| cell.split(", ").map(number).collect::<Vec<u32>>();
@@ -64,7 +71,8 @@ pub fn refusals(page: &[Table], specs: &[File], header: &Numbers, found: &mut Fi
     found.both_ways("the order of", &here, REFUSALS, &there);
     // the calls of C go by bytes, and the header says these orders in full
     let text = read_to_string(HEADER).unwrap().split_whitespace().filter(|word| *word != "*").collect::<Vec<&str>>().join(" ");
-    for call in ["writing into a line of bytes", "reading a link data field", "writing a link data field", "reading a frame", "writing a frame"] {
+    let in_full = ["writing into a line of bytes", "reading a link data field", "writing a link data field", "reading a frame", "writing a frame"];
+    for call in in_full.into_iter().chain(["listing the breaches of a line of bytes"]) {
         let said = there[call].iter().map(|number| number.to_string()).collect::<Vec<String>>().join(", ");
         found.that(text.contains(&format!("the first of {said} whose condition holds")), || format!("the order of {call}: {HEADER} does not say '{said}'"));
     }

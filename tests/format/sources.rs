@@ -18,6 +18,8 @@ pub const FIELDS: &str = "crates/fields/src/lib.rt";
 pub const FRAMES: &str = "crates/frames/src/lib.rt";
 pub const FRAME: &str = "crates/frames/specs/Frame.antt";
 pub const INDEX: &str = "crates/index/src/lib.rt";
+pub const MANNERS: &str = "crates/manners/src/lib.rt";
+pub const RULES: &str = "crates/manners/specs/Rules.antt";
 
 // A file without the lines that are comments.
 pub fn code(path: &str) -> String {
