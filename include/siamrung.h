@@ -19,8 +19,8 @@
  * the wrong form, an altitude v below zero (in hundreds of feet) becomes -2048 - v: -3 becomes -2045. No refusal tells it; only the bits 100000000000
  * are refused in form 0, with 9, and are -2048 in the other form.
  *
- * Threads. No call keeps anything, so any thread may call at any time. But while a call writes into bytes or into a table, no other thread may use
- * them.
+ * Threads. No call keeps anything, so any thread may call at any time. But while a call writes into bytes, into a table or into a list, no other
+ * thread may use them.
  *
  * Writing. The program passes items: a slice of bytes, sixteen bytes an item. The first eight bytes are the item's number, the last eight are its
  * value, high byte first. A negative value is in two's complement of 64 bits, whatever the form is. The items stand in any order. The program passes
@@ -279,7 +279,8 @@ extern "C" {
 /* entering: the report's number is not 0 and not in the table, and the table has no unused entry */
 #define SIAMRUNG_INDEX_REFUSAL_TABLE_FULL 51
 
-/* ---- manners: the rules between fields whose breaches siamrung_manners lists, by the bits and sections of document 004. No run breaks two */
+/* ---- manners: the rules between fields whose breaches siamrung_manners lists, by the bits and sections of document 004 (FAA-RD-80-14). No run
+ * breaks two. The call lists these four and never another: a further rule would get a call of its own */
 
 /* an ATCRBS report with substitution (ATCRBS_CD, ATCRBS_MTD, ATCRBS_RDAS) has bit 5, MODE3A, set (4.2.7) */
 #define SIAMRUNG_BREACH_SUBSTITUTION_MODE3A 1
@@ -297,7 +298,7 @@ extern "C" {
 /* the refusal 52: the list has too few bytes for all breaches. Nothing is written */
 #define SIAMRUNG_MANNERS_REFUSAL_LIST_TOO_SMALL 52
 
-/* no line has more breaches */
+/* no line has more breaches. A list for so many has 4 * 6,553 bytes */
 #define SIAMRUNG_MANNERS_MOST 6553
 
 /*
@@ -630,10 +631,13 @@ uint32_t siamrung_index_find(const siamrung_entry *table, size_t entries, uint32
  * ---- the call of manners: where a sensor breaks rules between fields
  *
  * Document 004 has rules between fields, and reports are accepted either way. The SIAMRUNG_BREACH_ numbers name four of them. A breach is a run that is
- * accepted and breaks one of them. A refused run has no breach, and no run has two. The line is not changed, and other calls answer about it as before.
+ * accepted and breaks one of them. No run has two. The line is not changed, and other calls answer about it as before.
+ *
+ * A refused run has no breach: it is not judged. So a line of refused runs has none. Go over the line with siamrung_kind to see what is refused.
  *
  * A list is a slice of bytes, four bytes a breach: two for the place of the run's first word, two for the rule's number, both high byte first.
- * siamrung_breach_place and siamrung_breach_rule take them out. The breaches stand in the order of their places.
+ * siamrung_breach_place and siamrung_breach_rule take them out. The place can be passed to the calls that read a line. The breaches stand in the order
+ * of their places.
  *
  * An answer has two parts: what was done, and how many breaches the line has. siamrung_manners_done and siamrung_manners_breaches take them out. Do not
  * compare an answer itself with a refusal: take it apart first.
@@ -665,14 +669,14 @@ static inline uint32_t siamrung_breach_rule(const uint8_t *list, size_t k)
 
 /*
  * Lists the breaches of the whole line, from the start of the list on. siamrung_manners_done takes out of the answer the first of 2, 14, 52 whose
- * condition holds, else LISTED. 52 means that the list has fewer than four bytes for each breach of the line. After a refusal every byte of the list is
- * as it was; after LISTED every byte behind the last breach is. A list of 4 * SIAMRUNG_MANNERS_MOST bytes is large enough for every line. A shorter one
- * may be: if it is not, the answer says how many breaches the line has, and the program can lend more. If the line has no breach, an empty list is
- * large enough; it may be NULL with the length 0.
+ * condition holds, else LISTED. 52 means that the list has fewer than four bytes for each breach of the line. After a refusal every byte of the list
+ * is as it was; after LISTED every byte behind the last breach is. A list of 4 * SIAMRUNG_MANNERS_MOST bytes is large enough for every line. With a
+ * shorter one the answer may be 52; it says how many breaches the line has, so that the program can lend enough. To count the breaches alone, pass NULL
+ * and 0 for the list: siamrung_manners_breaches takes the number out, after 52 and, for a line without a breach, after LISTED.
  *
- * Pass the form of the altitude as to the other calls. But the answer and the list are the same in both forms: a run that only one of them accepts,
- * with the bits 100000000000 for the altitude, has no breach. The list must not overlap the line. The work is in proportion to the line: it is read
- * once to count the breaches, and, if there are any, once more to list them, up to the last one.
+ * Pass the form of the altitude as to the other calls. But the answer and the list are the same in both forms: a run that only one of them accepts, with
+ * the bits 100000000000 for the altitude, has no breach. The list must not overlap the line. The work is in proportion to the line: it is read once to
+ * count the breaches, and, if there are any and the list has room, once more to list them, up to the last one.
  */
 uint32_t siamrung_manners(const uint8_t *bytes, size_t length, uint32_t form, uint8_t *list, size_t list_length);
 
