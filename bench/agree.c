@@ -1,6 +1,6 @@
 /*
  * agree.c: both libraries answer the same, on every input that is measured and on many more: broken lines, every place, both forms of the altitude,
- * cut and turned fields, damaged frames, broken tables. A difference is printed and ends the program.
+ * cut and turned fields, damaged frames, broken tables, lists of every room. A difference is printed and ends the program.
  */
 #include <stdio.h>
 #include <stdlib.h>
@@ -567,5 +567,85 @@ unsigned long agree_index(unsigned rounds)
                 plain.index_enter(NULL, 0, b, 64, 0, forms[i], 1), b, 64, 0);
     }
     same("index_find without a table", ours.index_find(NULL, 0, 1), plain.index_find(NULL, 0, 1), NULL, 0, 1);
+    return compared - before;
+}
+
+/* ---- manners: plain C in two passes, and in one */
+
+/* Room for the breaches of any line, and some more. */
+#define LIST (4 * SIAMRUNG_MANNERS_MOST + 16)
+
+/* The breaches listed by all three into so much of a list; the bytes behind them are as they were, and all of them after a refusal. */
+static void same_list(const uint8_t *b, size_t length, uint32_t form, size_t room)
+{
+    static uint8_t before[LIST], x[LIST], y[LIST], z[LIST];
+    uint32_t answer;
+    size_t written = 0;
+
+    memset(before, (int)(rnd() & 255), LIST);
+    memcpy(x, before, LIST);
+    memcpy(y, before, LIST);
+    memcpy(z, before, LIST);
+    answer = ours.manners(b, length, form, x, room);
+    same_in(form, "manners", answer, plain.manners(b, length, form, y, room), b, length, room);
+    same_in(form, "manners in one pass", answer, plain_once.manners(b, length, form, z, room), b, length, room);
+    same_in(form, "breaches listed", memcmp(x, y, LIST) | memcmp(x, z, LIST), 0, b, length, room);
+    if (siamrung_manners_done(answer) == SIAMRUNG_MANNERS_LISTED)
+        written = 4 * siamrung_manners_breaches(answer);
+    same_in(form, "bytes behind the breaches", memcmp(x + written, before + written, LIST - written), 0, b, length, room);
+}
+
+/* No list, lists around the least that is large enough, and larger and smaller ones. */
+static void list_in(const uint8_t *b, size_t length, uint32_t form)
+{
+    size_t at = 0, enough = 4 * siamrung_manners_breaches(plain.manners(b, length, form, NULL, 0));
+
+    SAME_IN(form, manners, b, length, form, NULL, 0);
+    same_list(b, length, form, 0);
+    same_list(b, length, form, enough);
+    same_list(b, length, form, enough + 1);
+    same_list(b, length, form, 4 * SIAMRUNG_MANNERS_MOST);
+    same_list(b, length, form, LIST);
+    if (enough == 0)
+        return;
+    same_list(b, length, form, enough - 1);
+    same_list(b, length, form, enough - 4);
+    same_list(b, length, form, rnd() % enough);
+}
+
+static void list_both(const uint8_t *b, size_t length)
+{
+    list_in(b, length, SIAMRUNG_FORM_SIGN_MAGNITUDE);
+    list_in(b, length, other_form());
+}
+
+unsigned long agree_manners(unsigned rounds)
+{
+    static uint8_t b[MOST_BYTES + 2];
+    fill_line *fills[] = {no_breach, few_breaches, all_breaches, idle_breaches, most_breaches, sevens, fours, full_line, idle_line, long_run,
+                          bad_words, bad_run, mixed_tracks, altitude_tracks};
+    unsigned long before = compared;
+    unsigned i, k;
+
+    for (k = 0; k < sizeof fills / sizeof fills[0]; k++) {
+        for (i = 0; i < 2 * rounds; i++) {
+            size_t n = 1 + rnd() % 400;
+            fills[k](b, n);
+            list_both(b, 2 * n);
+            turn(b, 2 * n, (unsigned)(rnd() % 8) * (unsigned)(n / 32 + 1));
+            list_both(b, 2 * n);
+            list_both(b, 2 * n - 1);
+        }
+        for (i = 0; i < 1 + rounds / 8; i++) {
+            fills[k](b, MOST_BYTES / 2);
+            list_both(b, MOST_BYTES);
+            turn(b, MOST_BYTES, 1 + (unsigned)(rnd() % 256));
+            list_both(b, MOST_BYTES);
+            list_both(b, MOST_BYTES - 2);
+        }
+        list_both(b, MOST_BYTES + 1);
+        list_both(b, MOST_BYTES + 2);
+    }
+    list_both(NULL, 0);
     return compared - before;
 }

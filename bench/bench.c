@@ -1,7 +1,7 @@
 /*
  * bench.c: what the proved library costs beside plain C. It first compares the answers of both on all inputs (agree.c), then runs both
  * alternately on the same inputs and prints, of each job, how many words, fields, frames or reports a second each does and the ratio: below 1
- * the library is the slower one. Plain C reads and writes frames in two ways, and each has its rows.
+ * the library is the slower one. Plain C reads and writes frames in two ways, and lists manners in two, and each has its rows.
  *
  * bench [--small] [--emulated]   compare and measure; --small: once, on little; --emulated: each ratio is marked so, and decides nothing
  * bench --passes                 each job once by each library, through `pass`, for a tool that counts instructions
@@ -17,13 +17,14 @@
 #include "plain_field.h"
 #include "plain_frame.h"
 
-#define SIDE(p, f)                                                                                                                          \
+#define SIDE(p, f, m)                                                                                                                       \
     {p##kind, p##refusal, p##has_values, p##first, p##after, p##named, p##nmi, p##degrees, p##seconds, p##has, p##item, p##write,           \
      p##write_refusal, p##field_refusal, p##field_type, p##field_inner_type, p##field_entries, p##field_text_place, p##field_text_length,   \
      p##field_has, p##field_item, p##field_entry, p##field_write, p##field_write_refusal, f##kind, f##refusal, f##from_sensor, f##control,  \
-     f##place, f##field_count, f##field, f##write, f##write_refusal, p##index_enter, p##index_find}
+     f##place, f##field_count, f##field, f##write, f##write_refusal, p##index_enter, p##index_find, m##manners}
 
-const struct calls ours = SIDE(siamrung_, siamrung_frame_), plain = SIDE(plain_, plain_frame_), plain_bytes = SIDE(plain_, plain_bytes_frame_);
+const struct calls ours = SIDE(siamrung_, siamrung_frame_, siamrung_), plain = SIDE(plain_, plain_frame_, plain_),
+                   plain_bytes = SIDE(plain_, plain_bytes_frame_, plain_), plain_once = SIDE(plain_, plain_frame_, plain_once_);
 
 /* ---- jobs: each takes one pass over its input, and answers a number that depends on all answers */
 
@@ -194,6 +195,16 @@ static uint64_t find_each(const struct calls *c, struct input *in)
     return sum;
 }
 
+/* The breaches of the line, into a list that is large enough for every line. */
+static uint64_t list_manners(const struct calls *c, struct input *in)
+{
+    static uint8_t list[4 * SIAMRUNG_MANNERS_MOST];
+    uint32_t answer = c->manners(in->bytes, in->length, in->form, list, sizeof list);
+    size_t n = siamrung_manners_breaches(answer);
+
+    return n == 0 ? answer : answer + siamrung_breach_place(list, n - 1) * 31 + siamrung_breach_rule(list, n - 1);
+}
+
 /* ---- the table of jobs */
 
 struct row {
@@ -205,7 +216,7 @@ struct row {
     double units, small_units;
 };
 
-static struct row rows[80];
+static struct row rows[96];
 static unsigned row_count;
 static unsigned rounds = 15;
 static double least = 4e-3;
@@ -308,7 +319,7 @@ static void add_field(const char *name, unsigned type, int relayed)
     }
 }
 
-/* A row of frames, beside plain C by bits; add_by_bytes adds the other. */
+/* A row of frames, beside plain C by bits; add_beside adds the other. */
 static struct row *frame_row(const char *what, const char *name, job *run, struct input *large, double units)
 {
     struct row *r = new_row(run, large, units);
@@ -356,16 +367,16 @@ static void add_stream(size_t small, size_t large)
         r->small_units += (double)stream_of(small, &r->small[i])->bits;
 }
 
-/* The rows from the first on once more, beside plain C by bytes. */
-static void add_by_bytes(unsigned first)
+/* The rows from the first on once more, beside plain C that goes another way. */
+static void add_beside(unsigned first, const struct calls *beside, const char *way)
 {
     unsigned i, end = row_count;
 
     for (i = first; i < end; i++) {
         struct row *r = &rows[row_count++];
         *r = rows[i];
-        r->beside = &plain_bytes;
-        strcpy(strrchr(r->name, ':'), ": by bytes");
+        r->beside = beside;
+        strcpy(strrchr(r->name, ':'), way);
     }
 }
 
@@ -415,7 +426,7 @@ static void add_find(size_t entries)
 
 static void make_rows(size_t large)
 {
-    unsigned k, frames;
+    unsigned k, frames, manners;
 
     add_line("full of reports: kind, after", walk, full_line, SHORT_LINE, large);
     add_line("full of reports: every item", record_all, full_line, SHORT_LINE, large);
@@ -433,10 +444,16 @@ static void make_rows(size_t large)
     add_frame("96 bits", 96);
     add_frame("2008 bits", 2008);
     add_stream(SHORT_LINE, large);
-    add_by_bytes(frames);
+    add_beside(frames, &plain_bytes, ": by bytes");
     add_index(tracks_512, 512, SHORT_LINE, large);
     add_index(tracks_16, 16, SHORT_LINE, large);
     add_find(512);
+    manners = row_count;
+    add_line("manners, no breach: two passes", list_manners, no_breach, SHORT_LINE, large);
+    add_line("manners, few breaches: two passes", list_manners, few_breaches, SHORT_LINE, large);
+    add_line("manners, each a breach: two passes", list_manners, all_breaches, SHORT_LINE, large);
+    add_line("manners, mostly idle: two passes", list_manners, idle_breaches, SHORT_LINE, large);
+    add_beside(manners, &plain_once, ": one pass");
 }
 
 /* ---- the clock */
@@ -516,6 +533,17 @@ static void passes(void)
     }
 }
 
+/* Both libraries answer the same; or the program ends. */
+static void compare(unsigned times)
+{
+    printf("same answers: %lu about lines, ", agree_lines(times));
+    printf("%lu about writing, ", agree_writing(times));
+    printf("%lu about fields, ", agree_fields(times));
+    printf("%lu about frames, ", agree_frames(times));
+    printf("%lu about the index, ", agree_index(times));
+    printf("%lu about manners\n", agree_manners(times));
+}
+
 int main(int n, char **words)
 {
     unsigned i, times = 200, once = 0;
@@ -542,11 +570,7 @@ int main(int n, char **words)
         passes();
         return 0;
     }
-    printf("same answers: %lu about lines, ", agree_lines(times));
-    printf("%lu about writing, ", agree_writing(times));
-    printf("%lu about fields, ", agree_fields(times));
-    printf("%lu about frames, ", agree_frames(times));
-    printf("%lu about the index\n", agree_index(times));
+    compare(times);
     printf("millions of words (or fields, frames, bits of a stream, reports entered, numbers found) a second, their ratio, and the cost of a\n"
            "word (or report) on a line of %.0f words to that on lines of %d (or of a bit on streams as long)\n%-40s %10s %10s %7s %9s %9s\n",
            rows[0].units, SHORT_LINE, "", "siamrung", "plain C", "ratio", "siamrung", "plain C");

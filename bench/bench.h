@@ -38,10 +38,12 @@ struct calls {
     uint32_t (*frame_write_refusal)(const uint8_t *, size_t, size_t, size_t, uint32_t, uint8_t, const uint8_t *, size_t, size_t);
     uint32_t (*index_enter)(siamrung_entry *, size_t, const uint8_t *, size_t, size_t, uint32_t, uint32_t);
     uint32_t (*index_find)(const siamrung_entry *, size_t, uint32_t);
+    uint32_t (*manners)(const uint8_t *, size_t, uint32_t, uint8_t *, size_t);
 };
 
-/* plain goes through a frame bit by bit; plain_bytes by bytes and words, and is the same elsewhere. */
-extern const struct calls ours, plain, plain_bytes;
+/* plain goes through a frame bit by bit, and twice through a line for its manners. plain_bytes goes through a frame by bytes and words, plain_once
+ * once through the line; each is the same elsewhere. */
+extern const struct calls ours, plain, plain_bytes, plain_once;
 
 /* ---- inputs (inputs.c): the same on every machine */
 
@@ -73,6 +75,17 @@ fill_line mixed_tracks;
  * are minus zero in sign and magnitude. */
 fill_line altitude_tracks;
 
+/* Lines full of reports, by their manners: none breaks a rule; about one in 64 does, and the last one, so that a second pass goes to the line's end;
+ * each does. And a line that is mostly idle, of which each report does. All four rules are broken. */
+fill_line no_breach, few_breaches, all_breaches, idle_breaches;
+
+/* A line of Maps that each break a rule: as many breaches as a line can have. */
+fill_line most_breaches;
+
+/* Runs of seven words, and of four, each with the next first word of odd parity: 4,096 runs have them all. What the rules look at behind the first
+ * word is random, out of little. */
+fill_line sevens, fours;
+
 /* The file number of a track, counted from 0: no two of the first 4,095 tracks have the same. */
 uint16_t track_number(size_t track);
 
@@ -95,5 +108,6 @@ unsigned long agree_writing(unsigned rounds);
 unsigned long agree_fields(unsigned rounds);
 unsigned long agree_frames(unsigned rounds);
 unsigned long agree_index(unsigned rounds);
+unsigned long agree_manners(unsigned rounds);
 
 #endif

@@ -207,6 +207,144 @@ void altitude_tracks(uint8_t *b, size_t n)
     }
 }
 
+/* ---- manners */
+
+/* Whether the report between the places breaks a rule. */
+static int breaks(const uint8_t *b, size_t place, size_t after)
+{
+    uint32_t answer = plain_manners(b + 2 * place, 2 * (after - place), SIAMRUNG_FORM_SIGN_MAGNITUDE, NULL, 0);
+
+    return siamrung_manners_breaches(answer) != 0;
+}
+
+/* A random report that breaks no rule. Each try begins with idle words, because the one before may have been longer. */
+static size_t put_mannered(uint8_t *b, size_t n, size_t place)
+{
+    size_t after;
+
+    do {
+        idle(b + 2 * place, 8);
+        after = put_report(b, n, place);
+    } while (breaks(b, place, after));
+    return after;
+}
+
+/* A random report of so many kinds from a first one on, that breaks a rule. An ATCRBS without substitution has an altitude of zero. */
+static size_t put_breach(uint8_t *b, size_t n, size_t place, uint32_t first, uint32_t kinds)
+{
+    uint8_t items[MOST_ITEMS];
+    uint32_t kind;
+    size_t after, length;
+
+    do {
+        kind = first + (uint32_t)(rnd() % kinds);
+        length = kind == SIAMRUNG_KIND_ATCRBS ? altitude_items(kind, 0, items) : report_items(kind, items);
+        after = plain_write(b, 2 * n, place, SIAMRUNG_FORM_SIGN_MAGNITUDE, kind, items, length);
+    } while (!breaks(b, place, after));
+    return after;
+}
+
+/* A report that breaks one of the four rules. */
+static size_t put_any_breach(uint8_t *b, size_t n, size_t place)
+{
+    switch (1 + rnd() % 4) {
+    case SIAMRUNG_BREACH_SUBSTITUTION_MODE3A:
+        return put_breach(b, n, place, SIAMRUNG_KIND_ATCRBS_CD, 3);
+    case SIAMRUNG_BREACH_RELAY_WITHOUT_MODE_C:
+        return put_breach(b, n, place, SIAMRUNG_KIND_DABS, 4);
+    case SIAMRUNG_BREACH_MODE_C_ALL_ZEROS:
+        return put_breach(b, n, place, SIAMRUNG_KIND_ATCRBS, 1);
+    default:
+        return put_breach(b, n, place, SIAMRUNG_KIND_MAP, 1);
+    }
+}
+
+void no_breach(uint8_t *b, size_t n)
+{
+    size_t place = 0;
+
+    idle(b, n);
+    while (place + 8 <= n)
+        place = put_mannered(b, n, place);
+}
+
+void few_breaches(uint8_t *b, size_t n)
+{
+    size_t place = 0;
+
+    idle(b, n);
+    while (place + 8 <= n)
+        place = rnd() % 64 == 0 || place + 16 > n ? put_any_breach(b, n, place) : put_mannered(b, n, place);
+}
+
+void all_breaches(uint8_t *b, size_t n)
+{
+    size_t place = 0;
+
+    idle(b, n);
+    while (place + 8 <= n)
+        place = put_any_breach(b, n, place);
+}
+
+void idle_breaches(uint8_t *b, size_t n)
+{
+    size_t place = 0;
+
+    idle(b, n);
+    while (place + 8 <= n)
+        place = put_any_breach(b, n, place) + 64 + rnd() % 128;
+}
+
+void most_breaches(uint8_t *b, size_t n)
+{
+    size_t place = 0;
+
+    idle(b, n);
+    while (place + 5 <= n)
+        place = put_breach(b, n, place, SIAMRUNG_KIND_MAP, 1);
+}
+
+/* Twelve bits and the parity bit. */
+static void put_odd(uint8_t *b, size_t i, unsigned bits)
+{
+    put_word(b, i, bits << 1 | (~(unsigned)__builtin_popcount(bits) & 1));
+}
+
+/* The last word is zero or nearly so, minus zero, or names a radar. Bits 45 and 46, spare in DABS, are mostly zero. */
+void sevens(uint8_t *b, size_t n)
+{
+    static const unsigned last[] = {0, 0, 1, 1024, 2048, 2049, 4, 4, 5, 5, 6, 6, 2, 3};
+    size_t place = 0, i;
+    unsigned first, spare;
+
+    idle(b, n);
+    for (first = (unsigned)rnd(); place + 8 <= n; first++, place += 8) {
+        spare = rnd() % 4 ? 96 : 0;
+        put_odd(b, place, first & 4095);
+        for (i = 1; i < 6; i++)
+            put_odd(b, place + i, (unsigned)rnd() & (i == 3 ? 4095 - spare : 4095));
+        put_odd(b, place + 6, last[rnd() % (sizeof last / sizeof last[0])]);
+    }
+}
+
+/* The last bits of the second word and of the fourth, spare in a Map, are mostly zero. The fourth is below the second by one, the same, or above by
+ * one. */
+void fours(uint8_t *b, size_t n)
+{
+    size_t place = 0;
+    unsigned first, start, stop;
+
+    idle(b, n);
+    for (first = (unsigned)rnd(); place + 5 <= n; first++, place += 5) {
+        start = 1 + (unsigned)(rnd() % 2046);
+        stop = start - 1 + (unsigned)(rnd() % 3);
+        put_odd(b, place, first & 4095);
+        put_odd(b, place + 1, start << 1 | (rnd() % 16 == 0));
+        put_odd(b, place + 2, (unsigned)rnd() & 4095);
+        put_odd(b, place + 3, stop << 1 | (rnd() % 16 == 0));
+    }
+}
+
 /* ---- fields: random bytes, then what is spare or not in use mended */
 
 const unsigned types[21] = {

@@ -7,7 +7,7 @@
 
 #include <siamrung.h>
 
-/* ---- what a read finds, for plain_line.c, plain_index.c and plain_lister.c: one decode of the run, an item at its number */
+/* ---- what a read finds, for plain_line.c, plain_index.c, plain_manners.c and plain_lister.c: one decode of the run, an item at its number */
 
 #define PLAIN_ITEMS 37
 
@@ -62,6 +62,10 @@ uint32_t plain_field_write_refusal(const uint8_t *bytes, size_t length, uint32_t
 uint32_t plain_index_enter(siamrung_entry *table, size_t entries, const uint8_t *bytes, size_t length, size_t place, uint32_t form,
                            uint32_t scan);
 uint32_t plain_index_find(const siamrung_entry *table, size_t entries, uint32_t number);
+
+/* in two passes over the line, and in one */
+uint32_t plain_manners(const uint8_t *bytes, size_t length, uint32_t form, uint8_t *list, size_t list_length);
+uint32_t plain_once_manners(const uint8_t *bytes, size_t length, uint32_t form, uint8_t *list, size_t list_length);
 
 /* ---- shared by the two writers: items as siamrung.h gives them */
 
