@@ -37,6 +37,7 @@ struct input {
     uint8_t list[240];
     siamrung_entry *table;
     size_t entries;
+    size_t room; /* of the list of breaches; 0: enough for every line */
 };
 
 typedef uint64_t job(const struct calls *c, struct input *in);
@@ -195,11 +196,11 @@ static uint64_t find_each(const struct calls *c, struct input *in)
     return sum;
 }
 
-/* The breaches of the line, into a list that is large enough for every line. */
+/* The breaches of the line, into a list that is large enough for every line, or for this one alone. */
 static uint64_t list_manners(const struct calls *c, struct input *in)
 {
     static uint8_t list[4 * SIAMRUNG_MANNERS_MOST];
-    uint32_t answer = c->manners(in->bytes, in->length, in->form, list, sizeof list);
+    uint32_t answer = c->manners(in->bytes, in->length, in->form, list, in->room ? in->room : sizeof list);
     size_t n = siamrung_manners_breaches(answer);
 
     return n == 0 ? answer : answer + siamrung_breach_place(list, n - 1) * 31 + siamrung_breach_rule(list, n - 1);
@@ -291,6 +292,30 @@ static void add_twos_complement(const char *name)
     snprintf(r->name, sizeof r->name, "%s", name);
     r->small = in_twos_complement(r->small, r->pieces);
     r->large = in_twos_complement(r->large, 1);
+}
+
+/* The same inputs, each with a list that has just enough room. */
+static struct input *with_exact_lists(const struct input *from, unsigned pieces)
+{
+    struct input *to = malloc(pieces * sizeof *to);
+    unsigned i;
+
+    for (i = 0; i < pieces; i++) {
+        to[i] = from[i];
+        to[i].room = 4 * siamrung_manners_breaches(plain_manners(from[i].bytes, from[i].length, from[i].form, NULL, 0));
+    }
+    return to;
+}
+
+/* A row once more, on the same lines. */
+static void add_exact(const char *name, const struct row *of)
+{
+    struct row *r = &rows[row_count++];
+
+    *r = *of;
+    snprintf(r->name, sizeof r->name, "%s", name);
+    r->small = with_exact_lists(r->small, r->pieces);
+    r->large = with_exact_lists(r->large, 1);
 }
 
 static void add_field(const char *name, unsigned type, int relayed)
@@ -448,11 +473,13 @@ static void make_rows(size_t large)
     add_index(tracks_512, 512, SHORT_LINE, large);
     add_index(tracks_16, 16, SHORT_LINE, large);
     add_find(512);
+    add_line("manners, no breach", list_manners, no_breach, SHORT_LINE, large);
+    add_line("manners, few breaches", list_manners, few_breaches, SHORT_LINE, large);
+    add_line("manners, each a breach", list_manners, all_breaches, SHORT_LINE, large);
+    add_line("manners, mostly idle", list_manners, idle_breaches, SHORT_LINE, large);
     manners = row_count;
-    add_line("manners, no breach: two passes", list_manners, no_breach, SHORT_LINE, large);
-    add_line("manners, few breaches: two passes", list_manners, few_breaches, SHORT_LINE, large);
-    add_line("manners, each a breach: two passes", list_manners, all_breaches, SHORT_LINE, large);
-    add_line("manners, mostly idle: two passes", list_manners, idle_breaches, SHORT_LINE, large);
+    add_exact("manners, each a breach, exact list: two passes", &rows[manners - 2]);
+    add_exact("manners, few breaches, exact list: two passes", &rows[manners - 3]);
     add_beside(manners, &plain_once, ": one pass");
 }
 

@@ -41,8 +41,8 @@ struct calls {
     uint32_t (*manners)(const uint8_t *, size_t, uint32_t, uint8_t *, size_t);
 };
 
-/* plain goes through a frame bit by bit, and twice through a line for its manners. plain_bytes goes through a frame by bytes and words, plain_once
- * once through the line; each is the same elsewhere. */
+/* plain goes through a frame bit by bit, and twice through a line for its manners if the list may be too small. plain_bytes goes through a frame by
+ * bytes and words, plain_once once through the line; each is the same elsewhere. */
 extern const struct calls ours, plain, plain_bytes, plain_once;
 
 /* ---- inputs (inputs.c): the same on every machine */

@@ -1,7 +1,7 @@
 /*
  * plain_manners.c: the manners of a line by hand, over the reader of plain_line.c: one decode of each run in a pass, and a switch on its kind.
- * It is there twice. One counts in a pass and writes in a second, as the library does. The other lists in one pass, on the stack, and copies the
- * list: in C that is as easy, and faster.
+ * It is there twice. One writes at once if the list has room for as many breaches as the line can have; else it counts in a pass and writes in a
+ * second. So does the library. The other lists in one pass, on the stack, and copies the list: in C that is as easy, and faster if the list is small.
  * Nothing is proved of it; bench.c compares its answers with the library's.
  */
 #include <string.h>
@@ -69,7 +69,7 @@ static uint32_t answer(uint32_t done, size_t breaches)
     return done + 256 * (uint32_t)breaches;
 }
 
-/* The second pass ends at the last breach. */
+/* A breach takes five words. The second pass ends at the last breach. */
 uint32_t plain_manners(const uint8_t *bytes, size_t length, uint32_t form, uint8_t *list, size_t list_length)
 {
     uint32_t refusal = line_refusal(length);
@@ -77,6 +77,8 @@ uint32_t plain_manners(const uint8_t *bytes, size_t length, uint32_t form, uint8
 
     if (refusal != SIAMRUNG_REFUSAL_NONE)
         return refusal;
+    if (list_length / 4 >= (length / 2 + 1) / 5)
+        return answer(SIAMRUNG_MANNERS_LISTED, go_through(bytes, length, form, list, SIAMRUNG_MANNERS_MOST));
     n = go_through(bytes, length, form, NULL, SIAMRUNG_MANNERS_MOST);
     if (list_length / 4 < n)
         return answer(SIAMRUNG_MANNERS_REFUSAL_LIST_TOO_SMALL, n);

@@ -675,8 +675,8 @@ static inline uint32_t siamrung_breach_rule(const uint8_t *list, size_t k)
  * and 0 for the list: siamrung_manners_breaches takes the number out, after 52 and, for a line without a breach, after LISTED.
  *
  * Pass the form of the altitude as to the other calls. But the answer and the list are the same in both forms: a run that only one of them accepts, with
- * the bits 100000000000 for the altitude, has no breach. The list must not overlap the line. The work is in proportion to the line: it is read once to
- * count the breaches, and, if there are any and the list has room, once more to list them, up to the last one.
+ * the bits 100000000000 for the altitude, has no breach. The list must not overlap the line. The work is in proportion to the line. It is read once if
+ * the list has four bytes for each five words of the line, for it cannot have more breaches; else once to count them, and once more to list them.
  */
 uint32_t siamrung_manners(const uint8_t *bytes, size_t length, uint32_t form, uint8_t *list, size_t list_length);
 

@@ -103,6 +103,14 @@ gives-all {to} {needed} {list} {exit} e n l = record {
   leaves = l ∙ ap (λ (i : ℕ). needed ++ drop i list) (sym n) ∙ sym (ap (λ (x : Listed). leftBy x needed list) e);
 }
 
+-- nothing is needed, and nothing is stored
+pub gives-none : {to : Listed} {needed list : List ℕ} → to ≡ L.Breaches 0 → length needed ≡ 0 → Gives to needed list (L.Breaches 0) list
+gives-none {to} {needed} {list} e n = gives-all e n (ap (λ (l : List ℕ). l ++ list) (sym (none needed n)))
+  where
+    none : (l : List ℕ) → length l ≡ 0 → l ≡ []
+    none [] z = refl
+    none (x ∷ l) z = absurd (omega arith)
+
 pub behind-stays : BehindStays
 behind-stays n needed list h =
     let d = length-drop (length needed) list in (

@@ -2,12 +2,9 @@
 use Prim.Native.Nat.{ℕ, _+_, _%_, _≤_, _<_}
 use mathlib.Core.Path.{_≡_, refl, ap, sym, _∙_, subst}
 use mathlib.Core.List.{List, [], _∷_, _++_}
-use mathlib.Core.Bool.{Bool, true, false}
 use mathlib.Core.Logic.{⊎-elim}
 use native.Mathlib.Omega.{arith}
-use lib.Dec.{eqb}
 use lib.ListN.{length, length-append}
-use borrow.Author.Tests.{eqb-true, eqb-false}
 use Rattle.reports.specs.declared.altitude.Form.{Form}
 use Rattle.reports.specs.Altitude.{formOf}
 use Rattle.reports.specs.Runs.{readRun}
@@ -69,9 +66,14 @@ byte-step f bytes place o m even h e =
     step f (wordsIn bytes) place o (omega arith) h (e ∙ bytes-as-words (formOf f) bytes place (reportOf (formOf f) []) m even .0)
 
 -- behind the last word none is left
-pub none-behind : (f : Form) (line : List ℕ) → breachesAt (formOf f) line (length line) ≡ []
+none-behind : (f : Form) (line : List ℕ) → breachesAt (formOf f) line (length line) ≡ []
 unfolding gathered
 none-behind f line = ap (gathered (breachesOf (formOf f))) (none-left line)
+
+pub none-from : (f : Form) (line : List ℕ) (place : ℕ) → place ≤ length line → length line ≤ place → length (breachesAt (formOf f) line place) ≡ 0
+none-from f line place h l =
+    let e : place ≡ length line = omega arith in
+    ap (λ (p : ℕ). length (breachesAt (formOf f) line p)) e ∙ ap length (none-behind f line)
 
 -- ---- counting
 
@@ -98,21 +100,9 @@ counted-more {f} {line} {place} {k} {j} {o} {x} c h s found count =
 
 pub counted-all : {f : Form} {line : List ℕ} {place k : ℕ} → Counted f line place k → length line ≤ place → k ≡ length (breaches (formOf f) line)
 counted-all {f} {line} {place} {k} c h =
-    let i = c .inside in
-    let e : place ≡ length line = omega arith in
-    let n : length (breachesAt (formOf f) line place) ≡ 0 = ap (λ (p : ℕ). length (breachesAt (formOf f) line p)) e ∙ ap length (none-behind f line) in
+    let n = none-from f line place (c .inside) h in
     let t = c .together in
     omega arith
-
--- where some are left the line goes on
-pub some-left : (f : Form) (line : List ℕ) (place : ℕ) → place ≤ length line → 0 < length (breachesAt (formOf f) line place) → place < length line
-some-left f line place h l =
-    by-place (eqb place (length line)) refl
-  where
-    by-place : (b : Bool) → eqb place (length line) ≡ b → place < length line
-    by-place true e =
-        absurd (let n : length (breachesAt (formOf f) line place) ≡ 0 = ap (λ (p : ℕ). length (breachesAt (formOf f) line p)) (eqb-true place (length line) e) ∙ ap length (none-behind f line) in omega arith)
-    by-place false e = let d = eqb-false place (length line) e in omega arith
 
 -- what an outcome brings is among those that are left
 pub among-left : {f : Form} {line : List ℕ} {place : ℕ} {o : Outcome} {x : Found} → Step f line place o → x ≡ foundIn (o .what)

@@ -1,6 +1,6 @@
-// The manners of a line that is lent as bytes, two a word, high byte first. The list is bytes too: four a breach. Relies on line_reader for the
-// outcome at a place, rules for the rule that a report breaks. The line is gone through once to count, and, if there is a breach, once more up to the
-// last one to write.
+// The manners of a line that is lent as bytes, two a word, high byte first. The list is bytes too: four a breach.
+// Relies on line_reader for the outcome at a place, rules for the rule that a report breaks. The line is gone through once if the list has room for as
+// many breaches as the line can have, or if there is none; else once to count and once to write.
 ghost use mathlib.Core.Path.{_≡_};
 ghost use mathlib.Core.List.{[], _∷_, _++_};
 ghost use Prim.Native.Nat.{_+_, _*_, _%_, _≤_, _<_};
@@ -14,6 +14,7 @@ ghost use Rattle.manners.specs.Steps.{countOf};
 use crate::Found;
 use crate::Listed;
 use crate::MannersRefusal;
+use crate::most_in;
 use crate::rules;
 use line_reader::bytes;
 use lines::MOST_BYTES;
@@ -65,17 +66,18 @@ fn put(list: &mut [u8], k: usize, place: usize, found: Found) -> usize
     }
 }
 
-// All breaches of the line, so many, into the list.
-fn fill(line: &[u8], form: Form, list: &mut [u8], all: usize)
+// All breaches of the line into the list, which has room for them. Answers how many there are.
+fn fill(line: &[u8], form: Form, list: &mut [u8]) -> usize
     requires { ⌜ (length (now line) ≤ mostBytes)
         × (length (now line) % 2 ≡ 0)
-        × (all ≡ length (breaches (formOf form) (wordsIn (now line))))
-        × (all * 4 ≤ length (now list)) ⌝ }
-    ensures { λ _. ⌜ now (list .exit) ≡ bytesOf (numbersOf (breaches (formOf form) (wordsIn (now (line .entry))))) ++ drop (all * 4) (now (list .entry)) ⌝ }
+        × (length (breaches (formOf form) (wordsIn (now line))) * 4 ≤ length (now list)) ⌝ }
+    ensures { λ r. ⌜ (r ≡ length (breaches (formOf form) (wordsIn (now (line .entry)))))
+        × (now (list .exit) ≡ bytesOf (numbersOf (breaches (formOf form) (wordsIn (now (line .entry))))) ++ drop (r * 4) (now (list .entry))) ⌝ }
 {
+    let n = line.len() / 2;
     let mut place: usize = 0;
     let mut k: usize = 0;
-    while k < all {
+    while place < n {
         let o = bytes::read(line, place, form);
         let what = o.what;
         let first = o.first;
@@ -84,9 +86,11 @@ fn fill(line: &[u8], form: Form, list: &mut [u8], all: usize)
         k = put(list, k, first, found);
         place = after;
     }
+    k
 }
 
-// The breaches of a line, from the start of the list on; altitudes are read in the form.
+// The breaches of a line, from the start of the list on; altitudes are read in the form. Where the list has room for as many as the line can have,
+// nothing has to be counted first.
 pub fn list(line: &[u8], form: Form, list: &mut [u8]) -> Listed
     ensures { λ r. ⌜ ListsBytes (formOf form) (now (line .entry)) (now (list .entry)) r (now (list .exit)) ⌝ }
 {
@@ -96,10 +100,17 @@ pub fn list(line: &[u8], form: Form, list: &mut [u8]) -> Listed
     if line.len() % 2 == 1 {
         return Listed::LineRefused(LineRefusal::OddByteCount);
     }
+    if most_in(line.len() / 2) <= list.len() / 4 {
+        let k = fill(line, form, list);
+        return Listed::Breaches(k);
+    }
     let all = count(line, form);
     if list.len() / 4 < all {
         return Listed::Refused(MannersRefusal::ListTooSmall, all);
     }
-    fill(line, form, list, all);
-    Listed::Breaches(all)
+    if all == 0 {
+        return Listed::Breaches(0);
+    }
+    let k = fill(line, form, list);
+    Listed::Breaches(k)
 }

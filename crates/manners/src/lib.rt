@@ -1,13 +1,23 @@
 // A sensor's manners (document 02, Ticket 6): rules between fields that are accepted either way. Over a whole line, the list of the runs that break
-// one, each with its place. Here are the rules by name, the refusal, and what a call answers. Relies on line_reader for the outcome at a place;
-// specs/Listing.antt says what a call answers and what the list then holds.
+// one, each with its place. Here are the rules by name, the refusal, and what a call answers.
+// Relies on line_reader for the outcome at a place; specs/Listing.antt says what a call answers and what the list then holds.
 ghost use mathlib.Core.Path.{_≡_};
+ghost use Prim.Native.Nat.{_+_, _/_, _≤_};
+ghost use Rattle.lines.specs.Line.{most};
 ghost use Rattle.manners.specs.Numbers.{ruleNumber, mannersNumber};
 use refusals::LineRefusal;
 
 pub mod bytes; // bytes.rt: a line lent as bytes, the list as bytes
 mod rules; // rules.rt: the rule that a record breaks
 pub mod wide; // wide.rt: a line lent as 16-bit numbers, the list as such numbers
+
+// The most breaches that a line of so many words can have: each takes four words at least, and an idle word stands between two runs.
+fn most_in(words: usize) -> usize
+    requires { ⌜ words ≤ most ⌝ }
+    ensures { λ r. ⌜ r ≡ (words + 1) / 5 ⌝ }
+{
+    (words + 1) / 5
+}
 
 // The rules, in the order of document 02. specs/Rules.antt says each by the printed bits.
 pub enum Rule {

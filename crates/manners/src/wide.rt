@@ -1,6 +1,6 @@
-// The manners of a line that is lent as 16-bit numbers, a word each. The list has two such numbers a breach. Relies on line_reader for the outcome at
-// a place, rules for the rule that a report breaks. The line is gone through once to count, and, if there is a breach, once more up to the last one
-// to write.
+// The manners of a line that is lent as 16-bit numbers, a word each. The list has two such numbers a breach.
+// Relies on line_reader for the outcome at a place, rules for the rule that a report breaks. The line is gone through once if the list has room for as
+// many breaches as the line can have, or if there is none; else once to count and once to write.
 ghost use mathlib.Core.Path.{_≡_};
 ghost use mathlib.Core.List.{[], _∷_, _++_};
 ghost use Prim.Native.Nat.{_+_, _*_, _≤_, _<_};
@@ -14,6 +14,7 @@ ghost use Rattle.manners.specs.Steps.{countOf};
 use crate::Found;
 use crate::Listed;
 use crate::MannersRefusal;
+use crate::most_in;
 use crate::rules;
 use line_reader::wide;
 use lines::MOST;
@@ -62,14 +63,15 @@ fn put(list: &mut [u16], k: usize, place: usize, found: Found) -> usize
     }
 }
 
-// All breaches of the line, so many, into the list.
-fn fill(line: &[u16], form: Form, list: &mut [u16], all: usize)
-    requires { ⌜ (length (now line) ≤ most) × (all ≡ length (breaches (formOf form) (now line))) × (all * 2 ≤ length (now list)) ⌝ }
-    ensures { λ _. ⌜ now (list .exit) ≡ numbersOf (breaches (formOf form) (now (line .entry))) ++ drop (all * 2) (now (list .entry)) ⌝ }
+// All breaches of the line into the list, which has room for them. Answers how many there are.
+fn fill(line: &[u16], form: Form, list: &mut [u16]) -> usize
+    requires { ⌜ (length (now line) ≤ most) × (length (breaches (formOf form) (now line)) * 2 ≤ length (now list)) ⌝ }
+    ensures { λ r. ⌜ (r ≡ length (breaches (formOf form) (now (line .entry))))
+        × (now (list .exit) ≡ numbersOf (breaches (formOf form) (now (line .entry))) ++ drop (r * 2) (now (list .entry))) ⌝ }
 {
     let mut place: usize = 0;
     let mut k: usize = 0;
-    while k < all {
+    while place < line.len() {
         let o = wide::read(line, place, form);
         let what = o.what;
         let first = o.first;
@@ -78,19 +80,28 @@ fn fill(line: &[u16], form: Form, list: &mut [u16], all: usize)
         k = put(list, k, first, found);
         place = after;
     }
+    k
 }
 
-// The breaches of a line, from the start of the list on; altitudes are read in the form.
+// The breaches of a line, from the start of the list on; altitudes are read in the form. Where the list has room for as many as the line can have,
+// nothing has to be counted first.
 pub fn list(line: &[u16], form: Form, list: &mut [u16]) -> Listed
     ensures { λ r. ⌜ Lists (formOf form) (now (line .entry)) (now (list .entry)) r (now (list .exit)) ⌝ }
 {
     if MOST < line.len() {
         return Listed::LineRefused(LineRefusal::LineTooLong);
     }
+    if most_in(line.len()) <= list.len() / 2 {
+        let k = fill(line, form, list);
+        return Listed::Breaches(k);
+    }
     let all = count(line, form);
     if list.len() / 2 < all {
         return Listed::Refused(MannersRefusal::ListTooSmall, all);
     }
-    fill(line, form, list, all);
-    Listed::Breaches(all)
+    if all == 0 {
+        return Listed::Breaches(0);
+    }
+    let k = fill(line, form, list);
+    Listed::Breaches(k)
 }

@@ -1,6 +1,6 @@
 // The call of a C program for manners (document 02, Ticket 6): byte slices and a number in, one number out. include/siamrung.h says what it means to
-// the caller; the call keeps nothing, and writes nothing but the list. Relies on manners for the answer and the list; specs/Calls.antt says what the
-// call answers.
+// the caller; the call keeps nothing, and writes nothing but the list.
+// Relies on manners for the answer and the list; specs/Calls.antt says what the call answers.
 ghost use mathlib.Core.Path.{_≡_};
 ghost use Prim.Native.Nat.{_≤_, _<_};
 ghost use Rattle.reports.specs.Altitude.{chosen};

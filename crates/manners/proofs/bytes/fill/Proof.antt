@@ -1,7 +1,7 @@
 -- `manners::bytes::fill` meets its contract: each outcome brings its breaches, and they are stored behind those before. Assumes nothing.
-use Prim.Native.Nat.{ℕ, _+_, _*_, _-_, _≤_, _<_}
-use mathlib.Core.Path.{_≡_, ap, sym, _∙_}
-use mathlib.Core.List.{List, _++_}
+use Prim.Native.Nat.{ℕ, _*_, _-_, _≤_}
+use mathlib.Core.Path.{_≡_, ap, _∙_}
+use mathlib.Core.List.{_++_}
 use lib.ListN.{length, drop}
 use Rattle.reports.specs.Altitude.{formOf}
 use Rattle.lines.specs.Bytes.{wordsIn, bytesOf}
@@ -9,18 +9,18 @@ use Rattle.lines.proofs.ByteWords.{words-length}
 use Rattle.manners.specs.Breaches.{breaches, numbersOf}
 use Rattle.manners.specs.Steps.{breachesAt, Filling}
 use Rattle.manners.proofs.Stored.{as-bytes, begun, more-found, full}
-use Rattle.manners.proofs.Gathered.{byte-step, some-left, among-left}
+use Rattle.manners.proofs.Gathered.{byte-step, none-from, among-left}
 use borrow.Author.Needs.{needs}
 use native.Mathlib.Omega.{arith}
 use Rattle.manners.proofs.bytes.fill.Statement.{statement}
 use Rattle.manners.proofs.bytes.fill.Tie as tie
 
 abbrev Inv-loop : tie.InvT-loop
-Inv-loop line form list₀ all place₀ k₀ list place k =
+Inv-loop line form list₀ n place₀ k₀ list place k =
     (place ≤ length (wordsIn line)) × Filling (λ bs. bytesOf (numbersOf bs)) 4 (breaches (formOf form) (wordsIn line)) (breachesAt (formOf form) (wordsIn line) place) list₀ k list
 
 abbrev μ-loop : tie.MeasureT-loop
-μ-loop line form list₀ all place₀ k₀ list place k = length (wordsIn line) - place
+μ-loop line form list₀ n place₀ k₀ list place k = length (wordsIn line) - place
 
 loop-holds : tie.Need-loop-holds Inv-loop μ-loop
 loop-holds c = (omega arith, begun as-bytes)
@@ -44,9 +44,8 @@ loop-less c =
     let l = p .before .before .before .before .loop in
     let a = p .before .before .before .before .before .before .before .args in
     let r = p .before .before .read in
-    let s = byte-step (a .form) (a .line .now) (l .place) (r .result) (omega arith) (omega arith) (l .inv .0) (r .ensures) in
-    let counted = l .inv .1 .counted in
-    let on = s .onward (some-left (a .form) (wordsIn (a .line .now)) (l .place) (l .inv .0) (omega arith)) in
+    let n = words-length (a .line .now) in
+    let on = byte-step (a .form) (a .line .now) (l .place) (r .result) (omega arith) (omega arith) (l .inv .0) (r .ensures) .onward (omega arith) in
     omega arith
 
 loop-again : tie.Need-loop-again Inv-loop μ-loop
@@ -71,9 +70,9 @@ returns c =
     let l = c .before .loop in
     let a = c .before .before .before .before .args in
     let counted = l .inv .1 .counted in
-    let e : l .k ≡ a .all = omega arith in
-    full as-bytes (l .inv .1) (omega arith)
-    ∙ ap (λ (k : ℕ). bytesOf (numbersOf (breaches (formOf (a .form)) (wordsIn (a .line .now)))) ++ drop (k * 4) (a .list .now)) e
+    let n = words-length (a .line .now) in
+    let none = none-from (a .form) (wordsIn (a .line .now)) (l .place) (l .inv .0) (omega arith) in
+    (omega arith, full as-bytes (l .inv .1) none)
 
 pub fill-spec : {M : Type 1} → statement M
 fill-spec =

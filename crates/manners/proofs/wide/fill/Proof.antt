@@ -1,24 +1,24 @@
 -- `manners::wide::fill` meets its contract: each outcome brings its breaches, and they are stored behind those before. Assumes nothing.
-use Prim.Native.Nat.{ℕ, _+_, _*_, _-_, _≤_, _<_}
-use mathlib.Core.Path.{_≡_, ap, sym, _∙_}
-use mathlib.Core.List.{List, _++_}
+use Prim.Native.Nat.{ℕ, _*_, _-_, _≤_}
+use mathlib.Core.Path.{_≡_, ap, _∙_}
+use mathlib.Core.List.{_++_}
 use lib.ListN.{length, drop}
 use Rattle.reports.specs.Altitude.{formOf}
 use Rattle.manners.specs.Breaches.{breaches, numbersOf}
 use Rattle.manners.specs.Steps.{breachesAt, Filling}
 use Rattle.manners.proofs.Stored.{as-numbers, begun, more-found, full}
-use Rattle.manners.proofs.Gathered.{step, some-left, among-left}
+use Rattle.manners.proofs.Gathered.{step, none-from, among-left}
 use borrow.Author.Needs.{needs}
 use native.Mathlib.Omega.{arith}
 use Rattle.manners.proofs.wide.fill.Statement.{statement}
 use Rattle.manners.proofs.wide.fill.Tie as tie
 
 abbrev Inv-loop : tie.InvT-loop
-Inv-loop line form list₀ all place₀ k₀ list place k =
+Inv-loop line form list₀ place₀ k₀ list place k =
     (place ≤ length line) × Filling numbersOf 2 (breaches (formOf form) line) (breachesAt (formOf form) line place) list₀ k list
 
 abbrev μ-loop : tie.MeasureT-loop
-μ-loop line form list₀ all place₀ k₀ list place k = length line - place
+μ-loop line form list₀ place₀ k₀ list place k = length line - place
 
 loop-holds : tie.Need-loop-holds Inv-loop μ-loop
 loop-holds c = (omega arith, begun as-numbers)
@@ -41,9 +41,7 @@ loop-less c =
     let l = p .before .before .before .before .loop in
     let a = p .before .before .before .before .before .before .before .args in
     let r = p .before .before .read in
-    let s = step (a .form) (a .line .now) (l .place) (r .result) (omega arith) (l .inv .0) (r .ensures) in
-    let counted = l .inv .1 .counted in
-    let on = s .onward (some-left (a .form) (a .line .now) (l .place) (l .inv .0) (omega arith)) in
+    let on = step (a .form) (a .line .now) (l .place) (r .result) (omega arith) (l .inv .0) (r .ensures) .onward (omega arith) in
     omega arith
 
 loop-again : tie.Need-loop-again Inv-loop μ-loop
@@ -68,9 +66,8 @@ returns c =
     let l = c .before .loop in
     let a = c .before .before .before .before .args in
     let counted = l .inv .1 .counted in
-    let e : l .k ≡ a .all = omega arith in
-    full as-numbers (l .inv .1) (omega arith)
-    ∙ ap (λ (k : ℕ). numbersOf (breaches (formOf (a .form)) (a .line .now)) ++ drop (k * 2) (a .list .now)) e
+    let none = none-from (a .form) (a .line .now) (l .place) (l .inv .0) (omega arith) in
+    (omega arith, full as-numbers (l .inv .1) none)
 
 pub fill-spec : {M : Type 1} → statement M
 fill-spec =

@@ -6,7 +6,8 @@ use Rattle.manners.specs.declared.Listed.the-variants as L
 use Rattle.manners.specs.declared.MannersRefusal.the-variants.{ListTooSmall}
 use Rattle.manners.specs.Breaches.{breaches}
 use Rattle.manners.proofs.Stored.{as-numbers}
-use Rattle.manners.proofs.Answered.{long, small, enough, gives-refusal, gives-all}
+use Rattle.manners.proofs.Answered.{long, small, enough, gives-refusal, gives-none, gives-all}
+use Rattle.manners.proofs.Exactly.{no-more}
 use borrow.Author.Needs.{needs}
 use native.Mathlib.Omega.{arith}
 use Rattle.manners.proofs.wide.list.Statement.{statement}
@@ -15,22 +16,57 @@ use Rattle.manners.proofs.wide.list.Tie as tie
 returns : tie.Need-returns
 returns c = gives-refusal (long _ _ _ (c .if1 .taken)) refl
 
+-- a list with room for as many as the line can have has room for all
+fill-requires : tie.Need-fill-requires
+fill-requires c κs =
+    let a = c .before .before .before .before .before .before .args in
+    let most = no-more (formOf (a .form)) (a .line .now) .0 in
+    (omega arith, omega arith)
+
 returns-2 : tie.Need-returns-2
 returns-2 c =
-    let a = c .before .before .before .before .before .args in
-    let e = c .before .count .ensures in
-    gives-refusal (small (formOf (a .form)) (a .line .now) _ (omega arith) (omega arith) ∙ sym (ap (L.Refused ListTooSmall) e)) refl
+    let f = c .before .before .fill .ensures in
+    let a = c .before .before .before .before .before .before .before .before .before .args in
+    let most = no-more (formOf (a .form)) (a .line .now) .0 in
+    gives-all
+    (enough (formOf (a .form)) (a .line .now) _ (omega arith) (omega arith) ∙ sym (ap L.Breaches (f .0)))
+    (as-numbers .each (breaches (formOf (a .form)) (a .line .now)) ∙ ap (λ (n : ℕ). n * 2) (sym (f .0)))
+    (f .1)
 
 returns-3 : tie.Need-returns-3
 returns-3 c =
-    let k = c .before .before .before .before .before in
-    let a = k .before .before .before .before .args in
-    let e = k .count .ensures in
+    let a = c .before .before .before .before .before .before .before .args in
+    let e = c .before .count .ensures in
+    gives-refusal (small (formOf (a .form)) (a .line .now) _ (omega arith) (omega arith) ∙ sym (ap (L.Refused ListTooSmall) e)) refl
+
+returns-4 : tie.Need-returns-4
+returns-4 c =
+    let a = c .before .before .before .before .before .before .before .before .args in
+    let e = c .before .before .count .ensures in
+    let n = as-numbers .each (breaches (formOf (a .form)) (a .line .now)) in
+    gives-none (enough (formOf (a .form)) (a .line .now) _ (omega arith) (omega arith) ∙ ap L.Breaches (sym e ∙ c .if4 .taken)) (omega arith)
+
+returns-5 : tie.Need-returns-5
+returns-5 c =
+    let f = c .before .before .fill2 .ensures in
+    let a = c .before .before .before .before .before .before .before .before .before .before .before .before .args in
     gives-all
-    (enough (formOf (a .form)) (a .line .now) _ (omega arith) (omega arith) ∙ sym (ap L.Breaches e))
-    (as-numbers .each (breaches (formOf (a .form)) (a .line .now)) ∙ ap (λ (n : ℕ). n * 2) (sym e))
-    (c .before .before .fill .ensures)
+    (enough (formOf (a .form)) (a .line .now) _ (omega arith) (omega arith) ∙ sym (ap L.Breaches (f .0)))
+    (as-numbers .each (breaches (formOf (a .form)) (a .line .now)) ∙ ap (λ (n : ℕ). n * 2) (sym (f .0)))
+    (f .1)
 
 pub list-spec : {M : Type 1} → statement M
 list-spec =
-    tie.close (tie.spec returns (λ c κs. search needs) returns-2 (λ c κs. search needs) (λ c. search needs) returns-3)
+    tie.close
+    (tie.spec
+    returns
+    (λ c κs. search needs)
+    fill-requires
+    (λ c. search needs)
+    returns-2
+    (λ c κs. search needs)
+    returns-3
+    returns-4
+    (λ c κs. search needs)
+    (λ c. search needs)
+    returns-5)
