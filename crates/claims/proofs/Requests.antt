@@ -15,7 +15,7 @@ use Rattle.manners.proofs.Answered as answered
 use Rattle.manners.proofs.Broken as broken
 use Rattle.manners.proofs.Exactly as exactly
 use Rattle.manners.proofs.Worked.{worked}
-use Rattle.claims.specs.Requests.{ReadAndWriteThem, FlagsAndIdle, PlacesAnswered, TheWriter, TheirOwnRoundTrip, FrameRefusals, Ticket1, OneSegmentAccepted, UplinkKeepsItsMinimum, RefusalsLoseThisCase, TakesReportsWithANumber, EntersAndReplaces, EqualsTheOneWorkedOutAfresh, IndexRefusals, CountsTheOnes, ItsPromiseStays, TheFormAsAnInput, RangeAndPatterns, RefusalsOfAltitudes, TheRules, ExactlyTheBreaches, StaysAccepted, MannersRefusals, Requests}
+use Rattle.claims.specs.Requests.{ReadAndWriteThem, FlagsAndIdle, PlacesAnswered, TheWriter, TheirOwnRoundTrip, FrameRefusals, Ticket1, OneSegmentAccepted, UplinkKeepsItsMinimum, RefusalsLoseThisCase, TakesReportsWithANumber, EntersAndReplaces, EqualsTheOneWorkedOutAfresh, IndexRefusals, CountsTheOnes, ItsPromiseStays, TheFormAsAnInput, RangeAndPatterns, RefusalsOfAltitudes, TheRules, ExactlyTheBreaches, StaysAccepted, MannersRefusals, OneAnswerOneList, Requests}
 use Rattle.claims.proofs.Numbers.{numbers-differ, no-number-is-zero}
 use Rattle.claims.proofs.OneSegment as segment
 use Rattle.claims.proofs.Folds.{folds-answer-the-same}
@@ -185,7 +185,7 @@ rules = record {
   found = broken.found-exactly;
   one = broken.at-most-one;
   one-of-record = broken.at-most-one-of-record;
-  numbers = broken.rules-differ;
+  numbers = exactly.rules-numbered;
   worked = worked;
 }
 
@@ -202,10 +202,15 @@ exactly-the-breaches = record {
 
 stays-accepted : StaysAccepted
 stays-accepted = record {
-  one-answer = λ form line list. (_, _, record { answers = refl; leaves = refl }, λ b left w. (w .answers, w .leaves));
-  one-answer-of-bytes = λ form bytes list. (_, _, record { answers = refl; leaves = refl }, λ b left w. (w .answers, w .leaves));
+  read = exactly.read-there;
   listed = answered.listed-exactly;
   bytes-listed = answered.byte-listed-exactly;
+}
+
+one-list : OneAnswerOneList
+one-list = record {
+  words = λ form line list. (_, _, record { answers = refl; leaves = refl }, λ b left w. (w .answers, w .leaves));
+  bytes = λ form bytes list. (_, _, record { answers = refl; leaves = refl }, λ b left w. (w .answers, w .leaves));
 }
 
 manners-refusals : MannersRefusals
@@ -248,5 +253,5 @@ requests = record {
     one-form = record { demands = demands .each-form; sound = altitudes.forms-sound };
     refusals = altitude-refusals;
   };
-  ticket-6 = record { rules = rules; list = exactly-the-breaches; stays = stays-accepted; refusals = manners-refusals };
+  ticket-6 = record { one-answer = one-list; rules = rules; list = exactly-the-breaches; stays = stays-accepted; refusals = manners-refusals };
 }

@@ -271,20 +271,20 @@ pub record Ticket5 : Type 0 where
 -- run's place: an ATCRBS substitution report with bit 5 set (4.2.7); a relayed DABS report with bit 6 zero (4.1.4); an ATCRBS report with bit 6 one,
 -- bit 12 zero and altitude field all zeros, which the technician wants to see although sea level may look so; a Map whose stop is below its start."
 -- manners/specs/Rules.antt has the four rules, by the printed bits of a run and over the record; for an accepted run the two are the same (same), and
--- what the code finds in the record is the rule that the bits break (found). No run and no record breaks two (one, one-of-record). Each rule has its
--- number (numbers). Six runs are worked out (worked)
+-- what the code finds in the record is the rule that the bits break (found). No run and no record breaks two (one, one-of-record). In
+-- this order they have the numbers 1 to 4 (numbers). Eight runs are worked out (worked)
 pub record TheRules : Type 0 where
   pub same : manners.SameOfRecord
   pub found : manners.FoundExactly
   pub one : manners.AtMostOne
   pub one-of-record : manners.AtMostOneOfRecord
-  pub numbers : manners.RulesDiffer
+  pub numbers : manners.RulesNumbered
   pub worked : manners.Worked
 
 -- "The list has exactly the breaches, by place and then in this order." A breach is in the list exactly where an accepted run breaks the rule at that
 -- place (exactly); the places rise (by-place). It is what the outcomes of demand 3 bring (outcomes). It does not depend on the altitude's form
 -- (both-forms). Parts of a line that meet at idle words have their own breaches (parts), and words that are replaced between two idle words change no
--- breach outside (outside). No line has more than 6,553 (no-more)
+-- breach outside (outside). No line has more than 6,553, and a list for so many is never too small (no-more)
 pub record ExactlyTheBreaches : Type 0 where
   pub exactly : manners.ExactlyTheBreaches
   pub by-place : manners.ByPlace
@@ -294,12 +294,11 @@ pub record ExactlyTheBreaches : Type 0 where
   pub outside : manners.Replaced
   pub no-more : manners.NoMore
 
--- "An accepted line stays accepted." A call has the line only to read it, and the definitions of what is read do not name the rules: that is in the
--- code and in the `use` lines, not here. What a call answers and leaves is one for every input, of words and of bytes. It refuses no line for what
--- stands on it: a line that is short enough is listed if the list has room (listed, bytes-listed)
+-- "An accepted line stays accepted." At each place of the list the reader answers the report that breaks the rule (read). A call refuses no line for
+-- what stands on it: a line that is short enough is listed if the list has room (listed, bytes-listed). The line is lent for reading alone, which the
+-- language holds the call to, and no definition of the reader names a rule; neither is a claim here
 pub record StaysAccepted : Type 0 where
-  pub one-answer : (form : AltitudeForm) (line list : List ℕ) → AllowsOne (Lists form line list)
-  pub one-answer-of-bytes : (form : AltitudeForm) (bytes list : List ℕ) → AllowsOne (ListsBytes form bytes list)
+  pub read : manners.ReadThere
   pub listed : manners.ListedExactly
   pub bytes-listed : manners.ByteListedExactly
 
@@ -315,7 +314,13 @@ pub record MannersRefusals : Type 0 where
   pub numbers : NumbersDiffer
   pub none-is-0 : NoNumberIsZero
 
+-- any line and any list get one answer, and leave one list, of words and of bytes
+pub record OneAnswerOneList : Type 0 where
+  pub words : (form : AltitudeForm) (line list : List ℕ) → AllowsOne (Lists form line list)
+  pub bytes : (form : AltitudeForm) (bytes list : List ℕ) → AllowsOne (ListsBytes form bytes list)
+
 pub record Ticket6 : Type 0 where
+  pub one-answer : OneAnswerOneList
   pub rules : TheRules
   pub list : ExactlyTheBreaches
   pub stays : StaysAccepted

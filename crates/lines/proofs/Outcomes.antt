@@ -76,7 +76,7 @@ module _ (answer : Answer) (line : List ℕ) (m : length line ≤ most) where
       ∙ ap (λ (o : Outcome). o ∷ (map (alone answer) rs ++ (endOf (length line) ∷ []))) (sym (alone-met answer line p r m meets))
 
   all-calls : (p : ℕ) → p ≤ length line → Answered p (runsAt line p)
-  all-calls = along-the-walk answer line m Answered at-end at-run
+  all-calls = along-the-walk answer line m Answered at-end (λ p r. at-run p r (runsAt line (r .place + length (r .words))))
 
 -- two runs are parted by a word: a line of n words has at most (n + 1) / 2 of them
 opened : List ℕ → ℕ

@@ -7,9 +7,9 @@ use mathlib.Core.Logic.{_⊎_, inl, inr, ⊎-elim}
 use mathlib.Core.List.{List, [], _∷_, _++_, append-assoc}
 use native.Mathlib.Omega.{arith}
 use lib.Dec.{eqb}
-use lib.ListN.{length, drop, length-drop}
+use lib.ListN.{length, take, drop, replicate, length-drop}
 use lib.Seq.{drop-drop, drop-length}
-use borrow.Author.Tests.{le-ltb, eqb-false}
+use borrow.Author.Tests.{le-ltb, eqb-true, eqb-false}
 use Rattle.words.specs.Word.{idle}
 use Rattle.reports.specs.declared.RunAnswer.{RunAnswer}
 use Rattle.reports.specs.declared.RunAnswer.the-variants as A
@@ -22,7 +22,7 @@ use Rattle.lines.proofs.Runs.{runs-next, gap-all}
 
 -- ---- what runs bring
 
-pub gathered-append : {X : Type 0} (brings : Run → List X) (rs ts : List Run) → gathered brings (rs ++ ts) ≡ gathered brings rs ++ gathered brings ts
+pub gathered-append : {R X : Type 0} (brings : R → List X) (rs ts : List R) → gathered brings (rs ++ ts) ≡ gathered brings rs ++ gathered brings ts
 unfolding gathered
 gathered-append brings [] ts = refl
 gathered-append brings (r ∷ rs) ts =
@@ -57,6 +57,37 @@ stretch-solid (w ∷ ws) =
     by-test (eqb w idle)
     (λ e. subst Solid (sym (picked [] (w ∷ stretch ws) e)) tt)
     (λ e. subst Solid (sym (passed [] (w ∷ stretch ws) e)) (eqb-false w idle e, stretch-solid ws))
+
+-- the words in front of the first idle word, and the idle words in front
+stretch-front : (ws : List ℕ) → take (length (stretch ws)) ws ≡ stretch ws
+unfolding stretch
+stretch-front [] = refl
+stretch-front (w ∷ ws) =
+    by-test (eqb w idle)
+    (λ e. ap (λ (l : List ℕ). take (length l) (w ∷ ws)) (picked [] (w ∷ stretch ws) e) ∙ sym (picked [] (w ∷ stretch ws) e))
+    (λ e.
+    ap (λ (l : List ℕ). take (length l) (w ∷ ws)) (passed [] (w ∷ stretch ws) e)
+    ∙ ap (λ (l : List ℕ). w ∷ l) (stretch-front ws)
+    ∙ sym (passed [] (w ∷ stretch ws) e))
+
+gap-front : (ws : List ℕ) → take (gap ws) ws ≡ replicate (gap ws) idle
+unfolding gap
+gap-front [] = refl
+gap-front (w ∷ ws) =
+    by-test (eqb w idle)
+    (λ e.
+    let k : gap (w ∷ ws) ≡ suc (gap ws) = picked _ _ e in
+    ap (λ (n : ℕ). take n (w ∷ ws)) k ∙ (λ i. eqb-true w idle e i ∷ gap-front ws i) ∙ ap (λ (n : ℕ). replicate n idle) (sym k))
+    (λ e. let k : gap (w ∷ ws) ≡ 0 = passed _ _ e in ap (λ (n : ℕ). take n (w ∷ ws)) k ∙ ap (λ (n : ℕ). replicate n idle) (sym k))
+
+-- behind them none is left
+gap-past : (ws : List ℕ) → gap (drop (gap ws) ws) ≡ 0
+unfolding gap
+gap-past [] = refl
+gap-past (w ∷ ws) =
+    by-test (eqb w idle)
+    (λ e. let k : gap (w ∷ ws) ≡ suc (gap ws) = picked _ _ e in ap (λ (n : ℕ). gap (drop n (w ∷ ws))) k ∙ gap-past ws)
+    (λ e. let k : gap (w ∷ ws) ≡ 0 = passed _ _ e in ap (λ (n : ℕ). gap (drop n (w ∷ ws))) k ∙ k)
 
 gap-short : (ws : List ℕ) → gap ws ≤ length ws
 unfolding gap
@@ -107,6 +138,10 @@ next-run answer line p m h =
         let short = run-short ws in
         let size = ap length e in
         let d = length-drop p line in
+        let here : drop f line ≡ drop (gap ws) ws = sym (drop-drop (gap ws) p line) in
+        let far : f - p ≡ gap ws = omega arith in
+        let none : gap (drop f line) ≡ 0 = ap gap here ∙ gap-past ws in
+        let run : runIn (drop f line) ≡ w ∷ l = ap (λ (k : ℕ). stretch (drop k (drop f line))) none ∙ ap stretch here ∙ e in
         inr (
           record { place = f; words = w ∷ l },
           record {
@@ -114,14 +149,21 @@ next-run answer line p m h =
             some = omega arith;
             solid = subst Solid e (stretch-solid (drop (gap ws) ws));
             inside = omega arith;
+            idle-before = ap (λ (k : ℕ). take k ws) far ∙ gap-front ws ∙ ap (λ (k : ℕ). replicate k idle) (sym far);
+            there = ap (λ (k : ℕ). take k (drop f line)) (sym size) ∙ ap (take (length (runIn ws))) here ∙ stretch-front (drop (gap ws) ws) ∙ e;
             outcome = read-there answer line p m h ∙ ap (outcomeAt answer (length line) f) e;
+            again =
+                read-there answer line f m (omega arith)
+                ∙ ap (λ (k : ℕ). outcomeAt answer (length line) (f + k) (runIn (drop f line))) none
+                ∙ ap (λ (k : ℕ). outcomeAt answer (length line) k (runIn (drop f line))) (add-zero f)
+                ∙ ap (outcomeAt answer (length line) f) run;
           },
           runs-some p line w l e,
         )
 
 -- ---- the laws
 
-module _ (answer : Answer) (line : List ℕ) (m : length line ≤ most) (P : ℕ → List Run → Type 0) (end : (p : ℕ) → p ≤ length line → readBy answer line p ≡ endOf (length line) → P p []) (run : (p : ℕ) (r : Run) (rs : List Run) → Meets answer line p r → P (r .place + length (r .words)) rs → P p (r ∷ rs)) where
+module _ (answer : Answer) (line : List ℕ) (m : length line ≤ most) (P : ℕ → List Run → Type 0) (end : (p : ℕ) → p ≤ length line → readBy answer line p ≡ endOf (length line) → P p []) (run : (p : ℕ) (r : Run) → Meets answer line p r → P (r .place + length (r .words)) (runsAt line (r .place + length (r .words))) → P p (r ∷ runsAt line (r .place + length (r .words)))) where
   along : (k p : ℕ) → p ≤ length line → length line - p < k → P p (runsAt line p)
   along zero p h b = absurd (omega arith)
   along (suc k) p h b =
@@ -132,7 +174,7 @@ module _ (answer : Answer) (line : List ℕ) (m : length line ≤ most) (P : ℕ
       let a = e .1 .ahead in
       let s = e .1 .some in
       let i = e .1 .inside in
-      subst (P p) (sym (e .2)) (run p r (runsAt line (r .place + length (r .words))) (e .1) (along k (r .place + length (r .words)) i (omega arith))))
+      subst (P p) (sym (e .2)) (run p r (e .1) (along k (r .place + length (r .words)) i (omega arith))))
       (next-run answer line p m h)
 
 pub along-the-walk : AlongTheWalk
@@ -145,7 +187,7 @@ none-left line = ap (runsFrom (length line) []) (drop-length line)
 
 pub step-by-step : StepByStep
 unfolding gathered
-step-by-step answer line m X ofRun of none same p h =
+step-by-step answer line m X ofRun ofOutcome none same p h =
     ⊎-elim
     (λ e.
     let o = e .0 in
@@ -153,14 +195,14 @@ step-by-step answer line m X ofRun of none same p h =
     ap (gathered ofRun) (e .1)
     ∙ sym (ap (gathered ofRun) (none-left line))
     ∙ ap (λ (q : ℕ). gathered ofRun (runsAt line q)) (sym after)
-    ∙ ap (λ (l : List X). l ++ gathered ofRun (runsAt line (readBy answer line p .after))) (sym (ap of o ∙ none)))
+    ∙ ap (λ (l : List X). l ++ gathered ofRun (runsAt line (readBy answer line p .after))) (sym (ap ofOutcome o ∙ none)))
     (λ e.
     let r = e .0 in
     let o = e .1 .outcome in
     let after : readBy answer line p .after ≡ r .place + length (r .words) = ap (λ (x : Outcome). x .after) o in
     ap (gathered ofRun) (e .2)
     ∙ ap (λ (q : ℕ). ofRun r ++ gathered ofRun (runsAt line q)) (sym after)
-    ∙ ap (λ (l : List X). l ++ gathered ofRun (runsAt line (readBy answer line p .after))) (sym (ap of o ∙ same r)))
+    ∙ ap (λ (l : List X). l ++ gathered ofRun (runsAt line (readBy answer line p .after))) (sym (ap ofOutcome o ∙ same r)))
     (next-run answer line p m h)
 
 -- every outcome but the end goes on

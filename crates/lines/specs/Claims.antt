@@ -107,31 +107,34 @@ RunsAre = (line : List ℕ) → Stretches 0 (runs line) × (shown 0 (runs line) 
 abbrev pub outcomeOfRun : Answer → Run → Outcome
 outcomeOfRun answer r = placed (r .place) (length (r .words)) (answer (r .words))
 
--- the run that reading at a place meets
+-- the run that reading at a place meets: idle words up to it, its words there, an outcome that it gets from the place and from its own
 pub record Meets (answer : Answer) (line : List ℕ) (place : ℕ) (r : Run) : Type 0 where
   pub ahead : place ≤ r .place
   pub some : 0 < length (r .words)
   pub solid : Solid (r .words)
   pub inside : r .place + length (r .words) ≤ length line
+  pub idle-before : take (r .place - place) (drop place line) ≡ replicate (r .place - place) idle
+  pub there : take (length (r .words)) (drop (r .place) line) ≡ r .words
   pub outcome : readBy answer line place ≡ outcomeOfRun answer r
+  pub again : readBy answer line (r .place) ≡ outcomeOfRun answer r
 
--- the induction: what holds at the end, where no run is left, and holds at a place whenever it holds behind the run that is met there, holds at every
--- place, of the runs from there on
+-- the induction. Let P speak of a place and of the runs from there on. It holds at the end, where no run is left. It holds at a place if it holds behind
+-- the run that is met there. Then it holds at every place
 abbrev pub AlongTheWalk : Type 1
 AlongTheWalk =
     (answer : Answer) (line : List ℕ) → length line ≤ most → (P : ℕ → List Run → Type 0) →
     ((place : ℕ) → place ≤ length line → readBy answer line place ≡ endOf (length line) → P place []) →
-    ((place : ℕ) (r : Run) (rs : List Run) → Meets answer line place r → P (r .place + length (r .words)) rs → P place (r ∷ rs)) →
+    ((place : ℕ) (r : Run) → Meets answer line place r → let behind = r .place + length (r .words) in P behind (runsAt line behind) → P place (r ∷ runsAt line behind)) →
     (place : ℕ) → place ≤ length line → P place (runsAt line place)
 
--- the step: what the runs from a place on bring is what the outcome there brings, and behind it what the runs from the place after it bring. Here
--- ofRun says what a run brings, and of the same by its outcome
+-- the step: what the runs from a place on bring is what the outcome there brings, and behind it what the runs from the place after it bring. `ofRun`
+-- says what a run brings; `ofOutcome` says the same from its outcome; the end brings nothing
 abbrev pub StepByStep : Type 1
 StepByStep =
-    (answer : Answer) (line : List ℕ) → length line ≤ most →
-    (X : Type 0) (ofRun : Run → List X) (of : Outcome → List X) → of (endOf (length line)) ≡ [] → ((r : Run) → of (outcomeOfRun answer r) ≡ ofRun r) →
+    (answer : Answer) (line : List ℕ) → length line ≤ most → (X : Type 0) (ofRun : Run → List X) (ofOutcome : Outcome → List X) →
+    ofOutcome (endOf (length line)) ≡ [] → ((r : Run) → ofOutcome (outcomeOfRun answer r) ≡ ofRun r) →
     (place : ℕ) → place ≤ length line →
-    gathered ofRun (runsAt line place) ≡ of (readBy answer line place) ++ gathered ofRun (runsAt line (readBy answer line place .after))
+    gathered ofRun (runsAt line place) ≡ ofOutcome (readBy answer line place) ++ gathered ofRun (runsAt line (readBy answer line place .after))
 
 -- ---- demand 3: one outcome for each stretch (proofs/Outcomes.antt)
 

@@ -29,12 +29,12 @@ runsFrom place open′ (w ∷ ws) =
 abbrev pub runs : List ℕ → List Run
 runs line = runsFrom 0 [] line
 
--- those from a place on, each at its place on the whole line
+-- those from a place on, each at its place on the whole line; from a place inside a stretch the first begins there
 abbrev pub runsAt : List ℕ → ℕ → List Run
 runsAt line place = runsFrom place [] (drop place line)
 
--- what each run brings, one behind the other
-unfoldable pub gathered : {X : Type 0} → (Run → List X) → List Run → List X
+-- what each of a list brings, one behind the other
+unfoldable pub gathered : {R X : Type 0} → (R → List X) → List R → List X
 gathered brings [] = []
 gathered brings (r ∷ rs) = brings r ++ gathered brings rs
 

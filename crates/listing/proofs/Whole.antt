@@ -17,7 +17,7 @@ use Rattle.lines.specs.declared.Outcome.{Outcome}
 use Rattle.lines.specs.Bytes.{mostBytes, wordsIn}
 use Rattle.lines.specs.Line.{most, endOf, placed, readBy}
 use Rattle.reports.specs.Runs.{isAccepted}
-use Rattle.lines.specs.Stretches.{Run, runs, idleWords, wordsWhere}
+use Rattle.lines.specs.Stretches.{Run, runs, runsAt, idleWords, wordsWhere}
 use Rattle.lines.specs.Claims.{outcomeOfRun, Meets}
 use Rattle.words.proofs.Tests.{picked, passed, by-test}
 use Rattle.lines.proofs.ByteWords.{words-length}
@@ -156,7 +156,7 @@ module _ (bytes : List ℕ) (short : length bytes ≤ mostBytes) (even : length 
   words-said k enough =
       let runs-are = few-runs line in
       let ok : Under-way n start = record { going = refl; inside = omega arith; counted = omega arith } in
-      let all = along-the-walk answer line few Told end-told run-told 0 (omega arith) k start ok refl (omega arith) in
+      let all = along-the-walk answer line few Told end-told (λ p r. run-told p r (runsAt line (r .place + length (r .words)))) 0 (omega arith) k start ok refl (omega arith) in
       let add = totals-add answer line in
       let left : n - (0 + reported (runs line)) - (0 + refused (runs line)) ≡ idleWords line = omega arith in (
         all .0

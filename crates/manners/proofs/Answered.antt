@@ -21,8 +21,8 @@ use Rattle.manners.specs.declared.MannersRefusal.the-variants.{ListTooSm
 use Rattle.manners.specs.declared.Listed.{Listed}
 use Rattle.manners.specs.declared.Listed.the-variants as L
 use Rattle.manners.specs.Breaches.{Breach, breaches, numbersOf}
-use Rattle.manners.specs.Listing.{tooSmall, leftBy, listRows, listed, byteListRows, listedBytes, Gives}
-use Rattle.manners.specs.Claims.{isListed, ListRefuses, ByteListRefuses, ListedExactly, ByteListedExactly, RefusedStays, BehindStays, BytesAsWords}
+use Rattle.manners.specs.Listing.{countIn, leftBy, listRows, listed, byteListRows, listedBytes, Gives}
+use Rattle.manners.specs.Claims.{isListed, ListRefuses, ByteListRefuses, ListedExactly, ByteListedExactly, RefusedStays, Fills, BehindStays, BytesAsWords}
 use Rattle.manners.proofs.Stored.{as-numbers, as-bytes}
 
 -- ---- the answer of the rows
@@ -85,15 +85,21 @@ module _ (form : AltitudeForm) (bytes : List ℕ) (room : ℕ) (short : length b
 
 -- ---- what a call gives
 
+refused-left : (a : Listed) (needed list : List ℕ) → isListed a ≡ false → leftBy a needed list ≡ list
+refused-left (L.Breaches n) needed list e = differ e
+refused-left (L.LineRefused q) needed list e = refl
+refused-left (L.Refused q n) needed list e = refl
+
+stays : (due : Listed) (needed list : List ℕ) (a : Listed) (exit : List ℕ) → Gives due needed list a exit → isListed a ≡ false → exit ≡ list
+stays due needed list a exit w e = w .leaves ∙ refused-left due needed list (sym (ap isListed (w .answers)) ∙ e)
+
 pub refused-stays : RefusedStays
-refused-stays (L.Breaches n) needed list e = differ e
-refused-stays (L.LineRefused q) needed list e = refl
-refused-stays (L.Refused q n) needed list e = refl
+refused-stays = record { words = λ form line list. stays _ _ list; bytes = λ form bytes list. stays _ _ list }
 
 -- a refusal leaves the list
 pub gives-refusal : {to a : Listed} {needed list : List ℕ} → to ≡ a → isListed a ≡ false → Gives to needed list a list
 gives-refusal {to} {a} {needed} {list} e r =
-    record { answers = sym e; leaves = sym (ap (λ (x : Listed). leftBy x needed list) e ∙ refused-stays a needed list r) }
+    record { answers = sym e; leaves = sym (ap (λ (x : Listed). leftBy x needed list) e ∙ refused-left a needed list r) }
 
 -- all that is needed, and behind it what stood there
 pub gives-all : {to : Listed} {needed list exit : List ℕ} {n k : ℕ} → to ≡ L.Breaches n → length needed ≡ k → exit ≡ needed ++ drop k list
@@ -111,14 +117,6 @@ gives-none {to} {needed} {list} e n = gives-all e n (ap (λ (l : List ℕ). l ++
     none [] z = refl
     none (x ∷ l) z = absurd (omega arith)
 
-pub behind-stays : BehindStays
-behind-stays n needed list h =
-    let d = length-drop (length needed) list in (
-      take-append-seam needed (drop (length needed) list),
-      drop-append-seam needed (drop (length needed) list),
-      length-append needed (drop (length needed) list) ∙ (let z : length needed + length (drop (length needed) list) ≡ length list = omega arith in z),
-    )
-
 -- ---- each refusal exactly under its condition
 
 pub list-refuses : ListRefuses
@@ -131,12 +129,6 @@ unfolding listedBytes
 byte-list-refuses form bytes room a bad =
     law.refused-exactly Listed isListed (byteListRows form bytes room) (L.Breaches (length (breaches form (wordsIn bytes)))) a refl bad
 
--- how many breaches an answer tells
-abbrev countOf : Listed → ℕ
-countOf (L.Breaches n) = n
-countOf (L.LineRefused q) = 0
-countOf (L.Refused q n) = n
-
 pub listed-exactly : ListedExactly
 unfolding listed
 listed-exactly form line room n = (
@@ -144,7 +136,7 @@ listed-exactly form line room n = (
       let none = law.accepted-exactly Listed isListed (listRows form line room) (L.Breaches (length (breaches form line))) (L.Breaches n) (refl, (refl, tt)) refl .0 e in
       let w = as-numbers .each (breaches form line) in
       let l = ltb-false room (length (numbersOf (breaches form line))) (none .0 .1 .0) in
-      (ltb-false most (length line) (none .0 .0), omega arith, ap countOf (none .1)),
+      (ltb-false most (length line) (none .0 .0), omega arith, ap countIn (none .1)),
   λ h. enough form line room (h .0) (h .1) ∙ ap L.Breaches (h .2),
 )
 
@@ -157,6 +149,37 @@ byte-listed-exactly form bytes room n =
           let w = as-bytes .each bs in
           let odd = eqb-false (length bytes % 2) 1 (none .0 .1 .0) in
           let l = ltb-false room (length (bytesOf (numbersOf bs))) (none .0 .1 .1 .0) in
-          (ltb-false mostBytes (length bytes) (none .0 .0), omega arith, omega arith, ap countOf (none .1)),
+          (ltb-false mostBytes (length bytes) (none .0 .0), omega arith, omega arith, ap countIn (none .1)),
       λ h. enough-bytes form bytes room (h .0) (h .1) (h .2) ∙ ap L.Breaches (h .3),
     )
+
+-- ---- what stands behind the list
+
+fills : (due : Listed) (needed list : List ℕ) (n k : ℕ) (exit : List ℕ) → Gives due needed list (L.Breaches n) exit → length needed ≡ k → k ≤ length list → Fills needed k list exit
+fills due needed list n k exit w e h =
+    let rest = drop (length needed) list in
+    let is : exit ≡ needed ++ rest = w .leaves ∙ ap (λ (x : Listed). leftBy x needed list) (sym (w .answers)) in
+    let d = length-drop (length needed) list in
+    record {
+      filled = ap (take k) is ∙ ap (λ (i : ℕ). take i (needed ++ rest)) (sym e) ∙ take-append-seam needed rest;
+      behind = ap (drop k) is ∙ ap (λ (i : ℕ). drop i (needed ++ rest)) (sym e) ∙ drop-append-seam needed rest ∙ ap (λ (i : ℕ). drop i list) e;
+      long = ap length is ∙ length-append needed rest ∙ (let z : length needed + length rest ≡ length list = omega arith in z);
+    }
+
+pub behind-stays : BehindStays
+behind-stays = record {
+  words =
+      λ form line list n exit w.
+      let k = listed-exactly form line (length list) n .0 (sym (w .answers)) in
+      let e = as-numbers .each (breaches form line) in
+      let c = k .2 in
+      let room = k .1 in
+      fills _ (numbersOf (breaches form line)) list n (n * 2) exit w (omega arith) (omega arith);
+  bytes =
+      λ form bytes list n exit w.
+      let k = byte-listed-exactly form bytes (length list) n .0 (sym (w .answers)) in
+      let e = as-bytes .each (breaches form (wordsIn bytes)) in
+      let c = k .3 in
+      let room = k .2 in
+      fills _ (bytesOf (numbersOf (breaches form (wordsIn bytes)))) list n (n * 4) exit w (omega arith) (omega arith);
+}

@@ -1,4 +1,4 @@
--- The rules over the words and over the record: the claims SameOfRecord, AtMostOne, AtMostOneOfRecord, FoundExactly and RulesDiffer; and what a run's outcome brings
+-- The rules over the words and over the record: the claims SameOfRecord, AtMostOne, AtMostOneOfRecord and FoundExactly; that a number names one rule; and what a run's outcome brings
 -- to the list. Assumes nothing.
 use Prim.Native.Nat.{ℕ, _-_, _<_}
 use mathlib.Core.Path.{_≡_, refl, ap, sym, _∙_, subst}
@@ -48,7 +48,7 @@ use Rattle.manners.specs.Numbers.{ruleNumber}
 use Rattle.manners.specs.Rules.{isSubstitution, broken, isZero, isSeaLevel, atcrbsBreaks, dabsBreaks, mapBreaks, breaks}
 use Rattle.manners.specs.Breaches.{breach, rules, passing, brokenBy, breachesOf, ruleRows, foundOf, listOf, broughtBy}
 use Rattle.manners.specs.Steps.{atcrbsFound}
-use Rattle.manners.specs.Claims.{SameOfRecord, AtMostOne, AtMostOneOfRecord, FoundExactly, RulesDiffer}
+use Rattle.manners.specs.Claims.{SameOfRecord, AtMostOne, AtMostOneOfRecord, FoundExactly}
 
 only : (b : Bool) → b ≡ cond b true false
 only true = refl
@@ -341,7 +341,7 @@ back R.RelayWithoutModeC = refl
 back R.ModeCAllZeros = refl
 back R.MapStopBelowStart = refl
 
-pub rules-differ : RulesDiffer
+pub rules-differ : (a b : Rule) → ruleNumber a ≡ ruleNumber b → a ≡ b
 rules-differ a b e = sym (back a) ∙ ap numbered e ∙ back b
 
 -- ---- what is found in a record

@@ -1,5 +1,5 @@
--- The list of a line's breaches: the claims ExactlyTheBreaches, ByPlace, FromTheOutcomes, SameInBothForms, NoMore, NumbersInBytes, Splits and Replaced.
--- Assumes nothing.
+-- The list of a line's breaches: the claims RulesNumbered, ExactlyTheBreaches, ByPlace, ReadThere, FromTheOutcomes, SameInBothForms, NoMore,
+-- NumbersInBytes, Splits and Replaced. Assumes nothing.
 use Prim.Native.Nat.{ℕ, zero, suc, _+_, _*_, _/_, _%_, _≤_, _<_}
 use native.Mathlib.Nat.{add-zero}
 use mathlib.Core.Path.{_≡_, refl, ap, sym, _∙_, subst}
@@ -17,6 +17,7 @@ use Rattle.words.specs.Tests.{all}
 use Rattle.words.specs.Word.{idle, bits, bit}
 use Rattle.words.proofs.Tests.{picked, passed, by-test, holds}
 use Rattle.reports.specs.declared.altitude.Form.{Form}
+use Rattle.reports.specs.declared.Report.{Report}
 use Rattle.reports.specs.declared.RunAnswer.{RunAnswer}
 use Rattle.reports.specs.declared.RunAnswer.the-variants as A
 use Rattle.reports.specs.Altitude.{AltitudeForm, signMagnitude, twosComplement, formOf}
@@ -27,11 +28,13 @@ use Rattle.reports.specs.Runs.{tableOf, readRun, isAccepted}
 use Rattle.reports.proofs.Refusals.{accepted-layout}
 use Rattle.reports.proofs.Tests.{by-cond}
 use Rattle.lines.specs.declared.Outcome.{Outcome}
-use Rattle.lines.specs.Line.{most, endOf, isEnd, readBy, calls, outcomes}
+use Rattle.lines.specs.declared.What.the-variants as W
+use Rattle.lines.specs.Line.{most, outcomeOf, endOf, placed, isEnd, readBy, readAt, calls, outcomes}
 use Rattle.lines.specs.Bytes.{wordsIn, bytesOf}
-use Rattle.lines.specs.Stretches.{Run, runsFrom, runs, gathered}
+use Rattle.lines.specs.Stretches.{Run, runsFrom, runs, runsAt, gathered}
 use Rattle.lines.specs.Claims as whole
 use Rattle.lines.specs.Claims.{Answer, Stretches, outcomeOfRun, Meets}
+use Rattle.lines.proofs.ByteWords.{words-length}
 use Rattle.lines.proofs.Runs as lines
 use Rattle.lines.proofs.Runs.{All, all-runs}
 use Rattle.lines.proofs.Stretched.{runs-are}
@@ -43,10 +46,12 @@ use Rattle.manners.specs.declared.Rule.the-variants as R
 use Rattle.manners.specs.declared.Found.{Found}
 use Rattle.manners.specs.declared.Found.the-variants as F
 use Rattle.manners.specs.Numbers.{ruleNumber}
-use Rattle.manners.specs.Rules.{isSubstitution, broken}
+use Rattle.manners.specs.Rules.{isSubstitution, broken, breaks}
 use Rattle.manners.specs.Breaches.{Breach, breach, rules, passing, brokenBy, breachesOf, breaches, numbersOf, foundIn, listOf, broughtBy}
-use Rattle.manners.specs.Claims.{Among, ExactlyTheBreaches, RisingFrom, ByPlace, broughtByAll, FromTheOutcomes, SameInBothForms, NoMore, along, Splits, outside, Replaced, NumbersInBytes}
-use Rattle.manners.proofs.Broken.{splits, is-false, substitution-told, could, told, brought}
+use Rattle.manners.specs.Listing.{mostIn}
+use Rattle.manners.specs.Claims.{Among, ExactlyTheBreaches, RisingFrom, ByPlace, RulesNumbered, ReadThere, FromTheOutcomes, SameInBothForms, NoMore, along, Splits, outside, Replaced, NumbersInBytes}
+use Rattle.manners.proofs.Broken.{splits, is-false, substitution-told, could, told, rules-differ, same-of-record, brought}
+use Rattle.manners.proofs.Answered as answered
 
 -- ---- a run has one breach at most
 
@@ -159,10 +164,22 @@ fives form n p (r ∷ rs) h s i =
     let l = length-append (breachesOf form r) (gathered (breachesOf form) rs) in
     omega arith
 
-pub no-more : NoMore
-no-more form line =
+in-words : (form : AltitudeForm) (line : List ℕ) → length (breaches form line) ≤ mostIn (length line)
+in-words form line =
     let h = fives form (length line) 0 (runs line) (omega arith) (runs-are line .0) (all-inside line) in
-    (omega arith, λ m. omega arith)
+    omega arith
+
+pub no-more : NoMore
+no-more = record {
+  in-words = in-words;
+  in-any = λ form line m. let h = in-words form line in omega arith;
+  enough = λ form line room m h. let k = in-words form line in answered.enough form line room m (omega arith);
+  enough-bytes =
+      λ form bytes room m even h.
+      let k = in-words form (wordsIn bytes) in
+      let w = words-length bytes in
+      answered.enough-bytes form bytes room m even (omega arith);
+}
 
 -- ---- the numbers in bytes
 
@@ -202,29 +219,29 @@ module _ (f : Form) (line : List ℕ) (m : length line ≤ most) where
   answer = readRun (formOf f)
 
   abbrev Brings : ℕ → List Run → Type 0
-  Brings p rs = (k : ℕ) → length rs < k → broughtByAll (calls answer k line p) ≡ gathered (breachesOf (formOf f)) rs
+  Brings p rs = (k : ℕ) → length rs < k → gathered broughtBy (calls answer k line p) ≡ gathered (breachesOf (formOf f)) rs
 
   -- what a call brings, and the calls after it
   abbrev then : ℕ → Outcome → List Breach
-  then k o = broughtBy o ++ broughtByAll (cond (isEnd (o .what)) [] (calls answer k line (o .after)))
+  then k o = broughtBy o ++ gathered broughtBy (cond (isEnd (o .what)) [] (calls answer k line (o .after)))
 
   end-brings : (p : ℕ) → p ≤ length line → readBy answer line p ≡ endOf (length line) → Brings p []
-  unfolding calls broughtByAll gathered
+  unfolding calls gathered
   end-brings p h e zero b = absurd (omega arith)
   end-brings p h e (suc k) b = ap (then k) e
 
   run-brings : (p : ℕ) (r : Run) (rs : List Run) → Meets answer line p r → Brings (r .place + length (r .words)) rs → Brings p (r ∷ rs)
-  unfolding calls broughtByAll gathered
+  unfolding calls gathered
   run-brings p r rs meets more zero b = absurd (omega arith)
   run-brings p r rs meets more (suc k) b =
       let q = r .place + length (r .words) in
       ap (then k) (meets .outcome)
-      ∙ ap (λ (os : List Outcome). broughtBy (outcomeOfRun answer r) ++ broughtByAll os) (passed [] (calls answer k line q) (goes-on (answer (r .words))))
+      ∙ ap (λ (os : List Outcome). broughtBy (outcomeOfRun answer r) ++ gathered broughtBy os) (passed [] (calls answer k line q) (goes-on (answer (r .words))))
       ∙ (λ i. brought f r i ++ more k (omega arith) i)
 
 pub from-the-outcomes : FromTheOutcomes
 from-the-outcomes f line m =
-    sym (along-the-walk (readRun (formOf f)) line m (Brings f line m) (end-brings f line m) (run-brings f line m) 0 (omega arith) (suc (length line)) (let h = few-runs line in omega arith))
+    sym (along-the-walk (readRun (formOf f)) line m (Brings f line m) (end-brings f line m) (λ p r. run-brings f line m p r (runsAt line (r .place + length (r .words)))) 0 (omega arith) (suc (length line)) (let h = few-runs line in omega arith))
 
 -- ---- exactly the breaches
 
@@ -295,6 +312,41 @@ exactly-the-breaches form line place rule =
             subst (Among (breach place rule)) (sym (picked _ _ (h .2))) (passing-among place (λ x. broken x (h .0)) rule rules (each-rule rule) (h .3)),
           ),
     )
+
+pub rules-numbered : RulesNumbered
+rules-numbered = record { in-order = refl; all = each-rule; differ = rules-differ }
+
+-- ---- what is read at a place of the list
+
+module _ (answer : Answer) (line : List ℕ) where
+  abbrev Read : ℕ → List Run → Type 0
+  Read p rs = (r : Run) → Among r rs → readBy answer line (r .place) ≡ outcomeOfRun answer r
+
+  read-run : (p : ℕ) (r : Run) (rs : List Run) → Meets answer line p r → Read (r .place + length (r .words)) rs → Read p (r ∷ rs)
+  read-run p r rs meets more q h =
+      ⊎-elim (λ e. subst (λ (t : Run). readBy answer line (t .place) ≡ outcomeOfRun answer t) (sym e) (meets .again)) (λ k. more q k) h
+
+  -- every run of the line is read at its place
+  read-each : length line ≤ most → Read 0 (runs line)
+  read-each m =
+      along-the-walk answer line m Read (λ p h e r k. absurd k) (λ p r. read-run p r (runsAt line (r .place + length (r .words)))) 0 (omega arith)
+
+pub read-there : ReadThere
+read-there f line place rule m h =
+    let k = exactly-the-breaches (formOf f) line place rule .0 h in
+    let o = read-each (readRun (formOf f)) line m (record { place = place; words = k .0 }) (k .1) in
+    by-answer (k .0) (readRun (formOf f) (k .0)) refl o (k .2) (k .3)
+  where
+    by-answer : (ws : List ℕ) (a : RunAnswer) → readRun (formOf f) ws ≡ a → readBy (readRun (formOf f)) line place ≡ placed place (length ws) (readRun (formOf f) ws)
+        → isAccepted (readRun (formOf f) ws) ≡ true → broken rule ws ≡ true
+        → (r : Report) × (after : ℕ) × (readAt (formOf f) line place ≡ outcomeOf (W.Accepted r) place after place) × (breaks r rule ≡ true)
+    by-answer ws (A.Accepted r) e o t b = (
+      r,
+      place + length ws,
+      o ∙ ap (placed place (length ws)) e ∙ ap (outcomeOf (W.Accepted r) place (place + length ws)) (add-zero place),
+      sym (same-of-record f ws r e rule) ∙ b,
+    )
+    by-answer ws (A.Refused q n) e o t b = differ (sym t ∙ ap isAccepted e)
 
 -- ---- the two forms of the altitude
 
@@ -426,18 +478,18 @@ module _ (lo hi : ℕ) where
       either false false = refl
   one-outside p (F.Breach rule) rest = refl
 
-  brought-kept : (s t : Bool) (o : Outcome) (os : List Outcome) → broughtByAll (cond s (o ∷ os) (cond t os (o ∷ os))) ≡ kept s t (broughtBy o) (broughtByAll os)
-  unfolding broughtByAll
+  brought-kept : (s t : Bool) (o : Outcome) (os : List Outcome) → gathered broughtBy (cond s (o ∷ os) (cond t os (o ∷ os))) ≡ kept s t (broughtBy o) (gathered broughtBy os)
+  unfolding gathered
   brought-kept true t o os = refl
   brought-kept false true o os = refl
   brought-kept false false o os = refl
 
   -- the breaches outside are what the outcomes outside bring
-  brought-outside : (os : List Outcome) → outside lo hi (broughtByAll os) ≡ broughtByAll (whole.outside lo hi os)
-  unfolding broughtByAll outside whole.outside
+  brought-outside : (os : List Outcome) → outside lo hi (gathered broughtBy os) ≡ gathered broughtBy (whole.outside lo hi os)
+  unfolding gathered outside whole.outside
   brought-outside [] = refl
   brought-outside (o ∷ os) =
-      one-outside (o .first) (foundIn (o .what)) (broughtByAll os)
+      one-outside (o .first) (foundIn (o .what)) (gathered broughtBy os)
       ∙ ap (kept (ltb (o .first) lo) (ltb (o .first) hi) (broughtBy o)) (brought-outside os)
       ∙ sym (brought-kept (ltb (o .first) lo) (ltb (o .first) hi) o (whole.outside lo hi os))
 
@@ -451,6 +503,6 @@ replaced f a x y b e m =
     let v = length-append y (idle ∷ b) in
     ap (outside lo hi) (from-the-outcomes f (a ++ (idle ∷ (x ++ (idle ∷ b)))) m)
     ∙ brought-outside lo hi (outcomes (readRun (formOf f)) (a ++ (idle ∷ (x ++ (idle ∷ b)))))
-    ∙ ap broughtByAll (parts.replaced (readRun (formOf f)) a x y b e m)
+    ∙ ap (gathered broughtBy) (parts.replaced (readRun (formOf f)) a x y b e m)
     ∙ sym (brought-outside lo hi (outcomes (readRun (formOf f)) (a ++ (idle ∷ (y ++ (idle ∷ b))))))
     ∙ ap (outside lo hi) (sym (from-the-outcomes f (a ++ (idle ∷ (y ++ (idle ∷ b)))) (omega arith)))

@@ -22,17 +22,23 @@ substitution = at 1 (3331 ∷ 1 ∷ 1 ∷ 1 ∷ 1281 ∷ 38 ∷ 3080 ∷ [])
 abbrev relayed : Run
 relayed = at 9 (3584 ∷ 1 ∷ 1 ∷ 32 ∷ 334 ∷ 1030 ∷ 1 ∷ [])
 
+abbrev relayed-cd : Run
+relayed-cd = at 17 (3587 ∷ 1 ∷ 1 ∷ 32 ∷ 334 ∷ 1030 ∷ 8 ∷ [])
+
 abbrev even-word : Run
-even-word = at 17 (1 ∷ 400 ∷ 1 ∷ 396 ∷ [])
+even-word = at 25 (1 ∷ 400 ∷ 1 ∷ 396 ∷ [])
 
 abbrev all-zeros : Run
-all-zeros = at 23 (3457 ∷ 1 ∷ 1 ∷ 1 ∷ 1281 ∷ 44 ∷ 1 ∷ [])
+all-zeros = at 31 (3457 ∷ 1 ∷ 1 ∷ 1 ∷ 1281 ∷ 44 ∷ 1 ∷ [])
+
+abbrev sea-level : Run
+sea-level = at 39 (3713 ∷ 1 ∷ 1 ∷ 32 ∷ 334 ∷ 1030 ∷ 1 ∷ [])
 
 abbrev equal : Run
-equal = at 31 (1 ∷ 400 ∷ 1 ∷ 400 ∷ [])
+equal = at 47 (1 ∷ 400 ∷ 1 ∷ 400 ∷ [])
 
 abbrev below : Run
-below = at 36 (1 ∷ 400 ∷ 1 ∷ 397 ∷ [])
+below = at 52 (1 ∷ 400 ∷ 1 ∷ 397 ∷ [])
 
 of-substitution : (f : Form) → breachesOf (formOf f) substitution ≡ breach 1 R.SubstitutionMode3a ∷ []
 unfolding first fourZeros heightSpares sevenSpares zeros ones
@@ -44,12 +50,22 @@ unfolding first fourZeros heightSpares sevenSpares zeros ones
 of-relayed O.SignMagnitude = refl
 of-relayed O.TwosComplement = refl
 
+of-relayed-cd : (f : Form) → breachesOf (formOf f) relayed-cd ≡ breach 17 R.RelayWithoutModeC ∷ []
+unfolding first fourZeros heightSpares sevenSpares zeros ones
+of-relayed-cd O.SignMagnitude = refl
+of-relayed-cd O.TwosComplement = refl
+
+of-sea-level : (f : Form) → breachesOf (formOf f) sea-level ≡ []
+unfolding first fourZeros heightSpares sevenSpares zeros ones
+of-sea-level O.SignMagnitude = refl
+of-sea-level O.TwosComplement = refl
+
 of-even-word : (f : Form) → breachesOf (formOf f) even-word ≡ []
 unfolding first fourZeros heightSpares sevenSpares zeros ones
 of-even-word O.SignMagnitude = refl
 of-even-word O.TwosComplement = refl
 
-of-all-zeros : (f : Form) → breachesOf (formOf f) all-zeros ≡ breach 23 R.ModeCAllZeros ∷ []
+of-all-zeros : (f : Form) → breachesOf (formOf f) all-zeros ≡ breach 31 R.ModeCAllZeros ∷ []
 unfolding first fourZeros heightSpares sevenSpares zeros ones
 of-all-zeros O.SignMagnitude = refl
 of-all-zeros O.TwosComplement = refl
@@ -59,7 +75,7 @@ unfolding first fourZeros heightSpares sevenSpares zeros ones
 of-equal O.SignMagnitude = refl
 of-equal O.TwosComplement = refl
 
-of-below : (f : Form) → breachesOf (formOf f) below ≡ breach 36 R.MapStopBelowStart ∷ []
+of-below : (f : Form) → breachesOf (formOf f) below ≡ breach 52 R.MapStopBelowStart ∷ []
 unfolding first fourZeros heightSpares sevenSpares zeros ones
 of-below O.SignMagnitude = refl
 of-below O.TwosComplement = refl
@@ -67,4 +83,7 @@ of-below O.TwosComplement = refl
 pub worked : Worked
 unfolding gathered numbersOf
 worked f =
-    λ i. numbersOf (of-substitution f i ++ (of-relayed f i ++ (of-even-word f i ++ (of-all-zeros f i ++ (of-equal f i ++ (of-below f i ++ []))))))
+    λ i. numbersOf
+    (of-substitution f i
+    ++ (of-relayed f i
+    ++ (of-relayed-cd f i ++ (of-even-word f i ++ (of-all-zeros f i ++ (of-sea-level f i ++ (of-equal f i ++ (of-below f i ++ []))))))))

@@ -57,12 +57,7 @@ numbersOf (b ∷ bs) = b .place ∷ ruleNumber (b .rule) ∷ numbersOf bs
 
 -- the first rule that a record breaks; AtMostOneOfRecord (Claims.antt) says that it breaks no other
 abbrev pub ruleRows : Report → List (Row Found)
-ruleRows r =
-    row (breaks r R.SubstitutionMode3a) (F.Breach R.SubstitutionMode3a)
-    ∷ row (breaks r R.RelayWithoutModeC) (F.Breach R.RelayWithoutModeC)
-    ∷ row (breaks r R.ModeCAllZeros) (F.Breach R.ModeCAllZeros)
-    ∷ row (breaks r R.MapStopBelowStart) (F.Breach R.MapStopBelowStart)
-    ∷ []
+ruleRows r = map (λ rule. row (breaks r rule) (F.Breach rule)) rules
 
 abbrev pub foundOf : Report → Found
 foundOf r = firstOf (ruleRows r) F.NoBreach

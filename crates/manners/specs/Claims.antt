@@ -1,22 +1,20 @@
 -- What is claimed of manners (document 02, Ticket 6). Statements only, with what they need to be said. Proved in proofs/: the file is named at each.
-use Prim.Native.Nat.{ℕ, _+_, _*_, _/_, _%_, _≤_, _<_}
-use mathlib.Core.Bool.{Bool, true, false, not, cond}
+use Prim.Native.Nat.{ℕ, _+_, _*_, _/_, _%_, _≤_}
+use mathlib.Core.Bool.{Bool, true, false, cond}
 use mathlib.Core.List.{List, [], _∷_, _++_, map}
 use mathlib.Core.Logic.{_↔_, _⊎_}
 use mathlib.Core.Path.{_≡_}
 use lib.Dec.{ltb}
 use lib.ListN.{length, take, drop}
 use Rattle.rows.specs.Claims.{FirstIs}
-use Rattle.refusals.specs.declared.LineRefusal.{LineRefusal}
-use Rattle.refusals.specs.declared.LineRefusal.the-variants.{LineTooLong, OddByteCount}
 use Rattle.words.specs.Word.{idle}
 use Rattle.reports.specs.declared.Report.{Report}
 use Rattle.reports.specs.declared.RunAnswer.the-variants as A
 use Rattle.reports.specs.declared.altitude.Form.{Form}
 use Rattle.reports.specs.Altitude.{AltitudeForm, signMagnitude, twosComplement, formOf}
 use Rattle.reports.specs.Runs.{readRun, isAccepted}
-use Rattle.lines.specs.declared.Outcome.{Outcome}
-use Rattle.lines.specs.Line.{most, outcomes}
+use Rattle.lines.specs.declared.What.the-variants as W
+use Rattle.lines.specs.Line.{most, outcomeOf, readAt, outcomes}
 use Rattle.lines.specs.Bytes.{mostBytes, wordsIn, bytesOf}
 use Rattle.lines.specs.Stretches.{Run, runs, gathered}
 use Rattle.lines.specs.Claims.{EndsIdle, BeginsIdle}
@@ -24,12 +22,10 @@ use Rattle.manners.specs.declared.Rule.{Rule}
 use Rattle.manners.specs.declared.Found.the-variants as F
 use Rattle.manners.specs.declared.Listed.{Listed}
 use Rattle.manners.specs.declared.Listed.the-variants as L
-use Rattle.manners.specs.declared.MannersRefusal.{MannersRefusal}
-use Rattle.manners.specs.declared.MannersRefusal.the-variants.{ListTooSmall}
 use Rattle.manners.specs.Numbers.{ruleNumber}
 use Rattle.manners.specs.Rules.{broken, breaks}
-use Rattle.manners.specs.Breaches.{Breach, breach, breachesOf, breaches, numbersOf, foundOf, broughtBy}
-use Rattle.manners.specs.Listing.{mostBreaches, listRows, listed, byteListRows, listedBytes, leftBy}
+use Rattle.manners.specs.Breaches.{Breach, breach, rules, breachesOf, breaches, numbersOf, foundOf, broughtBy}
+use Rattle.manners.specs.Listing.{mostIn, mostBreaches, listRows, listed, Lists, byteListRows, listedBytes, ListsBytes}
 
 -- ---- the rules (proofs/Broken.antt)
 
@@ -50,16 +46,18 @@ FoundExactly =
     (f : Form) (ws : List ℕ) (r : Report) → readRun (formOf f) ws ≡ A.Accepted r → (rule : Rule) →
     (foundOf r ≡ F.Breach rule) ↔ (broken rule ws ≡ true)
 
--- a number names one rule
-abbrev pub RulesDiffer : Type 0
-RulesDiffer = (a b : Rule) → ruleNumber a ≡ ruleNumber b → a ≡ b
-
 -- ---- the list (proofs/Exactly.antt)
 
 -- one of a list
 abbrev pub Among : {X : Type 0} → X → List X → Type 0
 Among x [] = ⊥
 Among x (y ∷ ys) = (x ≡ y) ⊎ Among x ys
+
+-- the rules in their order have the numbers 1 to 4, and there is no other; a number names one rule
+pub record RulesNumbered : Type 0 where
+  pub in-order : map ruleNumber rules ≡ 1 ∷ 2 ∷ 3 ∷ 4 ∷ []
+  pub all : (rule : Rule) → Among rule rules
+  pub differ : (a b : Rule) → ruleNumber a ≡ ruleNumber b → a ≡ b
 
 -- "The list has exactly the breaches": a place and a rule are in it exactly where a run begins at the place, is accepted, and breaks the rule
 abbrev pub ExactlyTheBreaches : Type 0
@@ -77,40 +75,46 @@ RisingFrom p (b ∷ bs) = (p ≤ b .place) × RisingFrom (b .place + 1) bs
 abbrev pub ByPlace : Type 0
 ByPlace = (form : AltitudeForm) (line : List ℕ) → RisingFrom 0 (breaches form line)
 
--- what outcomes bring, one after the other
-unfoldable pub broughtByAll : List Outcome → List Breach
-broughtByAll [] = []
-broughtByAll (o ∷ os) = broughtBy o ++ broughtByAll os
+-- what stands at a place of the list: the reader answers there a report that breaks the rule
+abbrev pub ReadThere : Type 0
+ReadThere =
+    (f : Form) (line : List ℕ) (place : ℕ) (rule : Rule) → length line ≤ most → Among (breach place rule) (breaches (formOf f) line) →
+    (r : Report) × (after : ℕ) × (readAt (formOf f) line place ≡ outcomeOf (W.Accepted r) place after place) × (breaks r rule ≡ true)
 
 -- it is what the outcomes of the line bring, of which demand 3 speaks
 abbrev pub FromTheOutcomes : Type 0
-FromTheOutcomes = (f : Form) (line : List ℕ) → length line ≤ most → breaches (formOf f) line ≡ broughtByAll (outcomes (readRun (formOf f)) line)
+FromTheOutcomes = (f : Form) (line : List ℕ) → length line ≤ most → breaches (formOf f) line ≡ gathered broughtBy (outcomes (readRun (formOf f)) line)
 
 -- a run that only one form of the altitude accepts breaks no rule: the list is the same in both
 abbrev pub SameInBothForms : Type 0
 SameInBothForms = (line : List ℕ) → breaches signMagnitude line ≡ breaches twosComplement line
 
--- a breach takes four words at least, and an idle word parts it from the next: a line has no more than this
-abbrev pub NoMore : Type 0
-NoMore =
-    (form : AltitudeForm) (line : List ℕ) →
-    (5 * length (breaches form line) ≤ length line + 1) × (length line ≤ most → length (breaches form line) ≤ mostBreaches)
+-- a line has no more breaches than this, so that a list with room for as many is never too small
+pub record NoMore : Type 0 where
+  pub in-words : (form : AltitudeForm) (line : List ℕ) → length (breaches form line) ≤ mostIn (length line)
+  pub in-any : (form : AltitudeForm) (line : List ℕ) → length line ≤ most → length (breaches form line) ≤ mostBreaches
+  pub enough : (form : AltitudeForm) (line : List ℕ) (room : ℕ) → length line ≤ most → mostBreaches * 2 ≤ room
+      → listed form line room ≡ L.Breaches (length (breaches form line))
+  pub enough-bytes : (form : AltitudeForm) (bytes : List ℕ) (room : ℕ) → length bytes ≤ mostBytes → length bytes % 2 ≡ 0 → mostBreaches * 4 ≤ room
+      → listedBytes form bytes room ≡ L.Breaches (length (breaches form (wordsIn bytes)))
 
--- worked runs (proofs/Worked.antt). At 1 an ATCRBS-CD report with bit 5 set; at 9 a relayed DABS report with bit 6 zero; at 17 a Map with its stop
--- below its start, refused for an even word; at 23 an ATCRBS report with bit 6 one and bits 79-90 all zeros; at 31 a Map with start and stop equal;
--- at 36 a Map with its stop below its start
+-- worked runs (proofs/Worked.antt). At 1 an ATCRBS-CD report with bit 5 set. At 9 a relayed DABS report with bit 6 zero, and at 17 a DABS-CD report of
+-- that kind. At 25 a Map with its stop below its start, refused for an even word. At 31 an ATCRBS report with bit 6 one and bits 79-90 all zeros, and at
+-- 39 a relayed DABS report like it, which breaks no rule. At 47 a Map with start and stop equal, and at 52 a Map with its stop below its start
 abbrev pub workedRuns : List Run
 workedRuns =
     record { place = 1; words = 3331 ∷ 1 ∷ 1 ∷ 1 ∷ 1281 ∷ 38 ∷ 3080 ∷ [] }
     ∷ record { place = 9; words = 3584 ∷ 1 ∷ 1 ∷ 32 ∷ 334 ∷ 1030 ∷ 1 ∷ [] }
-    ∷ record { place = 17; words = 1 ∷ 400 ∷ 1 ∷ 396 ∷ [] }
-    ∷ record { place = 23; words = 3457 ∷ 1 ∷ 1 ∷ 1 ∷ 1281 ∷ 44 ∷ 1 ∷ [] }
-    ∷ record { place = 31; words = 1 ∷ 400 ∷ 1 ∷ 400 ∷ [] }
-    ∷ record { place = 36; words = 1 ∷ 400 ∷ 1 ∷ 397 ∷ [] }
+    ∷ record { place = 17; words = 3587 ∷ 1 ∷ 1 ∷ 32 ∷ 334 ∷ 1030 ∷ 8 ∷ [] }
+    ∷ record { place = 25; words = 1 ∷ 400 ∷ 1 ∷ 396 ∷ [] }
+    ∷ record { place = 31; words = 3457 ∷ 1 ∷ 1 ∷ 1 ∷ 1281 ∷ 44 ∷ 1 ∷ [] }
+    ∷ record { place = 39; words = 3713 ∷ 1 ∷ 1 ∷ 32 ∷ 334 ∷ 1030 ∷ 1 ∷ [] }
+    ∷ record { place = 47; words = 1 ∷ 400 ∷ 1 ∷ 400 ∷ [] }
+    ∷ record { place = 52; words = 1 ∷ 400 ∷ 1 ∷ 397 ∷ [] }
     ∷ []
 
 abbrev pub Worked : Type 0
-Worked = (f : Form) → numbersOf (gathered (breachesOf (formOf f)) workedRuns) ≡ 1 ∷ 1 ∷ 9 ∷ 2 ∷ 23 ∷ 3 ∷ 36 ∷ 4 ∷ []
+Worked = (f : Form) → numbersOf (gathered (breachesOf (formOf f)) workedRuns) ≡ 1 ∷ 1 ∷ 9 ∷ 2 ∷ 17 ∷ 2 ∷ 31 ∷ 3 ∷ 52 ∷ 4 ∷ []
 
 -- ---- a line in parts (proofs/Exactly.antt)
 
@@ -172,16 +176,23 @@ ByteListedExactly =
     × (length (breaches form (wordsIn bytes)) ≡ n))
 
 -- a refused call leaves the list as it was
-abbrev pub RefusedStays : Type 0
-RefusedStays = (a : Listed) (needed list : List ℕ) → isListed a ≡ false → leftBy a needed list ≡ list
+pub record RefusedStays : Type 0 where
+  pub words : (form : AltitudeForm) (line list : List ℕ) (a : Listed) (exit : List ℕ) → Lists form line list a exit → isListed a ≡ false → exit ≡ list
+  pub bytes : (form : AltitudeForm) (bytes list : List ℕ) (a : Listed) (exit : List ℕ) → ListsBytes form bytes list a exit → isListed a ≡ false
+      → exit ≡ list
 
--- "What stands behind the list stays": where the list has room, its front is all that is needed, its length stays, and so does the rest
-abbrev pub BehindStays : Type 0
-BehindStays =
-    (n : ℕ) (needed list : List ℕ) → length needed ≤ length list →
-    (take (length needed) (leftBy (L.Breaches n) needed list) ≡ needed)
-    × (drop (length needed) (leftBy (L.Breaches n) needed list) ≡ drop (length needed) list)
-    × (length (leftBy (L.Breaches n) needed list) ≡ length list)
+-- "What stands behind the list stays": the front of the list is the numbers of all breaches, two a breach, or their bytes, four a breach. The rest of it
+-- stays, and so does its length
+pub record Fills (numbers : List ℕ) (front : ℕ) (list exit : List ℕ) : Type 0 where
+  pub filled : take front exit ≡ numbers
+  pub behind : drop front exit ≡ drop front list
+  pub long : length exit ≡ length list
+
+pub record BehindStays : Type 0 where
+  pub words : (form : AltitudeForm) (line list : List ℕ) (n : ℕ) (exit : List ℕ) → Lists form line list (L.Breaches n) exit
+      → Fills (numbersOf (breaches form line)) (n * 2) list exit
+  pub bytes : (form : AltitudeForm) (bytes list : List ℕ) (n : ℕ) (exit : List ℕ) → ListsBytes form bytes list (L.Breaches n) exit
+      → Fills (bytesOf (numbersOf (breaches form (wordsIn bytes)))) (n * 4) list exit
 
 -- bytes that are few enough and even in number are answered as the words that they hold, with half as many numbers of room as bytes
 abbrev pub BytesAsWords : Type 0

@@ -1,5 +1,5 @@
 -- What a call answers, and what the lent list then holds, for a line of words and for one held as bytes. Definitions only.
-use Prim.Native.Nat.{ℕ, _%_}
+use Prim.Native.Nat.{ℕ, _+_, _/_, _%_}
 use mathlib.Core.List.{List, [], _∷_, _++_}
 use mathlib.Core.Path.{_≡_}
 use lib.Dec.{eqb, ltb}
@@ -14,9 +14,19 @@ use Rattle.manners.specs.declared.Listed.{Listed}
 use Rattle.manners.specs.declared.Listed.the-variants as L
 use Rattle.manners.specs.Breaches.{Breach, breaches, numbersOf}
 
--- no line has more breaches (NoMore in Claims.antt), so that a list with room for so many is never too small
+-- the most breaches that a line of so many words can have, and any line (NoMore in Claims.antt): a run that breaks a rule has four words at least, and an
+-- idle word parts it from the next
+abbrev pub mostIn : ℕ → ℕ
+mostIn words = (words + 1) / 5
+
 abbrev pub mostBreaches : ℕ
 mostBreaches = 6553
+
+-- how many breaches an answer tells
+abbrev pub countIn : Listed → ℕ
+countIn (L.Breaches n) = n
+countIn (L.LineRefused q) = 0
+countIn (L.Refused q n) = n
 
 -- ---- a list that is lent
 
@@ -30,10 +40,10 @@ leftBy (L.Breaches n) needed list = needed ++ drop (length needed) list
 leftBy (L.LineRefused q) needed list = list
 leftBy (L.Refused q n) needed list = list
 
--- what a call promises, where this is its answer: it gives that answer, and the list is what it leaves
-pub record Gives (to : Listed) (needed list : List ℕ) (answer : Listed) (exit : List ℕ) : Type 0 where
-  pub answers : answer ≡ to
-  pub leaves : exit ≡ leftBy to needed list
+-- what a call promises that owes the answer `due`: it gives that answer, and leaves what that answer leaves
+pub record Gives (due : Listed) (needed list : List ℕ) (answer : Listed) (exit : List ℕ) : Type 0 where
+  pub answers : answer ≡ due
+  pub leaves : exit ≡ leftBy due needed list
 
 -- ---- a line of words, the list as 16-bit numbers
 

@@ -1,7 +1,7 @@
 -- The rules whose breaches are listed (document 02, Ticket 6; the sections are document 004's). Each is said by the printed bit numbers over the
 -- words of a run, and once more over the record. SameOfRecord (Claims.antt) says that the two are the same for every accepted run. Definitions only.
 use Prim.Native.Nat.{ℕ}
-use mathlib.Core.Bool.{Bool, true, false, not}
+use mathlib.Core.Bool.{Bool, false, not}
 use mathlib.Core.List.{List, [], _∷_}
 use lib.Dec.{eqb, ltb}
 use lib.IntN.{ℤ, pos, negsuc}
@@ -21,15 +21,15 @@ use Rattle.manners.specs.declared.Rule.the-variants as R
 
 -- ---- over the words, by the printed bits
 
--- bit 12 one, and bits 88-90 say whose data stand in for the height: radar substitution
+-- bit 12 one and bits 88-90 100, 110 or 101: data of a radar stand in for beacon data that are missing (4.2.3)
 abbrev pub isSubstitution : List ℕ → Bool
 isSubstitution ws = any (isCd ws ∷ isMtd ws ∷ isRdas ws ∷ [])
 
--- 1: an ATCRBS substitution report (bit 4 zero) with bit 5 set. Mode 3/A is not set where a radar stands in (4.2.7)
+-- 1: an ATCRBS substitution report (bit 4 zero) with bit 5 set. In a radar substitution the Mode 3/A bit is not set (4.2.7)
 abbrev pub substitutionMode3a : List ℕ → Bool
 substitutionMode3a ws = all (isSubstitution ws ∷ not (bit ws 4) ∷ bit ws 5 ∷ [])
 
--- 2: a relayed DABS report (bit 47 one), its substitutions too, with bit 6 zero. Relayed data has always Mode C (4.1.4)
+-- 2: a relayed DABS report (bit 47 one), its substitutions too, with bit 6 zero. Relayed data always has the Mode C bit set (4.1.4)
 abbrev pub relayWithoutModeC : List ℕ → Bool
 relayWithoutModeC ws = all (isDabs ws ∷ bit ws 47 ∷ not (bit ws 6) ∷ [])
 

@@ -1,9 +1,10 @@
 // A sensor's manners (document 02, Ticket 6): rules between fields that are accepted either way. Over a whole line, the list of the runs that break
-// one, each with its place. Here are the rules by name, the refusal, and what a call answers.
+// one, each with its place. Here are the rules by name, the refusal, what a call answers, and how many breaches a line can have.
 // Relies on line_reader for the outcome at a place; specs/Listing.antt says what a call answers and what the list then holds.
 ghost use mathlib.Core.Path.{_≡_};
-ghost use Prim.Native.Nat.{_+_, _/_, _≤_};
+ghost use Prim.Native.Nat.{_≤_};
 ghost use Rattle.lines.specs.Line.{most};
+ghost use Rattle.manners.specs.Listing.{mostIn};
 ghost use Rattle.manners.specs.Numbers.{ruleNumber, mannersNumber};
 use refusals::LineRefusal;
 
@@ -11,10 +12,10 @@ pub mod bytes; // bytes.rt: a line lent as bytes, the list as bytes
 mod rules; // rules.rt: the rule that a record breaks
 pub mod wide; // wide.rt: a line lent as 16-bit numbers, the list as such numbers
 
-// The most breaches that a line of so many words can have: each takes four words at least, and an idle word stands between two runs.
+// The most breaches that a line of so many words can have.
 fn most_in(words: usize) -> usize
     requires { ⌜ words ≤ most ⌝ }
-    ensures { λ r. ⌜ r ≡ (words + 1) / 5 ⌝ }
+    ensures { λ r. ⌜ r ≡ mostIn words ⌝ }
 {
     (words + 1) / 5
 }

@@ -1,9 +1,7 @@
 // The rule that a record breaks: each rule of specs/Rules.antt as a function over the fields that it names.
 // Relies on the records of reports, and on lines for what an outcome is.
 ghost use mathlib.Core.Path.{_≡_};
-ghost use mathlib.Core.Bool.{not};
 ghost use mathlib.Core.List.{[], _∷_};
-ghost use lib.Dec.{ltb};
 ghost use Rattle.words.specs.Tests.{all};
 ghost use Rattle.reports.specs.Layouts.{modeC, radar};
 ghost use Rattle.manners.specs.Rules.{isZero, isSeaLevel};
@@ -18,7 +16,7 @@ use reports::Report;
 
 // ---- the rules
 
-// 1: a radar stands in for the height, and Mode 3/A is set.
+// 1: data of a radar stand in for the height, and Mode 3/A is set.
 fn substitution_mode3a(mode3a: bool, height: Height) -> bool
     ensures { λ r. ⌜ r ≡ all (radar height ∷ mode3a ∷ []) ⌝ }
 {

@@ -18,9 +18,8 @@ use Rattle.manners.specs.declared.MannersRefusal.the-variants as M
 use Rattle.manners.specs.declared.MannersRefusal.the-variants.{ListTooSmall}
 use Rattle.manners.specs.Numbers.{mannersNumber}
 use Rattle.manners.specs.Breaches.{breaches, numbersOf}
-use Rattle.manners.specs.Listing.{mostBreaches, listedBytes}
+use Rattle.manners.specs.Listing.{mostBreaches, countIn, listedBytes}
 use Rattle.manners.proofs.Exactly.{no-more}
-use Rattle.manners_host.specs.Calls.{countIn}
 
 abbrev Few : Listed → Type 0
 Few a = countIn a ≤ mostBreaches
@@ -40,7 +39,7 @@ few-told form bytes room =
     (λ t.
     let m = ltb-false mostBytes (length bytes) t in
     let w = words-length bytes in
-    no-more form (wordsIn bytes) .1 (omega arith))
+    no-more .in-any form (wordsIn bytes) (omega arith))
 
 -- a refusal's number is less than what breaches are counted in
 pub under-step : (q : MannersRefusal) → mannersNumber q < 256

@@ -31,12 +31,6 @@ answerNumber (L.Breaches n) = doneWith listedDone n
 answerNumber (L.LineRefused q) = lineNumber q
 answerNumber (L.Refused q n) = doneWith (mannersNumber q) n
 
--- how many breaches an answer tells
-abbrev pub countIn : Listed → ℕ
-countIn (L.Breaches n) = n
-countIn (L.LineRefused q) = 0
-countIn (L.Refused q n) = n
-
 -- ---- the call
 
 -- what it promises: the number of the answer, and the list that this answer leaves

@@ -4,8 +4,8 @@
 ghost use mathlib.Core.Path.{_≡_};
 ghost use Prim.Native.Nat.{_≤_, _<_};
 ghost use Rattle.reports.specs.Altitude.{chosen};
-ghost use Rattle.manners.specs.Listing.{mostBreaches};
-ghost use Rattle.manners_host.specs.Calls.{doneWith, countIn, answerNumber, GivesNumber};
+ghost use Rattle.manners.specs.Listing.{mostBreaches, countIn};
+ghost use Rattle.manners_host.specs.Calls.{doneWith, answerNumber, GivesNumber};
 use manners::Listed;
 use reports::altitude::Form;
 

@@ -1,7 +1,8 @@
 -- `manners_host::answer_number` meets its contract, arm by arm. Assumes nothing.
 use Prim.Native.Nat.{ℕ}
 use mathlib.Core.Path.{sym, ap, _∙_}
-use Rattle.manners_host.specs.Calls.{doneWith, countIn, answerNumber}
+use Rattle.manners.specs.Listing.{countIn}
+use Rattle.manners_host.specs.Calls.{doneWith, answerNumber}
 use Rattle.manners_host.proofs.Told.{under-step}
 use borrow.Author.Needs.{needs}
 use native.Mathlib.Omega.{arith}

@@ -1,12 +1,9 @@
 -- `manners_host::siamrung_manners` meets its contract: the form's number becomes a name, and the answer a number. Assumes nothing.
 use Prim.Native.Nat.{_≤_}
-use mathlib.Core.Path.{_≡_, ap, sym, _∙_, subst}
-use lib.ListN.{length}
-use Rattle.reports.specs.declared.altitude.Form.{Form}
-use Rattle.reports.specs.Altitude.{formOf, chosen}
+use mathlib.Core.Path.{ap, sym, _∙_, subst}
 use Rattle.manners.specs.declared.Listed.{Listed}
-use Rattle.manners.specs.Listing.{mostBreaches, listedBytes}
-use Rattle.manners_host.specs.Calls.{countIn, answerNumber, GivesNumber}
+use Rattle.manners.specs.Listing.{mostBreaches, countIn}
+use Rattle.manners_host.specs.Calls.{answerNumber}
 use Rattle.manners_host.proofs.Told.{few-told}
 use borrow.Author.Needs.{needs}
 use Rattle.manners_host.proofs.siamrung_manners.Statement.{statement}

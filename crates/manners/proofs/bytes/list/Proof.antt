@@ -25,7 +25,7 @@ returns-2 c = gives-refusal (odd-bytes _ _ _ (omega arith) (omega arith)) refl
 fill-requires : tie.Need-fill-requires
 fill-requires c κs =
     let a = c .before .before .before .before .before .before .before .args in
-    let most = no-more (formOf (a .form)) (wordsIn (a .line .now)) .0 in
+    let most = no-more .in-words (formOf (a .form)) (wordsIn (a .line .now)) in
     let w = words-length (a .line .now) in
     (omega arith, omega arith, omega arith)
 
@@ -33,7 +33,7 @@ returns-3 : tie.Need-returns-3
 returns-3 c =
     let f = c .before .before .fill .ensures in
     let a = c .before .before .before .before .before .before .before .before .before .before .args in
-    let most = no-more (formOf (a .form)) (wordsIn (a .line .now)) .0 in
+    let most = no-more .in-words (formOf (a .form)) (wordsIn (a .line .now)) in
     let w = words-length (a .line .now) in
     gives-all
     (enough-bytes (formOf (a .form)) (a .line .now) _ (omega arith) (omega arith) (omega arith) ∙ sym (ap L.Breaches (f .0)))

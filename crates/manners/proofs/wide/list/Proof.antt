@@ -20,14 +20,14 @@ returns c = gives-refusal (long _ _ _ (c .if1 .taken)) refl
 fill-requires : tie.Need-fill-requires
 fill-requires c κs =
     let a = c .before .before .before .before .before .before .args in
-    let most = no-more (formOf (a .form)) (a .line .now) .0 in
+    let most = no-more .in-words (formOf (a .form)) (a .line .now) in
     (omega arith, omega arith)
 
 returns-2 : tie.Need-returns-2
 returns-2 c =
     let f = c .before .before .fill .ensures in
     let a = c .before .before .before .before .before .before .before .before .before .args in
-    let most = no-more (formOf (a .form)) (a .line .now) .0 in
+    let most = no-more .in-words (formOf (a .form)) (a .line .now) in
     gives-all
     (enough (formOf (a .form)) (a .line .now) _ (omega arith) (omega arith) ∙ sym (ap L.Breaches (f .0)))
     (as-numbers .each (breaches (formOf (a .form)) (a .line .now)) ∙ ap (λ (n : ℕ). n * 2) (sym (f .0)))
