@@ -573,7 +573,7 @@ unsigned long agree_index(unsigned rounds)
 /* ---- manners: plain C in two passes, and in one */
 
 /* Room for the breaches of any line, and some more. */
-#define LIST (4 * SIAMRUNG_MANNERS_MOST + 16)
+#define LIST (4 * SIAMRUNG_MOST_BREACHES + 16)
 
 /* The breaches listed by all three into so much of a list; the bytes behind them are as they were, and all of them after a refusal. */
 static void same_list(const uint8_t *b, size_t length, uint32_t form, size_t room)
@@ -604,7 +604,7 @@ static void list_in(const uint8_t *b, size_t length, uint32_t form)
     same_list(b, length, form, 0);
     same_list(b, length, form, enough);
     same_list(b, length, form, enough + 1);
-    same_list(b, length, form, 4 * SIAMRUNG_MANNERS_MOST);
+    same_list(b, length, form, 4 * SIAMRUNG_MOST_BREACHES);
     same_list(b, length, form, LIST);
     if (enough == 0)
         return;

@@ -199,7 +199,7 @@ static uint64_t find_each(const struct calls *c, struct input *in)
 /* The breaches of the line, into a list that is large enough for every line, or for this one alone. */
 static uint64_t list_manners(const struct calls *c, struct input *in)
 {
-    static uint8_t list[4 * SIAMRUNG_MANNERS_MOST];
+    static uint8_t list[4 * SIAMRUNG_MOST_BREACHES];
     uint32_t answer = c->manners(in->bytes, in->length, in->form, list, in->room ? in->room : sizeof list);
     size_t n = siamrung_manners_breaches(answer);
 

@@ -78,8 +78,8 @@ uint32_t plain_manners(const uint8_t *bytes, size_t length, uint32_t form, uint8
     if (refusal != SIAMRUNG_REFUSAL_NONE)
         return refusal;
     if (list_length / 4 >= (length / 2 + 1) / 5)
-        return answer(SIAMRUNG_MANNERS_LISTED, go_through(bytes, length, form, list, SIAMRUNG_MANNERS_MOST));
-    n = go_through(bytes, length, form, NULL, SIAMRUNG_MANNERS_MOST);
+        return answer(SIAMRUNG_MANNERS_LISTED, go_through(bytes, length, form, list, SIAMRUNG_MOST_BREACHES));
+    n = go_through(bytes, length, form, NULL, SIAMRUNG_MOST_BREACHES);
     if (list_length / 4 < n)
         return answer(SIAMRUNG_MANNERS_REFUSAL_LIST_TOO_SMALL, n);
     go_through(bytes, length, form, list, n);
@@ -89,13 +89,13 @@ uint32_t plain_manners(const uint8_t *bytes, size_t length, uint32_t form, uint8
 /* The 26,212 bytes on the stack are enough for every line. */
 uint32_t plain_once_manners(const uint8_t *bytes, size_t length, uint32_t form, uint8_t *list, size_t list_length)
 {
-    uint8_t found[4 * SIAMRUNG_MANNERS_MOST];
+    uint8_t found[4 * SIAMRUNG_MOST_BREACHES];
     uint32_t refusal = line_refusal(length);
     size_t n;
 
     if (refusal != SIAMRUNG_REFUSAL_NONE)
         return refusal;
-    n = go_through(bytes, length, form, found, SIAMRUNG_MANNERS_MOST);
+    n = go_through(bytes, length, form, found, SIAMRUNG_MOST_BREACHES);
     if (list_length / 4 < n)
         return answer(SIAMRUNG_MANNERS_REFUSAL_LIST_TOO_SMALL, n);
     if (n)

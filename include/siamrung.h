@@ -1,16 +1,16 @@
 /*
  * siamrung.h: the calls of the Siamrung converter for C and C++ programs. They read a line of words, write a report into a line, read a link
  * data field and write one, read a frame of the communications channel and write one, serve an index of the last report of each file number, and
- * list where a line breaks rules between fields.
+ * list which reports of a line break rules between fields.
  *
  * Lines. A line is a slice of bytes: a pointer and the number of bytes. Two bytes are a word, high byte first. A line has at most 65,536
  * bytes, which are 32,768 words. An empty slice may be NULL with the length 0. A place is a number of words from the start of the line,
  * counted from 0. Every slice and every place gets an answer. What cannot be read gets a refusal; it is never passed over.
  *
- * Reading. A call that reads a line answers one number about the run of words at the place. It skips the idle words from the place on. From a
- * place inside a run, the run begins at that place. A call that reads writes nothing (but siamrung_frame_field, which copies,
- * siamrung_index_enter, which writes into its table, and siamrung_manners, which writes its list). A call reads its own run and no more of the line
- * (but siamrung_manners, which reads the whole line). So a program that goes from run to run by siamrung_after does work in proportion to the line.
+ * Reading. A call that reads a line at a place answers one number about the run of words there. It skips the idle words from the place on. From a
+ * place inside a run, the run begins at that place. A call that reads writes nothing (but siamrung_frame_field, which copies, and
+ * siamrung_index_enter, which writes into its table). A call reads its own run and no more of the line. So a program that goes from run to run by
+ * siamrung_after does work in proportion to the line. One call has no place: siamrung_manners reads the whole line, and writes a list.
  *
  * Altitudes. Sensors send the altitude of DABS and ATCRBS in one of two forms. The words do not tell which: the program must know it, and passes it
  * as the argument form to every call that reads a line or writes a report. 0 (SIAMRUNG_FORM_SIGN_MAGNITUDE) is a sign and eleven bits. Any other
@@ -279,8 +279,8 @@ extern "C" {
 /* entering: the report's number is not 0 and not in the table, and the table has no unused entry */
 #define SIAMRUNG_INDEX_REFUSAL_TABLE_FULL 51
 
-/* ---- manners: the rules between fields whose breaches siamrung_manners lists, by the bits and sections of document 004 (FAA-RD-80-14). No run
- * breaks two. The call lists these four and never another: a further rule would get a call of its own */
+/* ---- manners: the rules between fields whose breaches siamrung_manners lists. The sections are those of FAA-RD-80-14. No run breaks two. The call
+ * lists these four and never another: a further rule would get a call of its own */
 
 /* an ATCRBS report with substitution (ATCRBS_CD, ATCRBS_MTD, ATCRBS_RDAS) has bit 5, MODE3A, set (4.2.7) */
 #define SIAMRUNG_BREACH_SUBSTITUTION_MODE3A 1
@@ -288,7 +288,8 @@ extern "C" {
 #define SIAMRUNG_BREACH_RELAY_WITHOUT_MODE_C 2
 /* an ATCRBS report without substitution has bit 6 one and bits 79-90 all zeros (4.2.2): ALTITUDE is 0. An aircraft at sea level may look so */
 #define SIAMRUNG_BREACH_MODE_C_ALL_ZEROS 3
-/* a Map has a STOP below its START (bits 40-50 and 14-24 of Table 4-2). If they are equal, it is no breach */
+/* a Map has a STOP (bits 40-50) below its START (bits 14-24). If they are equal, it is no breach. That paper has the two fields (Table 4-2), and no
+ * rule about them: this rule is the technicians' own */
 #define SIAMRUNG_BREACH_MAP_STOP_BELOW_START 4
 
 /* ---- manners: what was done, as siamrung_manners_done takes it out of an answer; else it is one of the refusals 2, 14, 52 */
@@ -299,7 +300,7 @@ extern "C" {
 #define SIAMRUNG_MANNERS_REFUSAL_LIST_TOO_SMALL 52
 
 /* no line has more breaches. A list for so many has 4 * 6,553 bytes */
-#define SIAMRUNG_MANNERS_MOST 6553
+#define SIAMRUNG_MOST_BREACHES 6553
 
 /*
  * ---- items of link data fields, for siamrung_field_has, siamrung_field_item and siamrung_field_write. Each has the bits that the document
@@ -630,17 +631,17 @@ uint32_t siamrung_index_find(const siamrung_entry *table, size_t entries, uint32
 /*
  * ---- the call of manners: where a sensor breaks rules between fields
  *
- * Document 004 has rules between fields, and reports are accepted either way. The SIAMRUNG_BREACH_ numbers name four of them. A breach is a run that is
- * accepted and breaks one of them. No run has two. The line is not changed, and other calls answer about it as before.
+ * Reports are accepted whether they keep the four rules above or not; the SIAMRUNG_BREACH_ numbers name them. A breach is a run that is accepted and
+ * breaks one of them. No run has two. The line is not changed, and other calls answer about it as before.
  *
  * A refused run has no breach: it is not judged. So a line of refused runs has none. Go over the line with siamrung_kind to see what is refused.
  *
  * A list is a slice of bytes, four bytes a breach: two for the place of the run's first word, two for the rule's number, both high byte first.
- * siamrung_breach_place and siamrung_breach_rule take them out. The place can be passed to the calls that read a line. The breaches stand in the order
- * of their places.
+ * siamrung_breach_place and siamrung_breach_rule take them out. The place can be passed to the calls that read a line. The breaches stand in the
+ * order of their places.
  *
- * An answer has two parts: what was done, and how many breaches the line has. siamrung_manners_done and siamrung_manners_breaches take them out. Do not
- * compare an answer itself with a refusal: take it apart first.
+ * An answer has two parts: what was done, and how many breaches the line has. siamrung_manners_done and siamrung_manners_breaches take them out. Do
+ * not compare an answer itself with a refusal: take it apart first.
  */
 
 /* Takes out of an answer what was done: SIAMRUNG_MANNERS_LISTED, or the refusal 2, 14 or 52. */
@@ -649,14 +650,15 @@ static inline uint32_t siamrung_manners_done(uint32_t answer)
     return answer % 256;
 }
 
-/* Takes out of an answer how many breaches the line has: so many are in the list after LISTED, and would have to be in it after 52. After 2 and 14 it
- * is 0, and the line was not looked at. */
+/* Takes out of an answer how many breaches the line has. After LISTED so many are in the list. After 52 none of them is: do not read the list. After
+ * 2 and 14 it is 0, and the line was not looked at. */
 static inline size_t siamrung_manners_breaches(uint32_t answer)
 {
     return answer / 256;
 }
 
-/* Take out of a list the place of breach k, and the number of its rule. k is counted from 0, and below the number of breaches in the list. */
+/* Take out of a list the place of breach k, and the number of its rule. Call them only after LISTED, with k from 0 on and below the number of
+ * breaches that siamrung_manners_breaches takes out of that answer. */
 static inline size_t siamrung_breach_place(const uint8_t *list, size_t k)
 {
     return (size_t)list[4 * k] * 256 + list[4 * k + 1];
@@ -670,13 +672,14 @@ static inline uint32_t siamrung_breach_rule(const uint8_t *list, size_t k)
 /*
  * Lists the breaches of the whole line, from the start of the list on. siamrung_manners_done takes out of the answer the first of 2, 14, 52 whose
  * condition holds, else LISTED. 52 means that the list has fewer than four bytes for each breach of the line. After a refusal every byte of the list
- * is as it was; after LISTED every byte behind the last breach is. A list of 4 * SIAMRUNG_MANNERS_MOST bytes is large enough for every line. With a
- * shorter one the answer may be 52; it says how many breaches the line has, so that the program can lend enough. To count the breaches alone, pass NULL
- * and 0 for the list: siamrung_manners_breaches takes the number out, after 52 and, for a line without a breach, after LISTED.
+ * is as it was; after LISTED every byte behind the last breach is. A list of 4 * SIAMRUNG_MOST_BREACHES bytes is large enough for every line. With a
+ * shorter one the answer may be 52; it says how many breaches the line has, so that the program can lend enough. To count the breaches alone, pass
+ * NULL and 0 for the list: siamrung_manners_breaches takes the number out, after 52 and, for a line without a breach, after LISTED.
  *
- * Pass the form of the altitude as to the other calls. But the answer and the list are the same in both forms: a run that only one of them accepts, with
- * the bits 100000000000 for the altitude, has no breach. The list must not overlap the line. The work is in proportion to the line. It is read once if
- * the list has four bytes for each five words of the line, for it cannot have more breaches; else once to count them, and once more to list them.
+ * Pass the form of the altitude as to the other calls. But the answer and the list are the same in both forms: a run that only one of them accepts,
+ * with the bits 100000000000 for the altitude, has no breach. The list must not overlap the line. The work is in proportion to the line. A line of n
+ * words has at most (n + 1) / 5 breaches, rounded down. If the list has room for so many, or if the line has none, the line is read once; else once
+ * to count, and once more to list.
  */
 uint32_t siamrung_manners(const uint8_t *bytes, size_t length, uint32_t form, uint8_t *list, size_t list_length);
 

@@ -56,7 +56,7 @@ static const uint32_t no_items[NO_ITEMS] = {68, 265, 457, 0x80000004};
 /* no field of a frame needs more bytes */
 #define MOST_ROOM 256
 /* no list of breaches needs more bytes: 26,220 */
-#define MOST_LIST (4 * SIAMRUNG_MANNERS_MOST + 8)
+#define MOST_LIST (4 * SIAMRUNG_MOST_BREACHES + 8)
 
 /* ---- the slices of a case, each with a copy */
 

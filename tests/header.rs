@@ -74,7 +74,8 @@ fn numbers(header: &str) {
     add(&mut expected, done(&specs), "INDEX");
     add(&mut expected, numbered(specs.iter(), "ruleNumber R."), "BREACH");
     add(&mut expected, numbered(specs.iter(), "mannersNumber M."), "MANNERS_REFUSAL");
-    add(&mut expected, [("Listed", "listedDone"), ("Most", "mostBreaches")].map(|(name, of)| (name.into(), single(&specs, of))).into(), "MANNERS");
+    expected.insert("MANNERS_LISTED".into(), single(&specs, "listedDone"));
+    expected.insert("MOST_BREACHES".into(), single(&specs, "mostBreaches"));
     add(&mut expected, numbered(items(false), ""), "ITEM");
     add(&mut expected, numbered(items(true), ""), "FIELD_ITEM");
     add_types(&mut expected, &specs);

@@ -46,7 +46,7 @@ const WRONG: [&str; 4] = [
     "an ATCRBS substitution report has bit 5, Mode 3/A, set (4.2.7)",
     "a relayed DABS report has bit 6, Mode C, zero (4.1.4)",
     "an ATCRBS report has bit 6, Mode C, set and bits 79-90 all zeros (4.2.2); at sea level it may be right",
-    "a Map has its range stop below its range start (Table 4-2)",
+    "a Map has its range stop below its range start (fields of Table 4-2)",
 ];
 
 // The rule that the accepted run at a place breaks.
@@ -84,7 +84,7 @@ pub fn printed(forms: &[Form], bytes: &[u8]) -> String {
         }
     }
     for (k, wrong) in WRONG.iter().enumerate() {
-        out += &format!("{} of rule {}: {wrong}\n", counts[k], k + 1);
+        out += &format!("rule {} broken {} times: {wrong}\n", k + 1, counts[k]);
     }
     out + &format!("{reports} reports, {} breaches; {refused} refused and not judged\n", counts.iter().sum::<usize>())
 }

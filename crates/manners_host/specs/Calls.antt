@@ -15,11 +15,11 @@ use Rattle.manners.specs.Listing.{leftBy, listedBytes}
 -- ---- an answer as one number
 
 -- all breaches are in the list. No two of this number, the kinds', the refusals' and what was done in an index are the same (tests/header.rs)
-abbrev listedDone : ℕ
+abbrev pub listedDone : ℕ
 listedDone = 128
 
 -- the breaches are counted in these
-abbrev step : ℕ
+abbrev pub step : ℕ
 step = 256
 
 -- what was done, and behind it how many breaches the line has
