@@ -478,8 +478,8 @@ static void make_rows(size_t large)
     add_line("manners, each a breach", list_manners, all_breaches, SHORT_LINE, large);
     add_line("manners, mostly idle", list_manners, idle_breaches, SHORT_LINE, large);
     manners = row_count;
-    add_exact("manners, each a breach, exact list: two passes", &rows[manners - 2]);
-    add_exact("manners, few breaches, exact list: two passes", &rows[manners - 3]);
+    add_exact("exact list, each a breach: two passes", &rows[manners - 2]);
+    add_exact("exact list, few breaches: two passes", &rows[manners - 3]);
     add_beside(manners, &plain_once, ": one pass");
 }
 
