@@ -25,20 +25,20 @@ use Rattle.manners.specs.declared.Rule.the-variants as R
 abbrev pub isSubstitution : List ℕ → Bool
 isSubstitution ws = any (isCd ws ∷ isMtd ws ∷ isRdas ws ∷ [])
 
--- 1: an ATCRBS substitution report (bit 4 zero) with bit 5 set. In a radar substitution the Mode 3/A bit is not set (4.2.7)
+-- 1: an ATCRBS substitution report (bit 4 zero) with bit 5 set. Where a radar stands in, bit 5, Mode 3/A, must be zero (4.2.7)
 abbrev pub substitutionMode3a : List ℕ → Bool
 substitutionMode3a ws = all (isSubstitution ws ∷ not (bit ws 4) ∷ bit ws 5 ∷ [])
 
--- 2: a relayed DABS report (bit 47 one), its substitutions too, with bit 6 zero. Relayed data always has the Mode C bit set (4.1.4)
+-- 2: a relayed DABS report (bit 47 one), its substitutions too, with bit 6 zero. Whatever is relayed must have bit 6, Mode C, one (4.1.4)
 abbrev pub relayWithoutModeC : List ℕ → Bool
 relayWithoutModeC ws = all (isDabs ws ∷ bit ws 47 ∷ not (bit ws 6) ∷ [])
 
--- 3: an ATCRBS report (bit 4 zero) with bit 6 one, bit 12 zero and altitude field all zeros. Mode C is set only where the code is not all zeros
--- (4.2.2)
+-- 3: an ATCRBS report (bit 4 zero) with bit 6 one, bit 12 zero and altitude field all zeros. Bit 6 must be zero for a code of all zeros (4.2.2)
 abbrev pub modeCAllZeros : List ℕ → Bool
 modeCAllZeros ws = all (isSeven ws ∷ not (bit ws 4) ∷ bit ws 6 ∷ not (bit ws 12) ∷ eqb (bits ws 79 90) 0 ∷ [])
 
--- 4: a Map whose stop (bits 40-50) is below its start (bits 14-24). Equal start and stop is valid
+-- 4: a Map whose stop (bits 40-50) is below its start (bits 14-24). Equal start and stop is valid. Document 02 has this rule; 004 has the two fields
+-- alone (Table 4-2)
 abbrev pub mapStopBelowStart : List ℕ → Bool
 mapStopBelowStart ws = all (isMap ws ∷ ltb (bits ws 40 50) (bits ws 14 24) ∷ [])
 
@@ -51,6 +51,7 @@ broken R.MapStopBelowStart ws = mapStopBelowStart ws
 
 -- ---- over the record
 
+-- a number is zero
 abbrev pub isZero : ℤ → Bool
 isZero (pos n) = eqb n 0
 isZero (negsuc n) = false
