@@ -1,4 +1,5 @@
--- What each call that reads a line answers, from the outcome at the place. A report's kind has its number from reports; what is no report has
+-- What each call that reads a line answers, from the outcome at the place. siamrung_link answers the link of what is received there (lines/specs/
+-- Links.antt). A report's kind has its number from reports; what is no report has
 -- its number here. Definitions only.
 use Prim.Native.Nat.{ℕ}
 use Rattle.refusals.specs.Numbers.{lineNumber}
@@ -13,7 +14,7 @@ use Rattle.report_items.specs.declared.items.Item.the-variants as I
 use Rattle.report_items.specs.Items.{itemOf}
 
 abbrev pub version : ℕ
-version = 7
+version = 8
 
 -- the kind of what is no report
 abbrev refusedKind : ℕ

@@ -1,14 +1,16 @@
 // The calls that read a line lent as bytes, two a word, high byte first, at a place counted in words. Each answers one thing about the run
-// at or behind the place, and reads that run and no more. Any bytes, any place and any number of an altitude form are taken.
+// at or behind the place, and reads that run and no more. Any bytes, any place, any number of an altitude form and any link number are taken; a link
+// number above 15 is refused, with number 13.
 // Relies on line_reader for the outcome, report_items for the fields, reports for kinds and values.
 ghost use mathlib.Core.Path.{_≡_};
 ghost use Rattle.measures.specs.Exact.{Exact};
-ghost use Rattle.lines.specs.Bytes.{readBytes};
+ghost use Rattle.lines.specs.Links.{readBytesOn};
 ghost use Rattle.reports.specs.Altitude.{chosen};
 ghost use Rattle.reports.specs.Values.{Yields};
 ghost use Rattle.report_items.specs.Items.{isOf, valueOf};
 ghost use Rattle.host.specs.Line.{version, kindNumberOf, refusalOf, itemAt, countedAt, has, rangeOf, azimuthOf, timeOf, Shows};
 use lines::Outcome;
+use lines::Received;
 use lines::What;
 use measures::CoarseAzimuth;
 use measures::CoarseRange;
@@ -30,7 +32,7 @@ const END: u32 = 121;
 // ---- the version of these calls
 
 // It grows with each new call, and whenever a call is changed or accepts more than before.
-const VERSION: u32 = 7;
+const VERSION: u32 = 8;
 
 // Numbers keep their meaning. A call that accepts more than before keeps its name; any other change of its meaning gives it a new name.
 #[no_mangle]
@@ -42,11 +44,19 @@ pub extern "C" fn siamrung_version() -> u32
 
 // ---- what stands at a place
 
-// The outcome there; altitudes are read in the form of this number.
-fn outcome_at(bytes: &[u8], place: usize, form: u32) -> Outcome
-    ensures { λ r. ⌜ r ≡ readBytes (chosen form) (now (bytes .entry)) place ⌝ }
+// The answer there, with its link; altitudes are read in the form of this number.
+fn received_at(bytes: &[u8], place: usize, form: u32, link: u32) -> Received
+    ensures { λ r. ⌜ r ≡ readBytesOn (chosen form) link (now (bytes .entry)) place ⌝ }
 {
-    line_reader::bytes::read(bytes, place, Form::numbered(form))
+    line_reader::bytes::read(bytes, place, Form::numbered(form), link)
+}
+
+// Its outcome.
+fn outcome_at(bytes: &[u8], place: usize, form: u32, link: u32) -> Outcome
+    ensures { λ r. ⌜ r ≡ readBytesOn (chosen form) link (now (bytes .entry)) place .outcome ⌝ }
+{
+    let received = received_at(bytes, place, form, link);
+    received.outcome
 }
 
 fn kind_number(what: What) -> u32
@@ -70,53 +80,62 @@ fn refusal_number(what: What) -> u32
 }
 
 #[no_mangle]
-pub extern "C" fn siamrung_kind(bytes: &[u8], place: usize, form: u32) -> u32
-    ensures { λ r. ⌜ r ≡ kindNumberOf (readBytes (chosen form) (now (bytes .entry)) place .what) ⌝ }
+pub extern "C" fn siamrung_kind(bytes: &[u8], place: usize, form: u32, link: u32) -> u32
+    ensures { λ r. ⌜ r ≡ kindNumberOf (readBytesOn (chosen form) link (now (bytes .entry)) place .outcome .what) ⌝ }
 {
-    let o = outcome_at(bytes, place, form);
+    let o = outcome_at(bytes, place, form, link);
     let what = o.what;
     kind_number(what)
 }
 
 #[no_mangle]
-pub extern "C" fn siamrung_refusal(bytes: &[u8], place: usize, form: u32) -> u32
-    ensures { λ r. ⌜ r ≡ refusalOf (readBytes (chosen form) (now (bytes .entry)) place .what) ⌝ }
+pub extern "C" fn siamrung_refusal(bytes: &[u8], place: usize, form: u32, link: u32) -> u32
+    ensures { λ r. ⌜ r ≡ refusalOf (readBytesOn (chosen form) link (now (bytes .entry)) place .outcome .what) ⌝ }
 {
-    let o = outcome_at(bytes, place, form);
+    let o = outcome_at(bytes, place, form, link);
     let what = o.what;
     refusal_number(what)
 }
 
 #[no_mangle]
-pub extern "C" fn siamrung_first(bytes: &[u8], place: usize, form: u32) -> usize
-    ensures { λ r. ⌜ r ≡ readBytes (chosen form) (now (bytes .entry)) place .first ⌝ }
+pub extern "C" fn siamrung_first(bytes: &[u8], place: usize, form: u32, link: u32) -> usize
+    ensures { λ r. ⌜ r ≡ readBytesOn (chosen form) link (now (bytes .entry)) place .outcome .first ⌝ }
 {
-    let o = outcome_at(bytes, place, form);
+    let o = outcome_at(bytes, place, form, link);
     o.first
 }
 
 #[no_mangle]
-pub extern "C" fn siamrung_after(bytes: &[u8], place: usize, form: u32) -> usize
-    ensures { λ r. ⌜ r ≡ readBytes (chosen form) (now (bytes .entry)) place .after ⌝ }
+pub extern "C" fn siamrung_after(bytes: &[u8], place: usize, form: u32, link: u32) -> usize
+    ensures { λ r. ⌜ r ≡ readBytesOn (chosen form) link (now (bytes .entry)) place .outcome .after ⌝ }
 {
-    let o = outcome_at(bytes, place, form);
+    let o = outcome_at(bytes, place, form, link);
     o.after
 }
 
 #[no_mangle]
-pub extern "C" fn siamrung_named(bytes: &[u8], place: usize, form: u32) -> usize
-    ensures { λ r. ⌜ r ≡ readBytes (chosen form) (now (bytes .entry)) place .named ⌝ }
+pub extern "C" fn siamrung_named(bytes: &[u8], place: usize, form: u32, link: u32) -> usize
+    ensures { λ r. ⌜ r ≡ readBytesOn (chosen form) link (now (bytes .entry)) place .outcome .named ⌝ }
 {
-    let o = outcome_at(bytes, place, form);
+    let o = outcome_at(bytes, place, form, link);
     o.named
+}
+
+// The number of its link; 0 where it is refused with 13.
+#[no_mangle]
+pub extern "C" fn siamrung_link(bytes: &[u8], place: usize, form: u32, link: u32) -> u32
+    ensures { λ r. ⌜ r ≡ readBytesOn (chosen form) link (now (bytes .entry)) place .link ⌝ }
+{
+    let received = received_at(bytes, place, form, link);
+    received.link
 }
 
 // ---- the fields of a report
 
-fn item_at(bytes: &[u8], place: usize, form: u32, item: u32) -> Item
-    ensures { λ r. ⌜ r ≡ itemAt (readBytes (chosen form) (now (bytes .entry)) place .what) item ⌝ }
+fn item_at(bytes: &[u8], place: usize, form: u32, link: u32, item: u32) -> Item
+    ensures { λ r. ⌜ r ≡ itemAt (readBytesOn (chosen form) link (now (bytes .entry)) place .outcome .what) item ⌝ }
 {
-    let o = outcome_at(bytes, place, form);
+    let o = outcome_at(bytes, place, form, link);
     let what = o.what;
     match what {
         What::Accepted(report) => items::item_of(report, item as usize),
@@ -126,10 +145,10 @@ fn item_at(bytes: &[u8], place: usize, form: u32, item: u32) -> Item
 }
 
 #[no_mangle]
-pub extern "C" fn siamrung_has(bytes: &[u8], place: usize, form: u32, item: u32) -> u32
-    ensures { λ r. ⌜ r ≡ isOf (itemAt (readBytes (chosen form) (now (bytes .entry)) place .what) item) ⌝ }
+pub extern "C" fn siamrung_has(bytes: &[u8], place: usize, form: u32, link: u32, item: u32) -> u32
+    ensures { λ r. ⌜ r ≡ isOf (itemAt (readBytesOn (chosen form) link (now (bytes .entry)) place .outcome .what) item) ⌝ }
 {
-    let own = item_at(bytes, place, form, item);
+    let own = item_at(bytes, place, form, link, item);
     match own {
         Item::Of(_) => 1,
         Item::Missing => 0,
@@ -138,10 +157,10 @@ pub extern "C" fn siamrung_has(bytes: &[u8], place: usize, form: u32, item: u32)
 
 // 0 where the report has no such item, which siamrung_has tells.
 #[no_mangle]
-pub extern "C" fn siamrung_item(bytes: &[u8], place: usize, form: u32, item: u32) -> i64
-    ensures { λ r. ⌜ r ≡ valueOf (itemAt (readBytes (chosen form) (now (bytes .entry)) place .what) item) ⌝ }
+pub extern "C" fn siamrung_item(bytes: &[u8], place: usize, form: u32, link: u32, item: u32) -> i64
+    ensures { λ r. ⌜ r ≡ valueOf (itemAt (readBytesOn (chosen form) link (now (bytes .entry)) place .outcome .what) item) ⌝ }
 {
-    let own = item_at(bytes, place, form, item);
+    let own = item_at(bytes, place, form, link, item);
     match own {
         Item::Of(z) => z,
         Item::Missing => 0,
@@ -150,10 +169,10 @@ pub extern "C" fn siamrung_item(bytes: &[u8], place: usize, form: u32, item: u32
 
 // ---- range, azimuth and time as floats
 
-fn values_at(bytes: &[u8], place: usize, form: u32) -> Values
-    ensures { λ r. ⌜ Yields (countedAt (readBytes (chosen form) (now (bytes .entry)) place .what)) r ⌝ }
+fn values_at(bytes: &[u8], place: usize, form: u32, link: u32) -> Values
+    ensures { λ r. ⌜ Yields (countedAt (readBytesOn (chosen form) link (now (bytes .entry)) place .outcome .what)) r ⌝ }
 {
-    let o = outcome_at(bytes, place, form);
+    let o = outcome_at(bytes, place, form, link);
     let what = o.what;
     match what {
         What::Accepted(report) => values::values_of(report),
@@ -163,10 +182,10 @@ fn values_at(bytes: &[u8], place: usize, form: u32) -> Values
 }
 
 #[no_mangle]
-pub extern "C" fn siamrung_has_values(bytes: &[u8], place: usize, form: u32) -> u32
-    ensures { λ r. ⌜ r ≡ has (countedAt (readBytes (chosen form) (now (bytes .entry)) place .what)) ⌝ }
+pub extern "C" fn siamrung_has_values(bytes: &[u8], place: usize, form: u32, link: u32) -> u32
+    ensures { λ r. ⌜ r ≡ has (countedAt (readBytesOn (chosen form) link (now (bytes .entry)) place .outcome .what)) ⌝ }
 {
-    let values = values_at(bytes, place, form);
+    let values = values_at(bytes, place, form, link);
     match values {
         Values::Measured(_) => 1,
         Values::Nothing => 0,
@@ -174,10 +193,10 @@ pub extern "C" fn siamrung_has_values(bytes: &[u8], place: usize, form: u32) -> 
 }
 
 // All plus zero where there are none, which siamrung_has_values tells.
-fn measured_at(bytes: &[u8], place: usize, form: u32) -> Measured
-    ensures { λ r. ⌜ Shows (countedAt (readBytes (chosen form) (now (bytes .entry)) place .what)) r ⌝ }
+fn measured_at(bytes: &[u8], place: usize, form: u32, link: u32) -> Measured
+    ensures { λ r. ⌜ Shows (countedAt (readBytesOn (chosen form) link (now (bytes .entry)) place .outcome .what)) r ⌝ }
 {
-    let values = values_at(bytes, place, form);
+    let values = values_at(bytes, place, form, link);
     match values {
         Values::Measured(m) => m,
         Values::Nothing => Measured::coarse(CoarseRange(0), CoarseAzimuth(0), Time(0)),
@@ -185,25 +204,25 @@ fn measured_at(bytes: &[u8], place: usize, form: u32) -> Measured
 }
 
 #[no_mangle]
-pub extern "C" fn siamrung_nmi(bytes: &[u8], place: usize, form: u32) -> f64
-    ensures { λ r. ⌜ Exact (rangeOf (countedAt (readBytes (chosen form) (now (bytes .entry)) place .what))) r ⌝ }
+pub extern "C" fn siamrung_nmi(bytes: &[u8], place: usize, form: u32, link: u32) -> f64
+    ensures { λ r. ⌜ Exact (rangeOf (countedAt (readBytesOn (chosen form) link (now (bytes .entry)) place .outcome .what))) r ⌝ }
 {
-    let m = measured_at(bytes, place, form);
+    let m = measured_at(bytes, place, form, link);
     m.range
 }
 
 #[no_mangle]
-pub extern "C" fn siamrung_degrees(bytes: &[u8], place: usize, form: u32) -> f64
-    ensures { λ r. ⌜ Exact (azimuthOf (countedAt (readBytes (chosen form) (now (bytes .entry)) place .what))) r ⌝ }
+pub extern "C" fn siamrung_degrees(bytes: &[u8], place: usize, form: u32, link: u32) -> f64
+    ensures { λ r. ⌜ Exact (azimuthOf (countedAt (readBytesOn (chosen form) link (now (bytes .entry)) place .outcome .what))) r ⌝ }
 {
-    let m = measured_at(bytes, place, form);
+    let m = measured_at(bytes, place, form, link);
     m.azimuth
 }
 
 #[no_mangle]
-pub extern "C" fn siamrung_seconds(bytes: &[u8], place: usize, form: u32) -> f64
-    ensures { λ r. ⌜ Exact (timeOf (countedAt (readBytes (chosen form) (now (bytes .entry)) place .what))) r ⌝ }
+pub extern "C" fn siamrung_seconds(bytes: &[u8], place: usize, form: u32, link: u32) -> f64
+    ensures { λ r. ⌜ Exact (timeOf (countedAt (readBytesOn (chosen form) link (now (bytes .entry)) place .outcome .what))) r ⌝ }
 {
-    let m = measured_at(bytes, place, form);
+    let m = measured_at(bytes, place, form, link);
     m.time
 }

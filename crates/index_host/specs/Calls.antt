@@ -12,7 +12,7 @@ use Rattle.index.specs.declared.Found.the-variants as F
 use Rattle.index.specs.Numbers.{indexNumber}
 use Rattle.index.specs.Entries.{uncorrelated, entryOf}
 use Rattle.index.specs.Indexing.{indexed, leftBy}
-use Rattle.lines.specs.Bytes.{readBytes}
+use Rattle.lines.specs.Links.{readBytesOn}
 use Rattle.reports.specs.Altitude.{AltitudeForm}
 
 -- ---- what was done. No two of these numbers, the kinds' and the refusals' are the same (tests/header.rs)
@@ -55,10 +55,14 @@ foundNumber (F.Refused q) = indexNumber q
 
 -- ---- the calls
 
--- what entering promises: the outcome at the place of the line, with the scan number, is entered
-pub record Enters (form : AltitudeForm) (table : List Entry) (bytes : List ℕ) (place scan answer : ℕ) (exit : List Entry) : Type 0 where
-  pub answers : answer ≡ answerNumber (indexed table (entryOf (readBytes form bytes place) scan .number))
-  pub leaves : exit ≡ leftBy (indexed table (entryOf (readBytes form bytes place) scan .number)) table (entryOf (readBytes form bytes place) scan)
+-- what the outcome at the place of the line brings, with the scan number. An entry has no link number
+abbrev pub broughtBy : AltitudeForm → ℕ → List ℕ → ℕ → ℕ → Entry
+broughtBy form link bytes place scan = entryOf (readBytesOn form link bytes place .outcome) scan
+
+-- what entering promises: that is entered
+pub record Enters (form : AltitudeForm) (link : ℕ) (table : List Entry) (bytes : List ℕ) (place scan answer : ℕ) (exit : List Entry) : Type 0 where
+  pub answers : answer ≡ answerNumber (indexed table (broughtBy form link bytes place scan .number))
+  pub leaves : exit ≡ leftBy (indexed table (broughtBy form link bytes place scan .number)) table (broughtBy form link bytes place scan)
 
 -- how many numbers sixteen bits have
 abbrev numbers : ℕ

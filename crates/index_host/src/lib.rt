@@ -4,7 +4,7 @@
 ghost use mathlib.Core.Path.{_≡_};
 ghost use Rattle.index.specs.Entries.{entryOf};
 ghost use Rattle.index.specs.Indexing.{found};
-ghost use Rattle.lines.specs.Bytes.{readBytes};
+ghost use Rattle.lines.specs.Links.{readBytesOn};
 ghost use Rattle.reports.specs.Altitude.{chosen};
 ghost use Rattle.index_host.specs.Calls.{answerNumber, foundNumber, fileNumber, Enters};
 use index::Entry;
@@ -51,11 +51,12 @@ fn found_number(answer: Found) -> u32
 
 // ---- entering
 
-// What the outcome at a place of the line brings.
-fn brought(bytes: &[u8], place: usize, form: u32, scan: u32) -> Entry
-    ensures { λ r. ⌜ r ≡ entryOf (readBytes (chosen form) (now (bytes .entry)) place) scan ⌝ }
+// What the outcome at a place of the line brings. An entry has no link number.
+fn brought(bytes: &[u8], place: usize, form: u32, link: u32, scan: u32) -> Entry
+    ensures { λ r. ⌜ r ≡ entryOf (readBytesOn (chosen form) link (now (bytes .entry)) place .outcome) scan ⌝ }
 {
-    let o = line_reader::bytes::read(bytes, place, Form::numbered(form));
+    let received = line_reader::bytes::read(bytes, place, Form::numbered(form), link);
+    let o = received.outcome;
     seen::entry_of(o, scan)
 }
 
@@ -65,11 +66,12 @@ pub extern "C" fn siamrung_index_enter(
     bytes: &[u8],
     place: usize,
     form: u32,
+    link: u32,
     scan: u32,
 ) -> u32
-    ensures { λ r. ⌜ Enters (chosen form) (now (table .entry)) (now (bytes .entry)) place scan r (now (table .exit)) ⌝ }
+    ensures { λ r. ⌜ Enters (chosen form) link (now (table .entry)) (now (bytes .entry)) place scan r (now (table .exit)) ⌝ }
 {
-    let e = brought(bytes, place, form, scan);
+    let e = brought(bytes, place, form, link, scan);
     let answer = entering::enter(table, e);
     answer_number(answer)
 }

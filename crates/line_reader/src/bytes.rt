@@ -7,13 +7,17 @@ ghost use Rattle.reports.specs.Altitude.{formOf};
 ghost use Rattle.reports.specs.Runs.{readRun};
 ghost use Rattle.lines.specs.Line.{runAt};
 ghost use Rattle.lines.specs.Bytes.{wordsIn, readBytes};
+ghost use Rattle.lines.specs.Links.{readBytesOn};
 ghost use Rattle.line_reader.specs.Places.{Ended, RunPlaces, runWords};
 use crate::run::Places;
 use crate::run::Stop;
+use crate::run::no_such_link;
 use crate::run::not_taken;
 use crate::run::stops;
+use lines::LAST_LINK;
 use lines::MOST_BYTES;
 use lines::Outcome;
+use lines::Received;
 use refusals::LineRefusal;
 use reports::altitude::Form;
 
@@ -107,8 +111,8 @@ fn run_at(bytes: &[u8], place: usize, form: Form) -> Outcome
     )
 }
 
-// The answer at a place; altitudes are read in the form.
-pub fn read(bytes: &[u8], place: usize, form: Form) -> Outcome
+// What is found at a place; altitudes are read in the form.
+fn found_at(bytes: &[u8], place: usize, form: Form) -> Outcome
     ensures { λ r. ⌜ r ≡ readBytes (formOf form) (now (bytes .entry)) place ⌝ }
 {
     if MOST_BYTES < bytes.len() {
@@ -121,4 +125,14 @@ pub fn read(bytes: &[u8], place: usize, form: Form) -> Outcome
         return not_taken(LineRefusal::PlaceBeyondLine, place);
     }
     run_at(bytes, place, form)
+}
+
+// The answer at a place, with the number of the link that the line came on.
+pub fn read(bytes: &[u8], place: usize, form: Form, link: u32) -> Received
+    ensures { λ r. ⌜ r ≡ readBytesOn (formOf form) link (now (bytes .entry)) place ⌝ }
+{
+    if LAST_LINK < link {
+        return no_such_link(place);
+    }
+    Received::new(link, found_at(bytes, place, form))
 }

@@ -6,9 +6,12 @@ ghost use mathlib.Core.List.{[], _∷_};
 ghost use Prim.Native.Nat.{_+_, _≤_, _<_, _^_};
 ghost use Rattle.reports.specs.Altitude.{formOf};
 ghost use Rattle.reports.specs.Runs.{answerOffset};
+ghost use Rattle.refusals.specs.declared.LineRefusal.the-variants.{NoSuchLink};
 ghost use Rattle.lines.specs.Line.{placed, notTaken};
+ghost use Rattle.lines.specs.Links.{receivedOn};
 ghost use Rattle.line_reader.specs.Places.{stopsAt, answered};
 use lines::Outcome;
+use lines::Received;
 use lines::What;
 use refusals::LineRefusal;
 use reports::RunAnswer;
@@ -54,6 +57,13 @@ pub fn not_taken(why: LineRefusal, place: usize) -> Outcome
     ensures { λ r. ⌜ r ≡ notTaken why place ⌝ }
 {
     Outcome::new(What::Refused(why), place, place, place)
+}
+
+// A number that no link has: the caller's place for all three, and link 0.
+pub fn no_such_link(place: usize) -> Received
+    ensures { λ r. ⌜ r ≡ receivedOn 0 (notTaken NoSuchLink place) ⌝ }
+{
+    Received::new(0, not_taken(LineRefusal::NoSuchLink, place))
 }
 
 // The answer to a run of n words, at its place in the line.

@@ -6,13 +6,17 @@ ghost use lib.ListN.{length, getD};
 ghost use Rattle.reports.specs.Altitude.{formOf};
 ghost use Rattle.reports.specs.Runs.{readRun};
 ghost use Rattle.lines.specs.Line.{runAt, readAt};
+ghost use Rattle.lines.specs.Links.{readOn};
 ghost use Rattle.line_reader.specs.Places.{Ended, RunPlaces, runWords};
 use crate::run::Places;
 use crate::run::Stop;
+use crate::run::no_such_link;
 use crate::run::not_taken;
 use crate::run::stops;
+use lines::LAST_LINK;
 use lines::MOST;
 use lines::Outcome;
+use lines::Received;
 use refusals::LineRefusal;
 use reports::altitude::Form;
 
@@ -92,8 +96,8 @@ fn run_at(line: &[u16], place: usize, form: Form) -> Outcome
     )
 }
 
-// The answer at a place; altitudes are read in the form.
-pub fn read(line: &[u16], place: usize, form: Form) -> Outcome
+// What is found at a place; altitudes are read in the form.
+fn found_at(line: &[u16], place: usize, form: Form) -> Outcome
     ensures { λ r. ⌜ r ≡ readAt (formOf form) (now (line .entry)) place ⌝ }
 {
     let n = line.len();
@@ -104,4 +108,14 @@ pub fn read(line: &[u16], place: usize, form: Form) -> Outcome
         return not_taken(LineRefusal::PlaceBeyondLine, place);
     }
     run_at(line, place, form)
+}
+
+// The answer at a place, with the number of the link that the line came on.
+pub fn read(line: &[u16], place: usize, form: Form, link: u32) -> Received
+    ensures { λ r. ⌜ r ≡ readOn (formOf form) link (now (line .entry)) place ⌝ }
+{
+    if LAST_LINK < link {
+        return no_such_link(place);
+    }
+    Received::new(link, found_at(line, place, form))
 }

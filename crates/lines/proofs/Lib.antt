@@ -7,6 +7,7 @@ pub mod Outcomes
 pub mod Parts
 pub mod Totals
 pub mod Refused
+pub mod Linked
 pub mod Back
 pub mod Written
 pub mod Flipped

@@ -9,7 +9,7 @@ use lib.Dec.{ltb}
 use lib.ListN.{length, take, drop, replicate}
 use Rattle.rows.specs.Claims.{FirstIs}
 use Rattle.refusals.specs.declared.LineRefusal.{LineRefusal}
-use Rattle.refusals.specs.declared.LineRefusal.the-variants.{WrongLength}
+use Rattle.refusals.specs.declared.LineRefusal.the-variants.{NoSuchLink, WrongLength}
 use Rattle.words.specs.Word.{idle, flipped}
 use Rattle.reports.specs.declared.Report.{Report}
 use Rattle.reports.specs.declared.RunAnswer.{RunAnswer}
@@ -23,13 +23,15 @@ use Rattle.reports.specs.Runs.{readRun}
 use Rattle.lines.specs.declared.What.{What}
 use Rattle.lines.specs.declared.What.the-variants as W
 use Rattle.lines.specs.declared.Outcome.{Outcome}
+use Rattle.lines.specs.declared.Received.{Received}
 use Rattle.lines.specs.declared.Wrote.the-variants as P
 use Rattle.lines.specs.Line.{most, outcomeOf, endOf, notTaken, placed, isReport, isRefusal, isEnd, readBy, readAt, calls, outcomes}
 use Rattle.lines.specs.Bytes.{mostBytes, wordsIn, readBytes}
+use Rattle.lines.specs.Links.{lastLink, receivedOn, readOn, readBytesOn, callsOn, outcomesOn}
 use Rattle.lines.specs.ByteWriting.{byteWriterRows, writeBytes, bytesLeft}
 use Rattle.lines.specs.Stretches.{Run, runs, runsAt, gathered, idleWords, reportedWords, refusedWords}
 use Rattle.lines.specs.Spaced.{Spaced, lineOf, reportsOf, AllFit, Apart, back}
-use Rattle.lines.specs.Rows.{rowsAt, byteRowsAt}
+use Rattle.lines.specs.Rows.{rowsOn, byteRowsOn}
 use Rattle.lines.specs.Writing.{writerRows, writeAt, leftBy, puts, taken}
 
 -- what looks at the words of a run
@@ -38,16 +40,16 @@ Answer = List ℕ → RunAnswer
 
 -- ---- demand 1: each refusal exactly under its condition (proofs/Refused.antt)
 
--- a refusal is given, with all its places, exactly where its row is the first of the table that holds
+-- a refusal is given, with all its places and its link, exactly where its row is the first of the table that holds
 abbrev pub ReaderRefuses : Type 0
 ReaderRefuses =
-    (form : AltitudeForm) (line : List ℕ) (place : ℕ) (o : Outcome) → isRefusal (o .what) ≡ true
-    → (readAt form line place ≡ o) ↔ FirstIs (rowsAt form line place) o
+    (form : AltitudeForm) (link : ℕ) (line : List ℕ) (place : ℕ) (r : Received) → isRefusal (r .outcome .what) ≡ true
+    → (readOn form link line place ≡ r) ↔ FirstIs (rowsOn form link line place) r
 
 abbrev pub ByteReaderRefuses : Type 0
 ByteReaderRefuses =
-    (form : AltitudeForm) (bytes : List ℕ) (place : ℕ) (o : Outcome) → isRefusal (o .what) ≡ true
-    → (readBytes form bytes place ≡ o) ↔ FirstIs (byteRowsAt form bytes place) o
+    (form : AltitudeForm) (link : ℕ) (bytes : List ℕ) (place : ℕ) (r : Received) → isRefusal (r .outcome .what) ≡ true
+    → (readBytesOn form link bytes place ≡ r) ↔ FirstIs (byteRowsOn form link bytes place) r
 
 abbrev pub WriterRefuses : Type 0
 WriterRefuses =
@@ -65,6 +67,48 @@ pub record PlacesGiven : Type 0 where
   pub refused-run : (first n o : ℕ) (q : LineRefusal) → placed first n (A.Refused q o) ≡ outcomeOf (W.Refused q) first (first + n) (first + o)
   pub report : (first n : ℕ) (r : Report) → placed first n (A.Accepted r) ≡ outcomeOf (W.Accepted r) first (first + n) (first + 0)
   pub not-taken : (q : LineRefusal) (place : ℕ) → notTaken q place ≡ outcomeOf (W.Refused q) place place place
+
+-- ---- the link (document 02, Ticket 7; proofs/Linked.antt)
+
+-- with a number from 0 to 15 a reader answers what is found at the place, and that number
+pub record WithItsNumber : Type 0 where
+  pub words : (form : AltitudeForm) (link : ℕ) (line : List ℕ) (place : ℕ) → link ≤ lastLink
+      → readOn form link line place ≡ receivedOn link (readAt form line place)
+  pub bytes : (form : AltitudeForm) (link : ℕ) (bytes : List ℕ) (place : ℕ) → link ≤ lastLink
+      → readBytesOn form link bytes place ≡ receivedOn link (readBytes form bytes place)
+
+-- so two readings with two such numbers differ in the number alone
+pub record DifferInTheNumber : Type 0 where
+  pub words : (form : AltitudeForm) (link other : ℕ) (line : List ℕ) (place : ℕ) → link ≤ lastLink → other ≤ lastLink
+      → readOn form other line place ≡ receivedOn other (readOn form link line place .outcome)
+  pub bytes : (form : AltitudeForm) (link other : ℕ) (bytes : List ℕ) (place : ℕ) → link ≤ lastLink → other ≤ lastLink
+      → readBytesOn form other bytes place ≡ receivedOn other (readBytesOn form link bytes place .outcome)
+
+-- the number of an outcome is always one from 0 to 15
+pub record NumberInRange : Type 0 where
+  pub words : (form : AltitudeForm) (link : ℕ) (line : List ℕ) (place : ℕ) → readOn form link line place .link ≤ lastLink
+  pub bytes : (form : AltitudeForm) (link : ℕ) (bytes : List ℕ) (place : ℕ) → readBytesOn form link bytes place .link ≤ lastLink
+
+-- 13 is given exactly for a number above 15
+pub record NoSuchLinkExactly : Type 0 where
+  pub words : (form : AltitudeForm) (link : ℕ) (line : List ℕ) (place : ℕ)
+      → (readOn form link line place .outcome .what ≡ W.Refused NoSuchLink) ↔ (lastLink < link)
+  pub bytes : (form : AltitudeForm) (link : ℕ) (bytes : List ℕ) (place : ℕ)
+      → (readBytesOn form link bytes place .outcome .what ≡ W.Refused NoSuchLink) ↔ (lastLink < link)
+
+-- whatever the line is, the outcome then has the caller's place for all three places, and link 0
+pub record NoSuchLinkGives : Type 0 where
+  pub words : (form : AltitudeForm) (link : ℕ) (line : List ℕ) (place : ℕ) → lastLink < link
+      → readOn form link line place ≡ receivedOn 0 (outcomeOf (W.Refused NoSuchLink) place place place)
+  pub bytes : (form : AltitudeForm) (link : ℕ) (bytes : List ℕ) (place : ℕ) → lastLink < link
+      → readBytesOn form link bytes place ≡ receivedOn 0 (outcomeOf (W.Refused NoSuchLink) place place place)
+
+-- a line that is read with one number from 0 to 15 has the outcomes of which the laws below speak, each with that number
+pub record OnOneLink : Type 0 where
+  pub calls-are : (answer : Answer) (link k : ℕ) (line : List ℕ) (place : ℕ) → link ≤ lastLink
+      → callsOn answer link k line place ≡ map (receivedOn link) (calls answer k line place)
+  pub outcomes-are : (answer : Answer) (link : ℕ) (line : List ℕ) → link ≤ lastLink
+      → outcomesOn answer link line ≡ map (receivedOn link) (outcomes answer line)
 
 -- ---- demand 1: the calls come to an end (proofs/Walked.antt, proofs/Outcomes.antt)
 

@@ -1,5 +1,5 @@
--- Document 01's table "Line refusal numbers" as each reader goes through it: all rows in its order, the reader's own and then those of the
--- run. The writers' rows stand in Writing.antt and ByteWriting.antt. Definitions only.
+-- Document 01's table "Line refusal numbers" as each reader goes through it: all rows in its order, that of the link (document 02, Ticket 7), the
+-- reader's own and then those of the run. The writers' rows stand in Writing.antt and ByteWriting.antt. Definitions only.
 use Prim.Native.Nat.{ℕ, _+_}
 use mathlib.Core.List.{List, [], _∷_, _++_}
 use lib.ListN.{length, drop}
@@ -8,7 +8,9 @@ use Rattle.reports.specs.Altitude.{AltitudeForm}
 use Rattle.reports.specs.Runs.{tableOf}
 use Rattle.lines.specs.declared.Outcome.{Outcome}
 use Rattle.lines.specs.Line.{placed, gap, runIn, lineRows}
+use Rattle.lines.specs.declared.Received.{Received}
 use Rattle.lines.specs.Bytes.{wordsIn, byteRows}
+use Rattle.lines.specs.Links.{receivedOn, noSuchLink}
 
 -- numbers 3 to 9 of a run whose first word is at a place; none where there is no run
 abbrev pub runRows : AltitudeForm → ℕ → List ℕ → List (Row Outcome)
@@ -19,10 +21,22 @@ runRows form first (w ∷ ws) = each (placed first (length (w ∷ ws))) (tableOf
 abbrev runRowsAt : AltitudeForm → List ℕ → ℕ → List (Row Outcome)
 runRowsAt form line place = let rest = drop place line in runRows form (place + gap rest) (runIn rest)
 
--- the reader of words: 2, 1, 3 to 9
+-- on a line of words: 2, 1, 3 to 9
 abbrev pub rowsAt : AltitudeForm → List ℕ → ℕ → List (Row Outcome)
 rowsAt form line place = lineRows line place ++ runRowsAt form line place
 
--- the reader of bytes: 2, 14, 1, 3 to 9
+-- on a line of bytes: 2, 14, 1, 3 to 9
 abbrev pub byteRowsAt : AltitudeForm → List ℕ → ℕ → List (Row Outcome)
 byteRowsAt form bytes place = byteRows bytes place ++ runRowsAt form (wordsIn bytes) place
+
+-- with a link number: 13, and then these, each with that number
+abbrev withLink : ℕ → ℕ → List (Row Outcome) → List (Row Received)
+withLink link place rows = noSuchLink link place ∷ each (receivedOn link) rows
+
+-- the reader of words: 13, 2, 1, 3 to 9
+abbrev pub rowsOn : AltitudeForm → ℕ → List ℕ → ℕ → List (Row Received)
+rowsOn form link line place = withLink link place (rowsAt form line place)
+
+-- the reader of bytes: 13, 2, 14, 1, 3 to 9
+abbrev pub byteRowsOn : AltitudeForm → ℕ → List ℕ → ℕ → List (Row Received)
+byteRowsOn form link bytes place = withLink link place (byteRowsAt form bytes place)

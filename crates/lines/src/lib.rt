@@ -3,6 +3,7 @@
 // Relies on reports for the records, refusals for names.
 ghost use mathlib.Core.Path.{_≡_};
 ghost use Rattle.lines.specs.Line.{outcomeOf};
+ghost use Rattle.lines.specs.Links.{receivedOn};
 use refusals::LineRefusal;
 use reports::Report;
 
@@ -39,6 +40,24 @@ impl Outcome {
             after,
             named,
         }
+    }
+}
+
+// The last link number; the first is 0.
+pub const LAST_LINK: u32 = 15;
+
+// An outcome, and the number of the link that it came on, as the caller gave it. This is what a reader answers.
+pub struct Received {
+    pub link: u32,
+    pub outcome: Outcome,
+}
+
+impl Received {
+    // Each is made here.
+    pub fn new(link: u32, outcome: Outcome) -> Self
+        ensures { λ r. ⌜ r ≡ receivedOn link outcome ⌝ }
+    {
+        Received { link, outcome }
     }
 }
 

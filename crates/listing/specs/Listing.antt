@@ -19,6 +19,10 @@ use Rattle.listing.specs.Letters.{text, reportLine, refusedLine, totalsL
 abbrev pub listerForm : AltitudeForm
 listerForm = signMagnitude
 
+-- and it reads with link 0: a listing has no link number (document 02, Ticket 7)
+abbrev pub listerLink : ℕ
+listerLink = 0
+
 -- the answer to the words of a run
 abbrev pub answer : List ℕ → RunAnswer
 answer ws = readRun listerForm ws

@@ -11,11 +11,12 @@ use Rattle.reports.specs.Kinds.{kindOf}
 use Rattle.lines.specs.declared.What.{What}
 use Rattle.lines.specs.declared.What.the-variants as W
 use Rattle.lines.specs.declared.Outcome.{Outcome}
-use Rattle.lines.specs.Bytes.{mostBytes, wordsIn, readBytes}
+use Rattle.lines.specs.Bytes.{mostBytes, wordsIn}
+use Rattle.lines.specs.Links.{readBytesOn}
 use Rattle.listing.specs.declared.Walk.{Walk}
 use Rattle.listing.specs.declared.Piece.{Piece}
 use Rattle.listing.specs.declared.Piece.the-variants as P
-use Rattle.listing.specs.Listing.{listerForm}
+use Rattle.listing.specs.Listing.{listerForm, listerLink}
 use Rattle.listing.specs.Letters.{text, reportLine, refusedLine, totalsLine}
 
 -- the place that the walk has come to, the words in reports and in refused runs before it
@@ -62,7 +63,7 @@ stepRows bytes w =
 
 -- a call: where no row holds, the reader's outcome at the place
 unfoldable pub stepAt : List ℕ → Walk → Step
-stepAt bytes w = firstOf (stepRows bytes w) (stepOn (length (wordsIn bytes)) w (readBytes listerForm bytes (w .place)))
+stepAt bytes w = firstOf (stepRows bytes w) (stepOn (length (wordsIn bytes)) w (readBytesOn listerForm listerLink bytes (w .place) .outcome))
 
 -- the same into a buffer of so many bytes
 unfoldable pub stepIn : ℕ → List ℕ → Walk → Step

@@ -3,6 +3,8 @@
 ghost use mathlib.Core.Path.{_≡_};
 ghost use Prim.Native.Nat.{_≤_};
 ghost use lib.ListN.{length};
+ghost use Rattle.lines.specs.Links.{readBytesOn};
+ghost use Rattle.listing.specs.Listing.{listerForm, listerLink};
 ghost use Rattle.listing.specs.Walking.{start, closed, stepOn, stepIn, Tells};
 ghost use Rattle.listing.specs.Bounds.{Within};
 use line_reader::bytes;
@@ -17,6 +19,9 @@ mod said; // said.rt: the lines of a listing
 
 // The lister reads altitudes in document 01's form: a recording does not tell its own.
 const FORM: Form = Form::SignMagnitude;
+
+// A listing has no link number. The lister reads with link 0; with any other the same is found.
+const LINK: u32 = 0;
 
 // No line of a listing is longer, so a buffer of that many bytes holds each.
 pub const LONGEST: usize = 64;
@@ -66,6 +71,14 @@ impl Walk {
             done: true,
         }
     }
+}
+
+// The outcome at a place of a recording.
+fn outcome_at(recording: &[u8], place: usize) -> Outcome
+    ensures { λ r. ⌜ r ≡ readBytesOn listerForm listerLink (now (recording .entry)) place .outcome ⌝ }
+{
+    let received = bytes::read(recording, place, FORM, LINK);
+    received.outcome
 }
 
 // The line for an outcome on a line of n words.
@@ -138,5 +151,5 @@ pub fn next(recording: &[u8], walk: Walk, out: &mut [u8]) -> Piece
     if walk.place - walk.reported < walk.refused {
         return Piece::Astray;
     }
-    say(walk, n, bytes::read(recording, walk.place, FORM), out)
+    say(walk, n, outcome_at(recording, walk.place), out)
 }

@@ -28,13 +28,16 @@ use Rattle.reports.specs.Runs.{tableOf, readRun, isAccepted}
 use Rattle.reports.proofs.Refusals.{accepted-layout}
 use Rattle.reports.proofs.Tests.{by-cond}
 use Rattle.lines.specs.declared.Outcome.{Outcome}
+use Rattle.lines.specs.declared.Received.{Received}
 use Rattle.lines.specs.declared.What.the-variants as W
-use Rattle.lines.specs.Line.{most, outcomeOf, endOf, placed, isEnd, readBy, readAt, calls, outcomes}
+use Rattle.lines.specs.Line.{most, outcomeOf, endOf, placed, isEnd, readBy, calls, outcomes}
 use Rattle.lines.specs.Bytes.{wordsIn, bytesOf}
+use Rattle.lines.specs.Links.{lastLink, receivedOn, readOn}
 use Rattle.lines.specs.Stretches.{Run, runsFrom, runs, runsAt, gathered}
 use Rattle.lines.specs.Claims as whole
 use Rattle.lines.specs.Claims.{Answer, Stretches, outcomeOfRun, Meets}
 use Rattle.lines.proofs.ByteWords.{words-length}
+use Rattle.lines.proofs.Linked.{given, on-one-link}
 use Rattle.lines.proofs.Runs as lines
 use Rattle.lines.proofs.Runs.{All, all-runs}
 use Rattle.lines.proofs.Stretched.{runs-are}
@@ -47,7 +50,7 @@ use Rattle.manners.specs.declared.Found.{Found}
 use Rattle.manners.specs.declared.Found.the-variants as F
 use Rattle.manners.specs.Numbers.{ruleNumber}
 use Rattle.manners.specs.Rules.{isSubstitution, broken, breaks}
-use Rattle.manners.specs.Breaches.{Breach, breach, rules, passing, brokenBy, breachesOf, breaches, numbersOf, foundIn, listOf, broughtBy}
+use Rattle.manners.specs.Breaches.{Breach, breach, rules, passing, brokenBy, breachesOf, breaches, numbersOf, mannersLink, foundIn, listOf, broughtBy}
 use Rattle.manners.specs.Listing.{mostIn}
 use Rattle.manners.specs.Claims.{Among, ExactlyTheBreaches, RisingFrom, ByPlace, RulesNumbered, ReadThere, FromTheOutcomes, SameInBothForms, NoMore, along, Splits, outside, Replaced, NumbersInBytes}
 use Rattle.manners.proofs.Broken.{splits, is-false, substitution-told, could, told, rules-differ, same-of-record, brought}
@@ -239,9 +242,20 @@ module _ (f : Form) (line : List ℕ) (m : length line ≤ most) where
       ∙ ap (λ (os : List Outcome). broughtBy (outcomeOfRun answer r) ++ gathered broughtBy os) (passed [] (calls answer k line q) (goes-on (answer (r .words))))
       ∙ (λ i. brought f r i ++ more k (omega arith) i)
 
+from-outcomes : (f : Form) (line : List ℕ) → length line ≤ most → breaches (formOf f) line ≡ gathered broughtBy (outcomes (readRun (formOf f)) line)
+from-outcomes f line m =
+    sym (along-the-walk (readRun (formOf f)) line m (Brings f line m) (end-brings f line m) (λ p r. run-brings f line m p r (runsAt line (r .place + length (r .words)))) 0 (omega arith) (suc (length line)) (let h = few-runs line in omega arith))
+
+-- with a link number and without it again
+without : (link : ℕ) (os : List Outcome) → map (λ (r : Received). r .outcome) (map (receivedOn link) os) ≡ os
+without link [] = refl
+without link (o ∷ os) = ap (λ (xs : List Outcome). o ∷ xs) (without link os)
+
 pub from-the-outcomes : FromTheOutcomes
 from-the-outcomes f line m =
-    sym (along-the-walk (readRun (formOf f)) line m (Brings f line m) (end-brings f line m) (λ p r. run-brings f line m p r (runsAt line (r .place + length (r .words)))) 0 (omega arith) (suc (length line)) (let h = few-runs line in omega arith))
+    let os = outcomes (readRun (formOf f)) line in
+    let e = on-one-link .outcomes-are (readRun (formOf f)) mannersLink line (omega arith) in
+    from-outcomes f line m ∙ ap (gathered broughtBy) (sym (ap (map (λ (r : Received). r .outcome)) e ∙ without mannersLink os))
 
 -- ---- exactly the breaches
 
@@ -339,11 +353,16 @@ read-there f line place rule m h =
   where
     by-answer : (ws : List ℕ) (a : RunAnswer) → readRun (formOf f) ws ≡ a → readBy (readRun (formOf f)) line place ≡ placed place (length ws) (readRun (formOf f) ws)
         → isAccepted (readRun (formOf f) ws) ≡ true → broken rule ws ≡ true
-        → (r : Report) × (after : ℕ) × (readAt (formOf f) line place ≡ outcomeOf (W.Accepted r) place after place) × (breaks r rule ≡ true)
+        → (r : Report)
+        × (after : ℕ)
+        × ((link : ℕ) → link ≤ lastLink → readOn (formOf f) link line place ≡ receivedOn link (outcomeOf (W.Accepted r) place after place))
+        × (breaks r rule ≡ true)
     by-answer ws (A.Accepted r) e o t b = (
       r,
       place + length ws,
-      o ∙ ap (placed place (length ws)) e ∙ ap (outcomeOf (W.Accepted r) place (place + length ws)) (add-zero place),
+      λ link l.
+          given link place _ l
+          ∙ ap (receivedOn link) (o ∙ ap (placed place (length ws)) e ∙ ap (outcomeOf (W.Accepted r) place (place + length ws)) (add-zero place)),
       sym (same-of-record f ws r e rule) ∙ b,
     )
     by-answer ws (A.Refused q n) e o t b = differ (sym t ∙ ap isAccepted e)
@@ -501,8 +520,8 @@ replaced f a x y b e m =
     let other = length-append a (idle ∷ (y ++ (idle ∷ b))) in
     let u = length-append x (idle ∷ b) in
     let v = length-append y (idle ∷ b) in
-    ap (outside lo hi) (from-the-outcomes f (a ++ (idle ∷ (x ++ (idle ∷ b)))) m)
+    ap (outside lo hi) (from-outcomes f (a ++ (idle ∷ (x ++ (idle ∷ b)))) m)
     ∙ brought-outside lo hi (outcomes (readRun (formOf f)) (a ++ (idle ∷ (x ++ (idle ∷ b)))))
     ∙ ap (gathered broughtBy) (parts.replaced (readRun (formOf f)) a x y b e m)
     ∙ sym (brought-outside lo hi (outcomes (readRun (formOf f)) (a ++ (idle ∷ (y ++ (idle ∷ b))))))
-    ∙ ap (outside lo hi) (sym (from-the-outcomes f (a ++ (idle ∷ (y ++ (idle ∷ b)))) (omega arith)))
+    ∙ ap (outside lo hi) (sym (from-outcomes f (a ++ (idle ∷ (y ++ (idle ∷ b)))) (omega arith)))

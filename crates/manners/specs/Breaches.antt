@@ -55,6 +55,10 @@ numbersOf (b ∷ bs) = b .place ∷ ruleNumber (b .rule) ∷ numbersOf bs
 
 -- ---- from what the reader answers
 
+-- it is asked with link 0: a breach has no link number (document 02, Ticket 7)
+abbrev pub mannersLink : ℕ
+mannersLink = 0
+
 -- the first rule that a record breaks; AtMostOneOfRecord (Claims.antt) says that it breaks no other
 abbrev pub ruleRows : Report → List (Row Found)
 ruleRows r = map (λ rule. row (breaks r rule) (F.Breach rule)) rules

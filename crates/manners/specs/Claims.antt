@@ -14,8 +14,10 @@ use Rattle.reports.specs.declared.altitude.Form.{Form}
 use Rattle.reports.specs.Altitude.{AltitudeForm, signMagnitude, twosComplement, formOf}
 use Rattle.reports.specs.Runs.{readRun, isAccepted}
 use Rattle.lines.specs.declared.What.the-variants as W
-use Rattle.lines.specs.Line.{most, outcomeOf, readAt, outcomes}
+use Rattle.lines.specs.declared.Received.{Received}
+use Rattle.lines.specs.Line.{most, outcomeOf}
 use Rattle.lines.specs.Bytes.{mostBytes, wordsIn, bytesOf}
+use Rattle.lines.specs.Links.{lastLink, receivedOn, readOn, outcomesOn}
 use Rattle.lines.specs.Stretches.{Run, runs, gathered}
 use Rattle.lines.specs.Claims.{EndsIdle, BeginsIdle}
 use Rattle.manners.specs.declared.Rule.{Rule}
@@ -24,7 +26,7 @@ use Rattle.manners.specs.declared.Listed.{Listed}
 use Rattle.manners.specs.declared.Listed.the-variants as L
 use Rattle.manners.specs.Numbers.{ruleNumber}
 use Rattle.manners.specs.Rules.{broken, breaks}
-use Rattle.manners.specs.Breaches.{Breach, breach, rules, breachesOf, breaches, numbersOf, foundOf, broughtBy}
+use Rattle.manners.specs.Breaches.{Breach, breach, rules, breachesOf, breaches, numbersOf, foundOf, mannersLink, broughtBy}
 use Rattle.manners.specs.Listing.{mostIn, mostBreaches, listRows, listed, Lists, byteListRows, listedBytes, ListsBytes}
 
 -- ---- the rules (proofs/Broken.antt)
@@ -75,15 +77,20 @@ RisingFrom p (b ∷ bs) = (p ≤ b .place) × RisingFrom (b .place + 1) bs
 abbrev pub ByPlace : Type 0
 ByPlace = (form : AltitudeForm) (line : List ℕ) → RisingFrom 0 (breaches form line)
 
--- what stands at a place of the list: the reader answers there a report that breaks the rule
+-- what stands at a place of the list: the reader answers there a report that breaks the rule, whichever link the line came on
 abbrev pub ReadThere : Type 0
 ReadThere =
     (f : Form) (line : List ℕ) (place : ℕ) (rule : Rule) → length line ≤ most → Among (breach place rule) (breaches (formOf f) line) →
-    (r : Report) × (after : ℕ) × (readAt (formOf f) line place ≡ outcomeOf (W.Accepted r) place after place) × (breaks r rule ≡ true)
+    (r : Report)
+    × (after : ℕ)
+    × ((link : ℕ) → link ≤ lastLink → readOn (formOf f) link line place ≡ receivedOn link (outcomeOf (W.Accepted r) place after place))
+    × (breaks r rule ≡ true)
 
--- it is what the outcomes of the line bring, of which demand 3 speaks
+-- it is what the outcomes of the line bring, of which demand 3 speaks; the line is read with link 0
 abbrev pub FromTheOutcomes : Type 0
-FromTheOutcomes = (f : Form) (line : List ℕ) → length line ≤ most → breaches (formOf f) line ≡ gathered broughtBy (outcomes (readRun (formOf f)) line)
+FromTheOutcomes =
+    (f : Form) (line : List ℕ) → length line ≤ most →
+    breaches (formOf f) line ≡ gathered broughtBy (map (λ (r : Received). r .outcome) (outcomesOn (readRun (formOf f)) mannersLink line))
 
 -- a run that only one form of the altitude accepts breaks no rule: the list is the same in both
 abbrev pub SameInBothForms : Type 0

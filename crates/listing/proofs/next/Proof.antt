@@ -81,7 +81,7 @@ say-requires c κs =
     let bs = a .recording .now in
     let w = a .walk in
     let room = length (a .out .now) in
-    (c .before .before .before .before .before .before .before .before .before .before .before .before .if1 .left, within bs w (length bs / 2) (c .before .read .result) (c .before .before .before .before .before .before .before .before .before .before .if3 .left) (c .before .before .before .before .before .before .before .before .before .if4 .left) refl (c .before .before .before .before .before .before .before .if5 .left) (c .before .before .before .before .before .if6 .left) (c .before .before .if7 .left) (c .before .read .ensures))
+    (c .before .before .before .before .before .before .before .before .before .before .before .before .if1 .left, within bs w (length bs / 2) (c .before .outcome-at .result) (c .before .before .before .before .before .before .before .before .before .before .if3 .left) (c .before .before .before .before .before .before .before .before .before .if4 .left) refl (c .before .before .before .before .before .before .before .if5 .left) (c .before .before .before .before .before .if6 .left) (c .before .before .if7 .left) (c .before .outcome-at .ensures))
 
 returns-8 : tie.Need-returns-8
 returns-8 c =
@@ -90,7 +90,7 @@ returns-8 c =
     let bs = a .recording .now in
     let w = a .walk in
     let room = length (a .out .now) in
-    tells-as (roomy room bs w (c .before .before .before .before .before .before .before .before .before .before .before .before .before .before .before .if1 .left) ∙ is-read bs w (length bs / 2) (c .before .before .before .before .before .before .before .before .before .before .before .before .before .before .if2 .left) (c .before .before .before .before .before .before .before .before .before .before .before .before .before .if3 .left) (c .before .before .before .before .before .before .before .before .before .before .before .before .if4 .left) refl (c .before .before .before .before .before .before .before .before .before .before .if5 .left) (c .before .before .before .before .before .before .before .before .if6 .left) (c .before .before .before .before .before .if7 .left) ∙ ap (stepOn (length bs / 2) w) (sym (c .before .before .before .before .read .ensures))) (c .before .before .say .ensures)
+    tells-as (roomy room bs w (c .before .before .before .before .before .before .before .before .before .before .before .before .before .before .before .if1 .left) ∙ is-read bs w (length bs / 2) (c .before .before .before .before .before .before .before .before .before .before .before .before .before .before .if2 .left) (c .before .before .before .before .before .before .before .before .before .before .before .before .before .if3 .left) (c .before .before .before .before .before .before .before .before .before .before .before .before .if4 .left) refl (c .before .before .before .before .before .before .before .before .before .before .if5 .left) (c .before .before .before .before .before .before .before .before .if6 .left) (c .before .before .before .before .before .if7 .left) ∙ ap (stepOn (length bs / 2) w) (sym (c .before .before .before .before .outcome-at .ensures))) (c .before .before .say .ensures)
 
 pub next-spec : {M : Type 1} → statement M
 next-spec =

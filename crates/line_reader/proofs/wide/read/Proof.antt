@@ -1,23 +1,20 @@
--- `line_reader::wide::read` meets its contract: its rows, and then the run. Assumes nothing.
-use mathlib.Core.Path.{sym, _∙_}
-use borrow.Author.Tests.{lt-ltb, le-ltb}
-use Rattle.lines.specs.Line.{readBy}
-use Rattle.words.proofs.Tests.{picked, passed}
+-- `line_reader::wide::read` meets its contract: the link's row, and then what is found. Assumes nothing.
+use mathlib.Core.Path.{ap, sym, _∙_}
+use Rattle.lines.specs.declared.Outcome.{Outcome}
+use Rattle.lines.specs.Links.{receivedOn}
+use Rattle.lines.proofs.Linked.{given, refused}
 use borrow.Author.Needs.{needs}
 use Rattle.line_reader.proofs.wide.read.Statement.{statement}
 use Rattle.line_reader.proofs.wide.read.Tie as tie
 
 returns : tie.Need-returns
-unfolding readBy
-returns c = c .not-taken .ensures ∙ sym (picked _ _ (lt-ltb _ _ (c .before .if1 .taken)))
+returns c = c .no-such-link .ensures ∙ sym (refused _ _ _ (c .before .if1 .taken))
 
 returns-2 : tie.Need-returns-2
-unfolding readBy
-returns-2 c = c .not-taken2 .ensures ∙ sym (passed _ _ (le-ltb _ _ (c .before .before .if1 .left)) ∙ picked _ _ (lt-ltb _ _ (c .before .if2 .taken)))
-
-returns-3 : tie.Need-returns-3
-unfolding readBy
-returns-3 c = c .run-at .ensures ∙ sym (passed _ _ (le-ltb _ _ (c .before .before .if1 .left)) ∙ passed _ _ (le-ltb _ _ (c .before .if2 .left)))
+returns-2 c =
+    c .new .ensures
+    ∙ ap (λ (o : Outcome). receivedOn (c .before .before .before .before .args .link) o) (c .before .found-at .ensures)
+    ∙ sym (given _ _ _ (c .before .before .if1 .left))
 
 pub read-spec : {M : Type 1} → statement M
-read-spec = tie.close (tie.spec (λ c κs. search needs) returns (λ c κs. search needs) returns-2 (λ c κs. search needs) returns-3)
+read-spec = tie.close (tie.spec (λ c κs. search needs) returns (λ c κs. search needs) (λ c κs. search needs) returns-2)

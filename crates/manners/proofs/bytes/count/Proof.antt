@@ -33,7 +33,7 @@ loop-less c =
     let l = c .before .before .before .before .loop in
     let a = c .before .before .before .before .before .before .args in
     let n = words-length (a .line .now) in
-    let on = byte-step (a .form) (a .line .now) (l .place) (c .before .before .read .result) (omega arith) (omega arith) (l .inv .inside) (c .before .before .read .ensures) .onward (omega arith) in
+    let on = byte-step (a .form) (a .line .now) (l .place) (c .before .before .outcome-at .result) (omega arith) (omega arith) (l .inv .inside) (c .before .before .outcome-at .ensures) .onward (omega arith) in
     omega arith
 
 loop-again : tie.Need-loop-again Inv-loop μ-loop
@@ -42,7 +42,7 @@ loop-again c =
     let a = c .before .before .before .before .before .before .args in
     let n = words-length (a .line .now) in
     counted-more (l .inv) (omega arith)
-    (byte-step (a .form) (a .line .now) (l .place) (c .before .before .read .result) (omega arith) (omega arith) (l .inv .inside) (c .before .before .read .ensures))
+    (byte-step (a .form) (a .line .now) (l .place) (c .before .before .outcome-at .result) (omega arith) (omega arith) (l .inv .inside) (c .before .before .outcome-at .ensures))
     (c .before .found-in .ensures)
     (c .count-of .ensures)
 

@@ -28,7 +28,7 @@ loop-less : tie.Need-loop-less Inv-loop μ-loop
 loop-less c =
     let l = c .before .before .before .before .loop in
     let a = c .before .before .before .before .before .before .args in
-    let on = step (a .form) (a .line .now) (l .place) (c .before .before .read .result) (omega arith) (l .inv .inside) (c .before .before .read .ensures) .onward (omega arith) in
+    let on = step (a .form) (a .line .now) (l .place) (c .before .before .outcome-at .result) (omega arith) (l .inv .inside) (c .before .before .outcome-at .ensures) .onward (omega arith) in
     omega arith
 
 loop-again : tie.Need-loop-again Inv-loop μ-loop
@@ -36,7 +36,7 @@ loop-again c =
     let l = c .before .before .before .before .loop in
     let a = c .before .before .before .before .before .before .args in
     counted-more (l .inv) (omega arith)
-    (step (a .form) (a .line .now) (l .place) (c .before .before .read .result) (omega arith) (l .inv .inside) (c .before .before .read .ensures))
+    (step (a .form) (a .line .now) (l .place) (c .before .before .outcome-at .result) (omega arith) (l .inv .inside) (c .before .before .outcome-at .ensures))
     (c .before .found-in .ensures)
     (c .count-of .ensures)
 
