@@ -2,11 +2,9 @@
 // out. include/siamrung.h says what each means to the caller; a call keeps nothing.
 // Relies on index for the answers, line_reader for the outcome; specs/Calls.antt says what each call answers.
 ghost use mathlib.Core.Path.{_≡_};
-ghost use Rattle.index.specs.Entries.{entryOf};
 ghost use Rattle.index.specs.Indexing.{found};
-ghost use Rattle.lines.specs.Links.{readBytesOn};
 ghost use Rattle.reports.specs.Altitude.{chosen};
-ghost use Rattle.index_host.specs.Calls.{answerNumber, foundNumber, fileNumber, Enters};
+ghost use Rattle.index_host.specs.Calls.{answerNumber, foundNumber, fileNumber, broughtBy, Enters};
 use index::Entry;
 use index::Found;
 use index::Indexed;
@@ -53,7 +51,7 @@ fn found_number(answer: Found) -> u32
 
 // What the outcome at a place of the line brings. An entry has no link number.
 fn brought(bytes: &[u8], place: usize, form: u32, link: u32, scan: u32) -> Entry
-    ensures { λ r. ⌜ r ≡ entryOf (readBytesOn (chosen form) link (now (bytes .entry)) place .outcome) scan ⌝ }
+    ensures { λ r. ⌜ r ≡ broughtBy (chosen form) link (now (bytes .entry)) place scan ⌝ }
 {
     let received = line_reader::bytes::read(bytes, place, Form::numbered(form), link);
     let o = received.outcome;

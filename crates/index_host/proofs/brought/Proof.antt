@@ -10,4 +10,4 @@ brought-spec =
     (λ c κs. search needs)
     (λ c κs. search needs)
     (λ c κs. search needs)
-    (λ c. rw (← c .before .before .numbered .ensures, ← c .before .read .ensures) (c .entry-of .ensures)))
+    (λ c. rw (← c .before .before .before .numbered .ensures, ← c .before .before .read .ensures) (c .entry-of .ensures)))

@@ -7,12 +7,12 @@ use Rattle.host.proofs.line.measured_at.Tie as tie
 returns : tie.Need-returns
 returns c =
     let a = c .before .before .before .before .before .args in
-    measured (at (a .bytes .now) (a .place) (a .form)) _ (rw (c .before .values .given .1) at (c .before .before .before .values-at .ensures)) .1
+    measured (at (a .bytes .now) (a .place) (a .form) (a .link)) _ (rw (c .before .values .given .1) at (c .before .before .before .values-at .ensures)) .1
 
 returns-2 : tie.Need-returns-2
 returns-2 c =
     let a = c .before .before .before .before .before .args in
-    rw (nothing (at (a .bytes .now) (a .place) (a .form)) (rw (c .before .enum-told .given .1) at (c .before .before .before .values-at .ensures))) (c .coarse .ensures)
+    rw (nothing (at (a .bytes .now) (a .place) (a .form) (a .link)) (rw (c .before .enum-told .given .1) at (c .before .before .before .values-at .ensures))) (c .coarse .ensures)
 
 pub measured-at-spec : {M : Type 1} → statement M
 measured-at-spec =

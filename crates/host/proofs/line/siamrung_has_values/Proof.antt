@@ -9,12 +9,12 @@ use Rattle.host.proofs.line.siamrung_has_values.Tie as tie
 returns : tie.Need-returns
 returns c =
     let a = c .before .before .before .before .args in
-    sym (measured (at (a .bytes .now) (a .place) (a .form)) _ (rw (c .enum-told .given .1) at (c .before .before .values-at .ensures)) .0)
+    sym (measured (at (a .bytes .now) (a .place) (a .form) (a .link)) _ (rw (c .enum-told .given .1) at (c .before .before .values-at .ensures)) .0)
 
 returns-2 : tie.Need-returns-2
 returns-2 c =
     let a = c .before .before .before .before .args in
-    sym (ap has (nothing (at (a .bytes .now) (a .place) (a .form)) (rw (c .enum-told2 .given .1) at (c .before .before .values-at .ensures))))
+    sym (ap has (nothing (at (a .bytes .now) (a .place) (a .form) (a .link)) (rw (c .enum-told2 .given .1) at (c .before .before .values-at .ensures))))
 
 pub siamrung-has-values-spec : {M : Type 1} → statement M
 siamrung-has-values-spec =
