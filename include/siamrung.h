@@ -19,6 +19,12 @@
  * the wrong form, an altitude v below zero (in hundreds of feet) becomes -2048 - v: -3 becomes -2045. No refusal tells it; only the bits 100000000000
  * are refused in form 0, with 9, and are -2048 in the other form.
  *
+ * Links. A site may have several parallel links for surveillance data. The words do not tell on which one they came: the program must know it, and
+ * passes the link's number, 0 to 15 (SIAMRUNG_LAST_LINK), as the argument link to every call that reads a line at a place. Every outcome, a report, a
+ * refusal or the end, has that number, and siamrung_link answers it. It is no part of the words. It changes nothing else: every other call answers
+ * the same with each number from 0 to 15. A greater number is refused with 13, before the line is looked at; the outcome then has link 0, which is no
+ * claim that it came on that link. A program that has one link passes 0. siamrung_manners and the lister take no link number, and read with link 0.
+ *
  * Threads. No call keeps anything, so any thread may call at any time. But while a call writes into bytes, into a table or into a list, no other
  * thread may use them.
  *
@@ -39,9 +45,11 @@
  * siamrung_seconds, in siamrung_write, siamrung_write_refusal and siamrung_index_enter; with 0 they do what they did before. A program that has such
  * a call does not compile with this header until it passes a form. A program that was compiled with the header of a version before 6 must be
  * compiled again before it is linked with this library: its calls would pass no form, and altitudes would be wrong. siamrung_version tells it:
- * compare its answer with the version that the program was written for. Version 7 added siamrung_manners. A call that accepts more than before keeps
- * its name. If the meaning of a call changes in any other way under the same arguments, it gets a new name, so that an old program does not link
- * with it.
+ * compare its answer with the version that the program was written for. Version 7 added siamrung_manners. Version 8 added siamrung_link, and the
+ * argument link behind form in the calls from siamrung_kind to siamrung_seconds and in siamrung_index_enter; with a number from 0 to 15 they do what
+ * they did before. Here too a program must be changed and compiled again: an old one would pass no link number. A call that accepts more than before
+ * keeps its name. If the meaning of a call changes in any other way under the same arguments, it gets a new name, so that an old program does not
+ * link with it.
  */
 #ifndef SIAMRUNG_H
 #define SIAMRUNG_H
@@ -60,6 +68,11 @@ extern "C" {
 /* twelve bits in two's complement: -2048 to 2047 hundreds of feet. Every pattern is an altitude. Every number but 0 means this form */
 #define SIAMRUNG_FORM_TWOS_COMPLEMENT 1
 
+/* ---- link numbers, 0 to 15: the argument link */
+
+/* the last one; a greater number is refused with 13 */
+#define SIAMRUNG_LAST_LINK 15
+
 /* ---- kinds: what siamrung_kind answers */
 
 #define SIAMRUNG_KIND_SEARCH 101
@@ -77,8 +90,8 @@ extern "C" {
 #define SIAMRUNG_KIND_ATCRBS_RDAS 113
 #define SIAMRUNG_KIND_MTD 114
 #define SIAMRUNG_KIND_RDAS 115
-/* no report: the run at the place is refused, or the line itself, or the place itself; siamrung_refusal says why. siamrung_frame_kind answers
- * it too, for no frame */
+/* no report: the run at the place is refused, or the line itself, or the place itself, or the link number; siamrung_refusal says why.
+ * siamrung_frame_kind answers it too, for no frame */
 #define SIAMRUNG_KIND_REFUSED 120
 /* no report: only idle words are left. siamrung_frame_kind answers it too, where only flags are left */
 #define SIAMRUNG_KIND_END 121
@@ -86,6 +99,8 @@ extern "C" {
 /* ---- refusals: what siamrung_refusal answers */
 
 #define SIAMRUNG_REFUSAL_NONE 0
+/* reading: the link number is above 15. The line was not looked at */
+#define SIAMRUNG_REFUSAL_NO_SUCH_LINK 13
 /* the line has more than 65,536 bytes */
 #define SIAMRUNG_REFUSAL_LINE_TOO_LONG 2
 /* the line has an odd number of bytes */
@@ -378,46 +393,50 @@ extern "C" {
 
 /* ---- calls that read a line */
 
-/* Answers the version of these calls: 7. It grows with each change of the calls, and of what they accept. */
+/* Answers the version of these calls: 8. It grows with each change of the calls, and of what they accept. */
 uint32_t siamrung_version(void);
 
 /* Answers what stands at the place: a kind of report, SIAMRUNG_KIND_REFUSED or SIAMRUNG_KIND_END. */
-uint32_t siamrung_kind(const uint8_t *bytes, size_t length, size_t place, uint32_t form);
+uint32_t siamrung_kind(const uint8_t *bytes, size_t length, size_t place, uint32_t form, uint32_t link);
 
 /*
- * Answers why the run at the place is refused. The conditions are tested in the order in which they stand above (2, 14, 1, 3, 4, ..), and the
- * first that holds answers. For a report and at the end the answer is SIAMRUNG_REFUSAL_NONE. Refusals 2, 14 and 1 are about the line or the
- * place itself. A program that goes from run to run stops there, because siamrung_after then answers the place that was passed.
+ * Answers why the run at the place is refused. The conditions are tested in the order in which they stand above (13, 2, 14, 1, 3, 4, ..), and
+ * the first that holds answers. For a report and at the end the answer is SIAMRUNG_REFUSAL_NONE. Refusals 13, 2, 14 and 1 are about the link number,
+ * the line or the place itself. A program that goes from run to run stops there, because siamrung_after then answers the place that was passed.
  */
-uint32_t siamrung_refusal(const uint8_t *bytes, size_t length, size_t place, uint32_t form);
+uint32_t siamrung_refusal(const uint8_t *bytes, size_t length, size_t place, uint32_t form, uint32_t link);
 
-/* Answers the place of the run's first word. At the end it answers the number of words of the line; for refusals 2, 14 and 1, the place that
- * was passed. */
-size_t siamrung_first(const uint8_t *bytes, size_t length, size_t place, uint32_t form);
+/* Answers the place of the run's first word. At the end it answers the number of words of the line; for refusals 13, 2, 14 and 1, the place
+ * that was passed. */
+size_t siamrung_first(const uint8_t *bytes, size_t length, size_t place, uint32_t form, uint32_t link);
 
 /* Answers the place after the run's last word: the program goes on from there. At the end it answers the number of words of the line; for
- * refusals 2, 14 and 1, the place that was passed. */
-size_t siamrung_after(const uint8_t *bytes, size_t length, size_t place, uint32_t form);
+ * refusals 13, 2, 14 and 1, the place that was passed. */
+size_t siamrung_after(const uint8_t *bytes, size_t length, size_t place, uint32_t form, uint32_t link);
 
-/* Answers the place that a refusal names: for 3 and 4 the first such word of the run, for 5 to 9 the run's first word, for 2, 14 and 1 the
- * place that was passed. For a report it answers the place of its first word, at the end the number of words of the line. */
-size_t siamrung_named(const uint8_t *bytes, size_t length, size_t place, uint32_t form);
+/* Answers the place that a refusal names: for 3 and 4 the first such word of the run, for 5 to 9 the run's first word, for 13, 2, 14 and
+ * 1 the place that was passed. For a report it answers the place of its first word, at the end the number of words of the line. */
+size_t siamrung_named(const uint8_t *bytes, size_t length, size_t place, uint32_t form, uint32_t link);
+
+/* Answers the link number of the outcome at the place: the number that was passed, for a report, for a refusal and at the end; 0 for refusal 13. So
+ * look at siamrung_refusal first: 13 says that the number was no link's. */
+uint32_t siamrung_link(const uint8_t *bytes, size_t length, size_t place, uint32_t form, uint32_t link);
 
 /* Answers 1 if there is a report at the place and it has the item, else 0. So for a number that is no item of reports it answers 0. */
-uint32_t siamrung_has(const uint8_t *bytes, size_t length, size_t place, uint32_t form, uint32_t item);
+uint32_t siamrung_has(const uint8_t *bytes, size_t length, size_t place, uint32_t form, uint32_t link, uint32_t item);
 
 /* Answers the value of the item of the report at the place, or 0 if there is no such item. 0 may be a real value, so siamrung_has says whether
  * the item is there. */
-int64_t siamrung_item(const uint8_t *bytes, size_t length, size_t place, uint32_t form, uint32_t item);
+int64_t siamrung_item(const uint8_t *bytes, size_t length, size_t place, uint32_t form, uint32_t link, uint32_t item);
 
 /* Answers 1 if there is a report with range and azimuth at the place, else 0. Every report has them, except a Status. */
-uint32_t siamrung_has_values(const uint8_t *bytes, size_t length, size_t place, uint32_t form);
+uint32_t siamrung_has_values(const uint8_t *bytes, size_t length, size_t place, uint32_t form, uint32_t link);
 
 /* Answer the range in nmi (for a Map its range start), the azimuth in degrees and the time in seconds (for a Map 0). Each is exact. Each is +0
  * where siamrung_has_values answers 0. */
-double siamrung_nmi(const uint8_t *bytes, size_t length, size_t place, uint32_t form);
-double siamrung_degrees(const uint8_t *bytes, size_t length, size_t place, uint32_t form);
-double siamrung_seconds(const uint8_t *bytes, size_t length, size_t place, uint32_t form);
+double siamrung_nmi(const uint8_t *bytes, size_t length, size_t place, uint32_t form, uint32_t link);
+double siamrung_degrees(const uint8_t *bytes, size_t length, size_t place, uint32_t form, uint32_t link);
+double siamrung_seconds(const uint8_t *bytes, size_t length, size_t place, uint32_t form, uint32_t link);
 
 /* ---- calls that write a report into a line */
 
@@ -576,11 +595,13 @@ uint32_t siamrung_frame_write_refusal(const uint8_t *bytes, size_t length, size_
  * ATCRBS, ATCRBS_CD, ATCRBS_MTD, ATCRBS_RDAS, MTD and RDAS reports have a file number (SIAMRUNG_ITEM_FILE). File number 0 means uncorrelated; it is
  * never entered. A report with another number takes the first unused entry if its number is not in the table; else it replaces the earlier report in
  * its number's entry. Earlier and later are the order of the calls, whatever the scan numbers and places are. So the table has the numbers in the
- * order in which they were first entered, each with its last report. Every other outcome (a report of another kind, a refusal of the line, the
- * place or the run, the end) leaves the table as it is. So LEFT does not say that a report was accepted: siamrung_kind tells a refusal and the end.
+ * order in which they were first entered, each with its last report. Every other outcome (a report of another kind, a refusal of the link number, the
+ * line, the place or the run, the end) leaves the table as it is. So LEFT does not say that a report was accepted: siamrung_kind tells
+ * a refusal and the end.
  *
  * An entry says where its report stands on its line, and not which line that is: keep the lines, and choose scan numbers by which you find them again.
- * Nor does it say the altitude's form: read the report with the form that it was entered with.
+ * Nor does it say the altitude's form: read the report with the form that it was entered with. Nor does it say the link: file numbers of all links
+ * that are entered into one table are taken for one sensor's.
  *
  * An answer of a call has two parts: what was done, and the entry where it was done. siamrung_index_done and siamrung_index_entry take them out. Do not
  * compare an answer itself with the numbers of what was done: take it apart first.
@@ -614,13 +635,14 @@ static inline size_t siamrung_index_entry(uint32_t answer)
 /*
  * Enters the report at the place, or behind the idle words there, with a scan number that the program chooses. The form matters only for an ATCRBS
  * report with an altitude of the bits 100000000000: in two's complement it is a report like any other, and in form 0 it is refused with 9, and left.
+ * The link matters only if its number is above 15: what stands there is then refused with 13, and left.
  * siamrung_index_done takes out of the answer: 50 if the table is broken, whatever stands there; else LEFT if no report with a file number other than 0
  * stands there; else REPLACED if the number is in the table; else ENTERED if an entry is unused; else 51. After ENTERED and REPLACED
  * siamrung_index_entry takes out which entry has the report; only that entry is written. After LEFT, 50 and 51 nothing is written. The table must not
  * overlap the line.
  */
 uint32_t siamrung_index_enter(siamrung_entry *table, size_t entries, const uint8_t *bytes, size_t length, size_t place, uint32_t form,
-                              uint32_t scan);
+                              uint32_t link, uint32_t scan);
 
 /*
  * Looks for a number's entry, and writes nothing. siamrung_index_done takes out of the answer: 50 if the table is broken; else FOUND, and
@@ -677,9 +699,9 @@ static inline uint32_t siamrung_breach_rule(const uint8_t *list, size_t k)
  * NULL and 0 for the list: siamrung_manners_breaches takes the number out, after 52 and, for a line without a breach, after LISTED.
  *
  * Pass the form of the altitude as to the other calls. But the answer and the list are the same in both forms: a run that only one of them accepts,
- * with the bits 100000000000 for the altitude, has no breach. The list must not overlap the line. The work is in proportion to the line. A line of n
- * words has at most (n + 1) / 5 breaches, rounded down. If the list has room for so many, or if the line has none, the line is read once; else once
- * to count, and once more to list.
+ * with the bits 100000000000 for the altitude, has no breach. There is no link number to pass: the line is read with link 0, and a breach has no
+ * link. The list must not overlap the line. The work is in proportion to the line. A line of n words has at most (n + 1) / 5 breaches, rounded down.
+ * If the list has room for so many, or if the line has none, the line is read once; else once to count, and once more to list.
  */
 uint32_t siamrung_manners(const uint8_t *bytes, size_t length, uint32_t form, uint8_t *list, size_t list_length);
 
