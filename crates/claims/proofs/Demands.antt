@@ -1,7 +1,7 @@
 -- The demands, each sentence from the law below it. Assumes nothing.
 use Prim.Native.Nat.{ℕ, _+_}
 use mathlib.Core.Path.{_≡_, refl, sym, ap, _∙_}
-use mathlib.Core.List.{List, [], _∷_, _++_}
+use mathlib.Core.List.{List, [], _∷_, _++_, map}
 use lib.ListN.{length}
 use Rattle.words.proofs.Claims as words
 use Rattle.measures.proofs.Claims as measures
@@ -17,10 +17,14 @@ use Rattle.reports.proofs.Claims as reports
 use Rattle.reports.proofs.Demand2 as demand2
 use Rattle.reports.proofs.Refusals as runs
 use Rattle.lines.specs.declared.Wrote.{Wrote}
-use Rattle.lines.specs.Line.{endOf}
+use Rattle.lines.specs.Line.{endOf, readAt}
+use Rattle.lines.specs.Bytes.{wordsIn, readBytes}
+use Rattle.lines.specs.Links.{receivedOn}
 use Rattle.lines.specs.Spaced.{Spaced, lineOf, reportsOf, back}
 use Rattle.lines.specs.Writing.{leftBy}
 use Rattle.lines.specs.ByteWriting.{bytesLeft}
+use Rattle.lines.proofs.Linked as linked
+use Rattle.lines.proofs.Linked.{given}
 use Rattle.lines.proofs.Refused as refused
 use Rattle.lines.proofs.Walked as walked
 use Rattle.lines.proofs.Outcomes as outcomes
@@ -31,11 +35,12 @@ use Rattle.lines.proofs.Back as lists
 use Rattle.lines.proofs.Written as written
 use Rattle.fields.proofs.Claims as fields
 use Rattle.fields.proofs.Exactly as exactly
-use Rattle.claims.specs.Demands.{TakeEveryInputAndEnd, OneNumberedRefusal, NoSkipWithoutAName, GivenExactly, LeavesUntouched, MeanWhatIsPrinted, AcceptedExactly, WrittenAgain, ReadAgain, EqualLinesEqualLists, ReadingGivesTheList, OneOutcomeEach, Doubles, reportsIn, InEachForm, Demands}
+use Rattle.claims.specs.Demands.{TakeEveryInputAndEnd, OneNumberedRefusal, NoSkipWithoutAName, GivenExactly, LeavesUntouched, MeanWhatIsPrinted, AcceptedExactly, WrittenAgain, ReadAgain, EqualLinesEqualLists, ReadingGivesTheList, OneOutcomeEach, Doubles, between, reportsIn, InEachForm, Demands}
 use Rattle.claims.proofs.Numbers.{numbers-differ, no-number-is-zero}
 use Rattle.claims.proofs.Twelve.{twelve}
 use Rattle.claims.proofs.Printed.{as-printed, only-printed, entries-as-printed, rules-as-printed, all-have-rules}
 use Rattle.claims.proofs.Places.{end-exactly, end-of-bytes, report-words, report-words-of-bytes, read-written, read-written-bytes}
+use Rattle.claims.proofs.OnLinks.{end-on, report-on}
 use Rattle.claims.proofs.Fields.{has-layout, again, read-left}
 
 -- ---- demand 1
@@ -51,8 +56,8 @@ take-every-input = record {
 
 one-refusal : OneNumberedRefusal
 one-refusal = record {
-  end = end-exactly;
-  end-of-bytes = end-of-bytes;
+  end = λ form link line place. end-on link place (readAt form line place) _ (end-exactly form line place);
+  end-of-bytes = λ form link bytes place. end-on link place (readBytes form bytes place) _ (end-of-bytes form bytes place);
   numbers = numbers-differ;
   none-is-0 = no-number-is-zero;
 }
@@ -124,7 +129,14 @@ accepted = record {
 written-again : WrittenAgain
 written-again = record {
   runs = demand2.written-again;
-  there = λ form sound. record { on-a-line = report-words form sound; on-bytes = report-words-of-bytes form sound };
+  there = λ form sound link.
+      record {
+        on-a-line = λ line place r.
+            report-on link place (readAt form line place) (λ o. wordsOf form r ≡ between (o .first) (o .after) line) r (report-words form sound line place r);
+        on-bytes = λ bytes place r.
+            report-on link place (readBytes form bytes place) (λ o. wordsOf form r ≡ between (o .first) (o .after) (wordsIn bytes)) r
+            (report-words-of-bytes form sound bytes place r);
+      };
   fields = again;
 }
 
@@ -132,7 +144,11 @@ read-again : ReadAgain
 read-again = record {
   runs = demand2.read-back;
   runs-taken = demand2.takes-what-fits;
-  there = λ form sound. record { on-a-line = read-written form sound; in-bytes = read-written-bytes form sound };
+  there = λ form sound link l.
+      record {
+        on-a-line = λ line place r next exit w. given link place _ l ∙ ap (receivedOn link) (read-written form sound line place r next exit w);
+        in-bytes = λ bytes place r next exit w. given link place _ l ∙ ap (receivedOn link) (read-written-bytes form sound bytes place r next exit w);
+      };
   fields = read-left;
 }
 
@@ -142,20 +158,22 @@ equal-lists : EqualLinesEqualLists
 equal-lists = record { lists = lists.equal-lists; written = written.written-so }
 
 -- the reports among the outcomes of a list that reads back
-reports-back : (form : AltitudeForm) (p : ℕ) (ss : List Spaced) (n : ℕ) → reportsIn (back form p ss ++ (endOf n ∷ [])) ≡ reportsOf ss
+reports-back : (form : AltitudeForm) (link p : ℕ) (ss : List Spaced) (n : ℕ)
+    → reportsIn (map (receivedOn link) (back form p ss ++ (endOf n ∷ []))) ≡ reportsOf ss
 unfolding back
-reports-back form p [] n = refl
-reports-back form p (s ∷ ss) n =
-    ap (λ (rs : List Report). s .report ∷ rs) (reports-back form (p + s .ahead + length (wordsOf form (s .report))) ss n)
+reports-back form link p [] n = refl
+reports-back form link p (s ∷ ss) n =
+    ap (λ (rs : List Report). s .report ∷ rs) (reports-back form link (p + s .ahead + length (wordsOf form (s .report))) ss n)
 
 list-back : ReadingGivesTheList
 list-back = record {
   outcomes-are = lists.reads-back;
   reader = lists.reader-returns;
-  list = λ form sound ss tail f a m.
+  list = λ form sound link l ss tail f a m.
       ap reportsIn
-      (lists.reads-back (readRun form) form (lists.reader-returns form sound) ss tail f a m)
-      ∙ reports-back form 0 ss (length (lineOf form ss tail));
+      (linked.on-one-link .outcomes-are (readRun form) link (lineOf form ss tail) l
+      ∙ ap (map (receivedOn link)) (lists.reads-back (readRun form) form (lists.reader-returns form sound) ss tail f a m))
+      ∙ reports-back form link 0 ss (length (lineOf form ss tail));
 }
 
 one-each : OneOutcomeEach
@@ -196,5 +214,6 @@ demands = record {
   list-back = list-back;
   one-each = one-each;
   replaced = parts.replaced;
+  one-number = linked.on-one-link;
   each-form = in-each-form;
 }

@@ -5,6 +5,7 @@ pub mod Printed
 pub mod OneSegment
 pub mod Folds
 pub mod Places
+pub mod OnLinks
 pub mod Anywhere
 pub mod Fields
 pub mod Demands

@@ -13,7 +13,7 @@ use Rattle.manners.specs.declared.MannersRefusal.the-variants as M
 use Rattle.reports.specs.declared.kinds.Kind.the-variants as K
 use Rattle.claims.specs.Numbers.{Named, line, field, frame, index, manners, kind, numberOf, NumbersDiffer, NoNumberIsZero}
 
--- 1 to 11 and 14; 20 to 31; 40 to 46; 50 and 51; 52; 101 to 115
+-- 1 to 11, 13 and 14 (12 is free: here it leads to what 13 names); 20 to 31; 40 to 46; 50 and 51; 52; 101 to 115
 abbrev named : ℕ → Named
 named n =
     cond (ltb n 20)
@@ -30,6 +30,8 @@ named n =
     ∷ L.MinusZero
     ∷ L.NoRoom
     ∷ L.ValueTooLarge
+    ∷ L.NoSuchLink
+    ∷ L.NoSuchLink
     ∷ [])
     (n - 1)
     L.OddByteCount))
@@ -79,6 +81,7 @@ named n =
     K.Rdas)))))
 
 back : (a : Named) → (named (numberOf a) ≡ a) × T (ltb 0 (numberOf a))
+back (line L.NoSuchLink) = (refl, tt)
 back (line L.LineTooLong) = (refl, tt)
 back (line L.OddByteCount) = (refl, tt)
 back (line L.PlaceBeyondLine) = (refl, tt)

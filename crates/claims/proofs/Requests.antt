@@ -1,8 +1,11 @@
 -- The requests, each sentence from the law below it. Assumes nothing.
-use mathlib.Core.Path.{refl}
+use mathlib.Core.Path.{refl, ap}
 use native.Mathlib.Omega.{arith}
 use Rattle.words.proofs.Claims as words
 use Rattle.reports.proofs.Altitudes as altitudes
+use Rattle.lines.specs.declared.Received.{Received}
+use Rattle.lines.proofs.Linked as linked
+use Rattle.lines.proofs.Refused as line-refused
 use Rattle.frames.proofs.Back as back
 use Rattle.frames.proofs.Checked as checked
 use Rattle.frames.proofs.Ends as ends
@@ -10,12 +13,13 @@ use Rattle.frames.proofs.Lent as lent
 use Rattle.frames.proofs.Lists as lists
 use Rattle.frames.proofs.Refused as refused
 use Rattle.frames.proofs.Zeros as zeros
+use Rattle.index.specs.Entries.{entryOf}
 use Rattle.index.proofs.Claims as index
 use Rattle.manners.proofs.Answered as answered
 use Rattle.manners.proofs.Broken as broken
 use Rattle.manners.proofs.Exactly as exactly
 use Rattle.manners.proofs.Worked.{worked}
-use Rattle.claims.specs.Requests.{ReadAndWriteThem, FlagsAndIdle, PlacesAnswered, TheWriter, TheirOwnRoundTrip, FrameRefusals, Ticket1, OneSegmentAccepted, UplinkKeepsItsMinimum, RefusalsLoseThisCase, TakesReportsWithANumber, EntersAndReplaces, EqualsTheOneWorkedOutAfresh, IndexRefusals, CountsTheOnes, ItsPromiseStays, TheFormAsAnInput, RangeAndPatterns, RefusalsOfAltitudes, TheRules, ExactlyTheBreaches, StaysAccepted, MannersRefusals, OneAnswerOneList, Requests}
+use Rattle.claims.specs.Requests.{ReadAndWriteThem, FlagsAndIdle, PlacesAnswered, TheWriter, TheirOwnRoundTrip, FrameRefusals, Ticket1, OneSegmentAccepted, UplinkKeepsItsMinimum, RefusalsLoseThisCase, TakesReportsWithANumber, EntersAndReplaces, EqualsTheOneWorkedOutAfresh, IndexRefusals, CountsTheOnes, ItsPromiseStays, TheFormAsAnInput, RangeAndPatterns, RefusalsOfAltitudes, TheRules, ExactlyTheBreaches, StaysAccepted, MannersRefusals, OneAnswerOneList, LinkOfEveryOutcome, NoPartOfTheWords, FixedNumber, LinkRefusal, Requests}
 use Rattle.claims.proofs.Numbers.{numbers-differ, no-number-is-zero}
 use Rattle.claims.proofs.OneSegment as segment
 use Rattle.claims.proofs.Folds.{folds-answer-the-same}
@@ -225,6 +229,37 @@ manners-refusals = record {
   none-is-0 = no-number-is-zero;
 }
 
+-- ---- Ticket 7
+
+link-of-every-outcome : LinkOfEveryOutcome
+link-of-every-outcome = record { given = linked.with-its-number; in-range = linked.number-in-range }
+
+no-part-of-the-words : NoPartOfTheWords
+no-part-of-the-words = record {
+  alone = linked.differ-in-the-number;
+  entry = λ form link other bytes place scan h k.
+      ap (λ (r : Received). entryOf (r .outcome) scan) (linked.differ-in-the-number .bytes form link other bytes place h k);
+}
+
+fixed-number : FixedNumber
+fixed-number = record {
+  words = demands .written-again .there;
+  back = demands .read-again .there;
+  one-number = demands .one-number;
+  list = demands .list-back .list;
+}
+
+link-refusal : LinkRefusal
+link-refusal = record {
+  exactly = linked.no-such-link-exactly;
+  gives = linked.no-such-link-gives;
+  rows = line-refused.reader-refuses;
+  byte-rows = line-refused.byte-reader-refuses;
+  thirteen = refl;
+  numbers = numbers-differ;
+  none-is-0 = no-number-is-zero;
+}
+
 -- ---- all of them
 
 pub requests : Requests
@@ -254,4 +289,5 @@ requests = record {
     refusals = altitude-refusals;
   };
   ticket-6 = record { one-answer = one-list; rules = rules; list = exactly-the-breaches; stays = stays-accepted; refusals = manners-refusals };
+  ticket-7 = record { every-outcome = link-of-every-outcome; no-part = no-part-of-the-words; fixed = fixed-number; refusal = link-refusal };
 }

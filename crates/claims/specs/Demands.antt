@@ -1,7 +1,8 @@
 -- The three demands on the converter, sentence by sentence, in their order. Each sentence stands in the user's own words; the definition under it
 -- says it, by the definitions and claims of the crates below. Where altitudes matter it is said for every sound altitude form; each form that a call
--- can be given is one (`forms` under MeanWhatIsPrinted), and InEachForm says demands 2 and 3 for each of them. Demands, at the end, gathers all, and
--- proofs/Demands.antt proves it as one value. Statements only, with what they need to be said.
+-- can be given is one (`forms` under MeanWhatIsPrinted), and InEachForm says demands 2 and 3 for each of them. A reader is given a link number too
+-- (document 02, Ticket 7): "Demand 2's round trip is read for a fixed link number; demand 3 speaks of lines read with one number", and so they are said
+-- here. Demands, at the end, gathers all, and proofs/Demands.antt proves it as one value. Statements only, with what they need to be said.
 use Prim.Native.Nat.{ℕ, _+_, _-_, _/_, _%_, _≤_}
 use mathlib.Core.Path.{_≡_}
 use mathlib.Core.Bool.{true}
@@ -29,10 +30,11 @@ use Rattle.reports.specs.declared.values.Values.the-variants as Y
 use Rattle.lines.specs.Claims as lines
 use Rattle.lines.specs.declared.What.{What}
 use Rattle.lines.specs.declared.What.the-variants as W
-use Rattle.lines.specs.declared.Outcome.{Outcome}
+use Rattle.lines.specs.declared.Received.{Received}
 use Rattle.lines.specs.declared.Wrote.the-variants as P
-use Rattle.lines.specs.Line.{most, outcomeOf, readAt, outcomes}
-use Rattle.lines.specs.Bytes.{mostBytes, wordsIn, readBytes}
+use Rattle.lines.specs.Line.{most, outcomeOf}
+use Rattle.lines.specs.Bytes.{mostBytes, wordsIn}
+use Rattle.lines.specs.Links.{lastLink, receivedOn, readOn, readBytesOn, outcomesOn}
 use Rattle.lines.specs.Spaced.{Spaced, lineOf, reportsOf, AllFit, Apart}
 use Rattle.lines.specs.Writing.{Writes}
 use Rattle.lines.specs.ByteWriting.{WritesBytes}
@@ -76,12 +78,18 @@ pub record TakeEveryInputAndEnd : Type 0 where
 abbrev pub OnlyIdleLeft : List ℕ → ℕ → Type 0
 OnlyIdleLeft line place = (length line ≤ most) × (place ≤ length line) × (drop place line ≡ replicate (length line - place) idle)
 
+-- the same of bytes
+abbrev pub OnlyIdleBytesLeft : List ℕ → ℕ → Type 0
+OnlyIdleBytesLeft bytes place = (length bytes ≤ mostBytes) × (length bytes % 2 ≡ 0) × OnlyIdleLeft (wordsIn bytes) place
+
 -- "What can't be accepted gets one numbered refusal": a place has a report, a refusal or the end, and the end is told exactly where only
--- idle words are left, so no word is passed over without a name; a number names one refusal, and 0 names none
+-- idle words are left and there is such a link, so no word is passed over without a name; a number names one refusal, and 0 names none
 pub record OneNumberedRefusal : Type 0 where
-  pub end : (form : AltitudeForm) (line : List ℕ) (place : ℕ) → (readAt form line place .what ≡ W.End) ↔ OnlyIdleLeft line place
-  pub end-of-bytes : (form : AltitudeForm) (bytes : List ℕ) (place : ℕ)
-      → (readBytes form bytes place .what ≡ W.End) ↔ ((length bytes ≤ mostBytes) × (length bytes % 2 ≡ 0) × OnlyIdleLeft (wordsIn bytes) place)
+  pub end : (form : AltitudeForm) (link : ℕ) (line : List ℕ) (place : ℕ)
+      → (readOn form link line place .outcome .what ≡ W.End) ↔ ((link ≤ lastLink) × OnlyIdleLeft line place)
+  pub end-of-bytes : (form : AltitudeForm) (link : ℕ) (bytes : List ℕ) (place : ℕ)
+      → (readBytesOn form link bytes place .outcome .what ≡ W.End)
+      ↔ ((link ≤ lastLink) × OnlyIdleBytesLeft bytes place)
   pub numbers : NumbersDiffer
   pub none-is-0 : NoNumberIsZero
 
@@ -157,41 +165,45 @@ pub record AcceptedExactly : Type 0 where
 abbrev pub between : ℕ → ℕ → List ℕ → List ℕ
 between first after line = take (after - first) (drop first line)
 
--- a report has the words of the run that it was read from, there on the line, of words and of bytes
-pub record WordsThere (form : AltitudeForm) : Type 0 where
-  pub on-a-line : (line : List ℕ) (place : ℕ) (r : Report) → readAt form line place .what ≡ W.Accepted r
-      → wordsOf form r ≡ between (readAt form line place .first) (readAt form line place .after) line
-  pub on-bytes : (bytes : List ℕ) (place : ℕ) (r : Report) → readBytes form bytes place .what ≡ W.Accepted r
-      → wordsOf form r ≡ between (readBytes form bytes place .first) (readBytes form bytes place .after) (wordsIn bytes)
+-- a report has the words of the run that it was read from, there on the line, of words and of bytes; read with this link number
+pub record WordsThere (form : AltitudeForm) (link : ℕ) : Type 0 where
+  pub on-a-line : (line : List ℕ) (place : ℕ) (r : Report) → let o = readOn form link line place .outcome in o .what ≡ W.Accepted r
+      → wordsOf form r ≡ between (o .first) (o .after) line
+  pub on-bytes : (bytes : List ℕ) (place : ℕ) (r : Report) → let o = readBytesOn form link bytes place .outcome in o .what ≡ W.Accepted r
+      → wordsOf form r ≡ between (o .first) (o .after) (wordsIn bytes)
 
 -- "its record written out again gives the same bits": of a run, there on the line (there); and the writer puts a field's bytes into any lent bytes
 -- that have room, of which those behind stay
 pub record WrittenAgain : Type 0 where
   pub runs : reports.WrittenAgain
-  pub there : (form : AltitudeForm) → Sound form → WordsThere form
+  pub there : (form : AltitudeForm) → Sound form → (link : ℕ) → WordsThere form link
   pub fields : (s : List ℕ) (n : ℕ) (w : Direction) (r : Record) → Bytes s → answerOf s n w ≡ Accepted r
       → (b : List ℕ) → Bytes b → length s ≤ length b
       → WritesField r (readField s n w .list) (textOf s n w) b (F.Bits n) (s ++ drop (length s) b)
 
--- a report read at the place where it was written, of words and of bytes
-pub record ReadThere (form : AltitudeForm) : Type 0 where
+-- a report read at the place where it was written, of words and of bytes; read with this link number
+pub record ReadThere (form : AltitudeForm) (link : ℕ) : Type 0 where
   pub on-a-line : (line : List ℕ) (place : ℕ) (r : Report) (next : ℕ) (exit : List ℕ) → Writes form line place r (P.Next next) exit
-      → readAt form exit place ≡ outcomeOf (W.Accepted r) place (next - 1) place
+      → readOn form link exit place ≡ receivedOn link (outcomeOf (W.Accepted r) place (next - 1) place)
   pub in-bytes : (bytes : List ℕ) (place : ℕ) (r : Report) (next : ℕ) (exit : List ℕ) → WritesBytes form bytes place r (P.Next next) exit
-      → readBytes form exit place ≡ outcomeOf (W.Accepted r) place (next - 1) place
+      → readBytesOn form link exit place ≡ receivedOn link (outcomeOf (W.Accepted r) place (next - 1) place)
 
 -- "and, of those the writer takes, a record written and read gives the same record": a report where it was written (there); and a record with its
 -- list and its text. A list has thirty numbers, and a text is bytes
 pub record ReadAgain : Type 0 where
   pub runs : reports.ReadBack
   pub runs-taken : reports.TakesWhatFits
-  pub there : (form : AltitudeForm) → Sound form → ReadThere form
+  pub there : (form : AltitudeForm) → Sound form → (link : ℕ) → link ≤ lastLink → ReadThere form link
   pub fields : (r : Record) (l : List ℤ) (t b : List ℕ) (n : ℕ) (exit : List ℕ) → length l ≡ 30 → Bytes t → Bytes b
       → WritesField r l t b (F.Bits n) exit
       → (readField (take ((n + 7) / 8) exit) n (wayIn r) ≡ record { answer = Accepted r; list = l })
       × (textOf (take ((n + 7) / 8) exit) n (wayIn r) ≡ t)
 
--- ---- demand 3
+-- ---- demand 3. It speaks of lines read with one link number: the outcomes in its laws are what is found on the line, and the calls answer these, each
+-- with that number, whichever it is
+
+abbrev pub ReadWithOneNumber : Type 0
+ReadWithOneNumber = lines.OnOneLink
 
 -- "Take two lists of acceptable reports, each written with at least one idle word between neighbours and any number at the ends, within
 -- 32,768 words. If the lines are equal, so are the lists": and calls of the writer leave such lines
@@ -200,26 +212,26 @@ pub record EqualLinesEqualLists : Type 0 where
   pub written : lines.WrittenSo
 
 -- the reports among outcomes, in order
-abbrev pub reportsIn : List Outcome → List Report
+abbrev pub reportsIn : List Received → List Report
 reportsIn [] = []
-reportsIn (o ∷ os) = among (o .what) (reportsIn os)
+reportsIn (r ∷ rs) = among (r .outcome .what) (reportsIn rs)
   where
     among : What → List Report → List Report
     among (W.Accepted r) rs = r ∷ rs
     among (W.Refused q) rs = rs
     among W.End rs = rs
 
--- the reports of a line are the list that was written
-abbrev pub ListBack : AltitudeForm → Type 0
-ListBack form =
+-- the reports of a line that is read with this link number are the list that was written
+abbrev pub ListBack : AltitudeForm → ℕ → Type 0
+ListBack form link =
     (ss : List Spaced) (tail : ℕ) → AllFit form ss → Apart ss → length (lineOf form ss tail) ≤ most
-    → reportsIn (outcomes (readRun form) (lineOf form ss tail)) ≡ reportsOf ss
+    → reportsIn (outcomesOn (readRun form) link (lineOf form ss tail)) ≡ reportsOf ss
 
 -- "and reading the line gives the list back": every outcome is a report, with its places, up to the end; and the reports are the list
 pub record ReadingGivesTheList : Type 0 where
   pub outcomes-are : lines.ReadsBack
   pub reader : lines.ReaderReturns
-  pub list : (form : AltitudeForm) → Sound form → ListBack form
+  pub list : (form : AltitudeForm) → Sound form → (link : ℕ) → link ≤ lastLink → ListBack form link
 
 -- "On any line of that length or less, read from its start, each unbroken stretch of non-idle words gets exactly one outcome, in order: the
 -- one those words get alone, places moved along": of the stretches, and what they are
@@ -239,12 +251,12 @@ pub record InOneForm (form : AltitudeForm) : Type 0 where
   pub runs : reports.Demand2In form
   pub layouts : reports.LayoutIsWordsIn form
   pub written-again : reports.WrittenAgainIn form
-  pub words-there : WordsThere form
+  pub words-there : (link : ℕ) → WordsThere form link
   pub read-back : reports.ReadBackIn form
-  pub read-there : ReadThere form
+  pub read-there : (link : ℕ) → link ≤ lastLink → ReadThere form link
   pub equal-lists : lines.EqualListsIn form
   pub reader : lines.Returns (readRun form) form
-  pub list-back : ListBack form
+  pub list-back : (link : ℕ) → link ≤ lastLink → ListBack form link
 
 abbrev pub InEachForm : Type 0
 InEachForm = (form : Form) → InOneForm (formOf form)
@@ -265,4 +277,5 @@ pub record Demands : Type 0 where
   pub list-back : ReadingGivesTheList
   pub one-each : OneOutcomeEach
   pub replaced : OutsideStays
+  pub one-number : ReadWithOneNumber
   pub each-form : InEachForm

@@ -1,7 +1,7 @@
 -- The change requests of document 02 that have landed, sentence by sentence. Each sentence stands in document 02's words; the definition under it says
 -- it, by the definitions and claims of the crates below. Requests, at the end, gathers all, and proofs/Requests.antt proves it as one value.
 -- Statements only.
-use Prim.Native.Nat.{ℕ, _<_}
+use Prim.Native.Nat.{ℕ, _≤_, _<_}
 use mathlib.Core.Path.{_≡_}
 use mathlib.Core.List.{List, []}
 use Rattle.words.specs.Claims as words
@@ -11,16 +11,20 @@ use Rattle.frames.specs.Frame.{frameOf, Fits}
 use Rattle.frames.specs.Writing.{Writes}
 use Rattle.frames.specs.Claims as frames
 use Rattle.refusals.specs.declared.LineRefusal.{LineRefusal}
+use Rattle.refusals.specs.declared.LineRefusal.the-variants.{NoSuchLink}
+use Rattle.refusals.specs.Numbers.{lineNumber}
 use Rattle.lines.specs.declared.What.the-variants as W
+use Rattle.lines.specs.Links.{lastLink, readBytesOn}
+use Rattle.lines.specs.Claims as lines
 use Rattle.index.specs.declared.Entry.{Entry}
 use Rattle.index.specs.declared.Indexed.{Indexed}
-use Rattle.index.specs.Entries.{uncorrelated, numberIn}
+use Rattle.index.specs.Entries.{uncorrelated, numberIn, entryOf}
 use Rattle.index.specs.Indexing.{Indexes}
 use Rattle.index.specs.Claims as index
-use Rattle.reports.specs.Altitude.{AltitudeForm}
+use Rattle.reports.specs.Altitude.{AltitudeForm, Sound}
 use Rattle.manners.specs.Listing.{Lists, ListsBytes}
 use Rattle.manners.specs.Claims as manners
-use Rattle.claims.specs.Demands.{AllowsOne, InEachForm}
+use Rattle.claims.specs.Demands.{AllowsOne, InEachForm, WordsThere, ReadThere, ReadWithOneNumber, ListBack}
 use Rattle.claims.specs.Twelve.{InTheNewForm, WrittenInTheNewForm}
 use Rattle.claims.specs.TwoForms as forms
 use Rattle.claims.specs.Numbers.{NumbersDiffer, NoNumberIsZero}
@@ -326,6 +330,50 @@ pub record Ticket6 : Type 0 where
   pub stays : StaysAccepted
   pub refusals : MannersRefusals
 
+-- ---- Ticket 7: which link it came on
+
+-- "A site has several parallel surveillance links (section 3). Give every outcome, report or refusal, a link number 0 to 15 that the caller supplies."
+-- lines/specs/Links.antt has what the readers answer with a number. wide::read and bytes::read of line_reader promise it, and so does each C call that
+-- reads a line at a place. With a number from 0 to 15 the answer is what is found there, and that number (given). Whatever number is given, that of the
+-- outcome is one from 0 to 15 (in-range). The lister and the manners read with link 0 (`listerLink` of listing, `mannersLink` of manners)
+pub record LinkOfEveryOutcome : Type 0 where
+  pub given : lines.WithItsNumber
+  pub in-range : lines.NumberInRange
+
+-- "It is no part of the words and doesn't change them." Two readings with two numbers differ in the number alone (alone), and so the index is brought the
+-- same (entry). The line is lent for reading alone, which the language holds a reader to, and no definition of a word, of the answer to a run or of a
+-- writer names a link; neither is a claim here
+pub record NoPartOfTheWords : Type 0 where
+  pub alone : lines.DifferInTheNumber
+  pub entry : (form : AltitudeForm) (link other : ℕ) (bytes : List ℕ) (place scan : ℕ) → link ≤ lastLink → other ≤ lastLink
+      → entryOf (readBytesOn form other bytes place .outcome) scan ≡ entryOf (readBytesOn form link bytes place .outcome) scan
+
+-- "Demand 2's round trip is read for a fixed link number; demand 3 speaks of lines read with one number." They stand so in Demands.antt. Demand 2, on a
+-- line: a report has the words that it was read from (words), and is read where it was written (back). Demand 3: the outcomes of its laws, each with
+-- the one number (one-number), and the list of reports (list)
+pub record FixedNumber : Type 0 where
+  pub words : (form : AltitudeForm) → Sound form → (link : ℕ) → WordsThere form link
+  pub back : (form : AltitudeForm) → Sound form → (link : ℕ) → link ≤ lastLink → ReadThere form link
+  pub one-number : ReadWithOneNumber
+  pub list : (form : AltitudeForm) → Sound form → (link : ℕ) → link ≤ lastLink → ListBack form link
+
+-- "Refusals: 13 link number above 15, tested before 2, with places as for 2 and link 0." It is given exactly for such a number (exactly), whatever line and
+-- place are given with it, with the caller's place three times and link 0 (gives). It stands first in the readers' tables (rows, byte-rows)
+pub record LinkRefusal : Type 0 where
+  pub exactly : lines.NoSuchLinkExactly
+  pub gives : lines.NoSuchLinkGives
+  pub rows : lines.ReaderRefuses
+  pub byte-rows : lines.ByteReaderRefuses
+  pub thirteen : lineNumber NoSuchLink ≡ 13
+  pub numbers : NumbersDiffer
+  pub none-is-0 : NoNumberIsZero
+
+pub record Ticket7 : Type 0 where
+  pub every-outcome : LinkOfEveryOutcome
+  pub no-part : NoPartOfTheWords
+  pub fixed : FixedNumber
+  pub refusal : LinkRefusal
+
 -- ---- all of them
 
 pub record Requests : Type 0 where
@@ -335,3 +383,4 @@ pub record Requests : Type 0 where
   pub ticket-4 : Ticket4
   pub ticket-5 : Ticket5
   pub ticket-6 : Ticket6
+  pub ticket-7 : Ticket7
