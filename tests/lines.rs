@@ -1,12 +1,13 @@
 // Works out what crates/lines_test reads and must print, from document 01's "The line" and "Line refusal numbers"; what a run alone is, it
-// has from tests/document.rs, and what differs in the new form of the altitude from document 02, Ticket 5. `lines stdin` writes the cases,
+// has from tests/document.rs, and what differs in the new form of the altitude from document 02, Ticket 5, and the link from Ticket 7. `lines stdin` writes the cases,
 // `lines stdout` what must be printed of them. Besides chosen cases there are random ones, from a fixed seed.
 mod document;
 use std::io::Write;
 
 const IDLE: u16 = 1023;
 const MOST: usize = 32768;
-const FAR: u16 = 65535; // stands for the largest place
+const FAR: u16 = 65535; // stands for the largest place, and for the largest link number
+const LAST_LINK: u16 = 15;
 
 const C1: [u16; 4] = [868, 1281, 2048, 647];
 const C2: [u16; 7] = [3973, 1281, 256, 7, 5175, 1414, 4102];
@@ -47,6 +48,7 @@ struct Case {
     place: u16,
     form: u16,       // of the altitude, in reading
     to: u16,         // in writing
+    link: u16,
     words: Vec<u16>, // repeated along the line
 }
 
@@ -54,7 +56,18 @@ fn place_of(place: u16) -> u64 {
     if place == FAR { u64::MAX } else { place as u64 }
 }
 
-fn read(line: &[u16], place: u16, form: u16, out: &mut String) {
+// One line of what is printed: what was found, its three places, and the link, which is 0 where there is no such link.
+fn outcome(name: String, places: [u64; 3], link: u16) -> String {
+    let of_such = if link > LAST_LINK { 0 } else { link };
+    format!("{} {} {} {} LINK {}\n", name, places[0], places[1], places[2], of_such)
+}
+
+// A refusal of the link, the line or the place: the caller's place three times.
+fn not_taken(number: u8, place: u16, link: u16) -> String {
+    outcome(format!("REFUSED {}", number), [place_of(place); 3], link)
+}
+
+fn read(line: &[u16], place: u16, form: u16, link: u16, out: &mut String) {
     let shown = line.len() <= 64;
     let say = |text: String, out: &mut String| {
         if shown {
@@ -63,7 +76,9 @@ fn read(line: &[u16], place: u16, form: u16, out: &mut String) {
     };
     let from = place_of(place);
     let (mut calls, mut reports, mut reported, mut refusals, mut refused) = (1, 0, 0, 0, 0);
-    let untaken = if line.len() > MOST {
+    let untaken = if link > LAST_LINK {
+        13
+    } else if line.len() > MOST {
         2
     } else if from > line.len() as u64 {
         1
@@ -71,7 +86,7 @@ fn read(line: &[u16], place: u16, form: u16, out: &mut String) {
         0
     };
     if untaken != 0 {
-        say(format!("REFUSED {} {} {} {}\n", untaken, from, from, from), out);
+        say(not_taken(untaken, place, link), out);
         refusals = 1;
     } else {
         let mut at = from as usize;
@@ -83,18 +98,18 @@ fn read(line: &[u16], place: u16, form: u16, out: &mut String) {
                     None => {
                         reports += 1;
                         reported += run.len();
-                        say(format!("REPORT {} {} {}\n", at, after, at), out);
+                        say(outcome("REPORT".to_string(), [at, after, at].map(|p| p as u64), link), out);
                     }
                     Some((number, offset)) => {
                         refusals += 1;
                         refused += run.len();
-                        say(format!("REFUSED {} {} {} {}\n", number, at, after, at + offset), out);
+                        say(outcome(format!("REFUSED {}", number), [at, after, at + offset].map(|p| p as u64), link), out);
                     }
                 }
             }
             at += run.len() + 1;
         }
-        say(format!("END {} {} {}\n", line.len(), line.len(), line.len()), out);
+        say(outcome("END".to_string(), [line.len() as u64; 3], link), out);
     }
     out.push_str(&format!("CALLS {} REPORTS {} {} REFUSED {} {} DIFFER 0\n", calls, reports, reported, refusals, refused));
 }
@@ -133,12 +148,17 @@ fn answer(case: &Case, out: &mut String) {
     match case.what {
         0 => {
             let line: Vec<u16> = (0..case.n).map(|i| words[i % words.len()]).collect();
-            read(&line, case.place, case.form, out);
+            read(&line, case.place, case.form, case.link, out);
         }
         1 => {
-            let number = if 2 * case.n - 1 > 2 * MOST { 2 } else { 14 };
-            let at = place_of(case.place);
-            out.push_str(&format!("REFUSED {} {} {} {}\n", number, at, at, at));
+            let number = if case.link > LAST_LINK {
+                13
+            } else if 2 * case.n - 1 > 2 * MOST {
+                2
+            } else {
+                14
+            };
+            out.push_str(&not_taken(number, case.place, case.link));
         }
         2 if refusal(words, case.form).is_some() => out.push_str("NO REPORT\n"),
         2 => write(case.n, case.place, rewritten(words, case.form, case.to).as_deref(), out),
@@ -149,7 +169,7 @@ fn answer(case: &Case, out: &mut String) {
 // ---- the cases
 
 fn whole(words: &[u16]) -> Case {
-    Case { what: 0, n: words.len(), place: 0, form: 0, to: 0, words: words.to_vec() }
+    Case { what: 0, n: words.len(), place: 0, form: 0, to: 0, link: 0, words: words.to_vec() }
 }
 
 // Runs of each outcome.
@@ -216,7 +236,7 @@ fn cases() -> Vec<Case> {
     flipped[2] = IDLE;
     all.push(whole(&flipped));
     for (n, place) in [(0, 0), (0, 1), (0, FAR), (5, 0), (5, 3), (5, 5), (5, 6)] {
-        all.push(Case { what: 0, n, place, form: 0, to: 0, words: vec![IDLE] });
+        all.push(Case { what: 0, n, place, form: 0, to: 0, link: 0, words: vec![IDLE] });
     }
     let spaced = [&C1[..], &[IDLE]].concat();
     let seven = [&C2[..], &[IDLE]].concat();
@@ -233,29 +253,55 @@ fn cases() -> Vec<Case> {
         (MOST + 1, vec![IDLE]),
     ] {
         for place in [0, 3, 32767, 32768, 32769, FAR] {
-            all.push(Case { what: 0, n, place, form: 0, to: 0, words: words.clone() });
+            all.push(Case { what: 0, n, place, form: 0, to: 0, link: 0, words: words.clone() });
         }
     }
     for (n, place) in [(1, 0), (5, 2), (5, FAR), (MOST, 0), (MOST + 1, 0), (MOST + 1, FAR)] {
-        all.push(Case { what: 1, n, place, form: 0, to: 0, words: vec![] });
+        all.push(Case { what: 1, n, place, form: 0, to: 0, link: 0, words: vec![] });
     }
     for words in [C1.to_vec(), C2.to_vec(), ATCRBS.to_vec()] {
         let k = words.len();
         for n in [k - 1, k, k + 1, k + 2, 30, MOST, MOST + 1] {
             for place in [0, 1, n.saturating_sub(k + 1), n.saturating_sub(k), n, n + 1] {
-                all.push(Case { what: 2, n, place: place as u16, form: 0, to: 0, words: words.clone() });
+                all.push(Case { what: 2, n, place: place as u16, form: 0, to: 0, link: 0, words: words.clone() });
             }
-            all.push(Case { what: 2, n, place: FAR, form: 0, to: 0, words: words.clone() });
+            all.push(Case { what: 2, n, place: FAR, form: 0, to: 0, link: 0, words: words.clone() });
         }
     }
     for (n, place) in [(10, 0), (3, 0), (3, 3), (3, 4), (MOST, 0), (MOST + 1, 0), (MOST + 1, FAR)] {
-        all.push(Case { what: 3, n, place, form: 0, to: 0, words: vec![] });
+        all.push(Case { what: 3, n, place, form: 0, to: 0, link: 0, words: vec![] });
     }
     let mut seed = 19801980;
     for _ in 0..100 {
         all.push(whole(&random_line(&mut seed)));
     }
     all.extend(new_form(&mut seed));
+    all.extend(links(&mut seed));
+    all
+}
+
+// The link: every number that a link has, and numbers that none has, of 8, 16 and 32 bits; with a report, each refusal, the end, and lines and places
+// that are not taken.
+fn links(seed: &mut u64) -> Vec<Case> {
+    let mut all = vec![];
+    let sample = [IDLE, 868, 1281, 2048, 647, IDLE, IDLE, 3973, 1281, 256, 7, 5175, 1414, 4096];
+    for link in 0..=LAST_LINK {
+        all.push(Case { link, ..whole(&sample) });
+        all.push(Case { link, ..whole(&random_line(seed)) });
+    }
+    for (i, run) in runs().iter().enumerate() {
+        for link in [i as u16 % (LAST_LINK + 1), LAST_LINK + 1] {
+            all.push(Case { link, form: i as u16 % 2, ..whole(run) });
+        }
+    }
+    for link in [7, LAST_LINK, LAST_LINK + 1, 17, 255, 256, 271, FAR - 1, FAR] {
+        for (n, place) in [(0, 0), (0, 1), (5, 0), (5, 5), (5, 6), (5, FAR), (MOST, 0), (MOST + 1, 3), (MOST + 1, FAR)] {
+            all.push(Case { n, place, link, ..whole(&[868]) });
+        }
+        for (n, place) in [(5, 2), (MOST + 1, FAR)] {
+            all.push(Case { what: 1, n, place, link, ..whole(&[]) });
+        }
+    }
     all
 }
 
@@ -271,18 +317,18 @@ fn new_form(seed: &mut u64) -> Vec<Case> {
         all.push(anew(whole(&random_line(seed))));
     }
     for (n, place) in [(5, 2), (MOST + 1, FAR)] {
-        all.push(Case { what: 1, n, place, form: 1, to: 1, words: vec![] });
+        all.push(Case { what: 1, n, place, form: 1, to: 1, link: 0, words: vec![] });
     }
     // bits 79-90: -3 and -2045, minus zero and -2048, the highest, -1024 in both, -2047 and -1
     let altitudes = [4102, 4096, 4094, 6145, 8191].map(|last| [&C2[..6], &[last]].concat());
     for words in [C1.to_vec(), ATCRBS.to_vec()].into_iter().chain(altitudes) {
         for (form, to) in [(0, 65535), (1, 0), (2, 256), (0, 0)] {
             for (n, place) in [(30, 0), (30, 22), (30, 23), (30, 31), (MOST, 3), (MOST + 1, 0)] {
-                all.push(Case { what: 2, n, place, form, to, words: words.clone() });
+                all.push(Case { what: 2, n, place, form, to, link: 0, words: words.clone() });
             }
         }
     }
-    all.push(Case { what: 3, n: 10, place: 0, form: 1, to: 1, words: vec![] });
+    all.push(Case { what: 3, n: 10, place: 0, form: 1, to: 1, link: 0, words: vec![] });
     all
 }
 
@@ -292,9 +338,9 @@ fn main() {
     for case in cases() {
         assert!(case.words.len() <= 64 && case.n <= MOST + 1, "a case does not fit");
         if told == "stdin" {
-            let mut numbers = vec![case.what, case.n as u16, case.words.len() as u16, case.place, case.form, case.to];
+            let mut numbers = vec![case.what, case.n as u16, case.words.len() as u16, case.place, case.form, case.to, case.link];
             numbers.extend(&case.words);
-            numbers.resize(70, 0);
+            numbers.resize(71, 0);
             out.extend(numbers.iter().flat_map(|n| n.to_be_bytes()));
         } else {
             let mut text = String::new();

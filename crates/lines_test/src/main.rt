@@ -1,6 +1,6 @@
 // Reads lines of its standard input with both readers, call by call to the end, and writes reports into lines.
-// A case is 70 numbers of two bytes: what to do, how many words the line has, how many words are repeated along it, the place, the altitude's form in
-// reading and in writing, and 64 words of which so many are repeated. tests/lines.rs works out the cases and what must be printed.
+// A case is 71 numbers of two bytes: what to do, how many words the line has, how many words are repeated along it, the place, the altitude's form in
+// reading and in writing, the link, and 64 words of which so many are repeated. tests/lines.rs works out the cases and what must be printed.
 ghost use Prim.Native.Nat.{_<_};
 use libc::STDIN_FILENO;
 use lines::What;
@@ -19,7 +19,7 @@ mod walk; // walk.rt: call by call to the end
 // One word more than a line may have.
 const ROOM: usize = 32769;
 
-// A number of two bytes that stands for the largest place.
+// A number of two bytes that stands for the largest place, and for the largest link number.
 const FAR: u16 = 65535;
 
 fn widened(byte: u8) -> u16
@@ -29,8 +29,8 @@ fn widened(byte: u8) -> u16
 }
 
 // The two bytes at a place of a case, as a number.
-fn number(case: [u8; 140], at: usize) -> u16
-    requires { ⌜ at < 70 ⌝ }
+fn number(case: [u8; 142], at: usize) -> u16
+    requires { ⌜ at < 71 ⌝ }
 {
     widened(case[at * 2]) * 256 + widened(case[at * 2 + 1])
 }
@@ -42,12 +42,19 @@ fn place_of(n: u16) -> usize {
     n as usize
 }
 
-// The words that are repeated, behind the first six numbers.
-fn repeated(case: [u8; 140]) -> [u16; 64] {
+fn link_of(n: u16) -> u32 {
+    if n == FAR {
+        return 4294967295;
+    }
+    n as u32
+}
+
+// The words that are repeated, behind the first seven numbers.
+fn repeated(case: [u8; 142]) -> [u16; 64] {
     let mut words = [0u16; 64];
     let mut i: usize = 0;
     while i < 64 {
-        words[i] = number(case, i + 6);
+        words[i] = number(case, i + 7);
         i += 1;
     }
     words
@@ -61,6 +68,7 @@ fn read_line(
     k: usize,
     place: usize,
     form: Form,
+    link: u32,
     words: [u16; 64],
 )
     requires { ⌜ n < 65536 ⌝ }
@@ -73,11 +81,11 @@ fn read_line(
     }
     lent::fill(&mut line[0..n], words, k);
     lent::spell(bytes, &line[0..n]);
-    walk::to_the_end(&line[0..n], &bytes[0..n * 2], place, form, n <= 64);
+    walk::to_the_end(&line[0..n], &bytes[0..n * 2], place, form, link, n <= 64);
 }
 
 // One byte fewer than the words have.
-fn read_odd(bytes: &[u8], n: usize, place: usize, form: Form)
+fn read_odd(bytes: &[u8], n: usize, place: usize, form: Form, link: u32)
     requires { ⌜ n < 65536 ⌝ }
 {
     if n == 0 {
@@ -87,7 +95,7 @@ fn read_odd(bytes: &[u8], n: usize, place: usize, form: Form)
     if bytes.len() < odd {
         return;
     }
-    print::outcome(line_reader::bytes::read(&bytes[0..odd], place, form));
+    print::outcome(line_reader::bytes::read(&bytes[0..odd], place, form, link));
 }
 
 // A report written into a line whose words are numbered.
@@ -105,7 +113,8 @@ fn what_of(words: &[u16], k: usize, form: Form) -> What {
     if words.len() < k {
         return What::End;
     }
-    let found = line_reader::wide::read(&words[0..k], 0, form);
+    let received = line_reader::wide::read(&words[0..k], 0, form, 0);
+    let found = received.outcome;
     found.what
 }
 
@@ -142,22 +151,23 @@ fn too_large() -> Report {
     })
 }
 
-fn one_case(case: [u8; 140]) {
+fn one_case(case: [u8; 142]) {
     let what = number(case, 0);
     let n = number(case, 1) as usize;
     let k = number(case, 2) as usize;
     let place = place_of(number(case, 3));
     let form = Form::numbered(number(case, 4) as u32);
     let to = Form::numbered(number(case, 5) as u32);
+    let link = link_of(number(case, 6));
     let words = repeated(case);
     let mut line = [0u16; ROOM];
     let mut bytes = [0u8; ROOM * 2];
     if what == 0 {
-        read_line(&mut line, &mut bytes, n, k, place, form, words);
+        read_line(&mut line, &mut bytes, n, k, place, form, link, words);
         return;
     }
     if what == 1 {
-        read_odd(&bytes, n, place, form);
+        read_odd(&bytes, n, place, form, link);
         return;
     }
     if what == 2 {
@@ -171,8 +181,8 @@ fn one_case(case: [u8; 140]) {
 fn cases() {
     let mut left: usize = 1000;
     while 0 < left {
-        let mut case = [0u8; 140];
-        if io::read_full(STDIN_FILENO, &mut case) < 140 {
+        let mut case = [0u8; 142];
+        if io::read_full(STDIN_FILENO, &mut case) < 142 {
             return;
         }
         one_case(case);

@@ -1,6 +1,6 @@
 // What the program prints.
 use libc::STDOUT_FILENO;
-use lines::Outcome;
+use lines::Received;
 use lines::What;
 use lines::Wrote;
 
@@ -29,13 +29,16 @@ fn name(what: What) {
     }
 }
 
-// The name, and the three places.
-pub fn outcome(o: Outcome) {
+// The name, the three places, and the link.
+pub fn outcome(r: Received) {
+    let o = r.outcome;
     let what = o.what;
     name(what);
     number(o.first as u64);
     number(o.after as u64);
     number(o.named as u64);
+    io::write_all(STDOUT_FILENO, b" LINK");
+    number(r.link as u64);
     line(b"");
 }
 

@@ -1,5 +1,6 @@
 // A line read call by call, continuing from the place given: lent as words and as bytes.
 use lines::Outcome;
+use lines::Received;
 use lines::What;
 use reports::altitude::Form;
 
@@ -41,7 +42,12 @@ fn told(what: What) -> u8 {
     }
 }
 
-fn differing(a: Outcome, b: Outcome) -> u64 {
+fn differing(first: Received, second: Received) -> u64 {
+    if first.link != second.link {
+        return 1;
+    }
+    let a = first.outcome;
+    let b = second.outcome;
     let found = a.what;
     let other = b.what;
     if told(found) != told(other) {
@@ -119,7 +125,7 @@ fn write(text: &[u8]) {
     io::write_all(libc::STDOUT_FILENO, text);
 }
 
-pub fn to_the_end(words: &[u16], bytes: &[u8], place: usize, form: Form, shown: bool) {
+pub fn to_the_end(words: &[u16], bytes: &[u8], place: usize, form: Form, link: u32, shown: bool) {
     let mut t = Tally {
         calls: 0,
         reports: 0,
@@ -131,14 +137,15 @@ pub fn to_the_end(words: &[u16], bytes: &[u8], place: usize, form: Form, shown: 
     let mut at = place;
     let mut left: usize = CALLS;
     while 0 < left {
-        let o = line_reader::wide::read(words, at, form);
+        let r = line_reader::wide::read(words, at, form, link);
+        let o = r.outcome;
         t = tallied(
             t,
             o,
-            differing(o, line_reader::bytes::read(bytes, at, form)),
+            differing(r, line_reader::bytes::read(bytes, at, form, link)),
         );
         if shown {
-            crate::print::outcome(o);
+            crate::print::outcome(r);
         }
         if is_last(o, at) {
             break;
