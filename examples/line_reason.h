@@ -9,6 +9,7 @@
 static const char *line_reason(uint32_t refusal)
 {
     switch (refusal) {
+    case SIAMRUNG_REFUSAL_NO_SUCH_LINK: return "the link number is above 15";
     case SIAMRUNG_REFUSAL_LINE_TOO_LONG: return "the recording has more than 65,536 bytes";
     case SIAMRUNG_REFUSAL_ODD_BYTE_COUNT: return "the recording has an odd number of bytes";
     case SIAMRUNG_REFUSAL_PLACE_BEYOND_LINE: return "the place is beyond the end";

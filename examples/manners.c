@@ -17,6 +17,9 @@
 /* One byte more than a line may have, so that the library sees when a recording is too long. */
 #define ROOM 65537
 
+/* A breach has no link number, so the link is not asked for: the library too lists with link 0. */
+#define LINK 0
+
 struct line {
     uint8_t bytes[ROOM];
     size_t length;
@@ -44,16 +47,17 @@ static void count_runs(const struct line *l, size_t *reports, size_t *refused)
 {
     size_t place = 0;
     uint32_t kind;
-    while ((kind = siamrung_kind(l->bytes, l->length, place, l->form)) != SIAMRUNG_KIND_END) {
+    while ((kind = siamrung_kind(l->bytes, l->length, place, l->form, LINK)) != SIAMRUNG_KIND_END) {
         if (kind == SIAMRUNG_KIND_REFUSED) {
-            uint32_t why = siamrung_refusal(l->bytes, l->length, place, l->form);
-            fprintf(stderr, "manners: place %zu REFUSED %" PRIu32 " at %zu: %s\n", siamrung_first(l->bytes, l->length, place, l->form), why,
-                    siamrung_named(l->bytes, l->length, place, l->form), reason(why));
+            uint32_t why = siamrung_refusal(l->bytes, l->length, place, l->form, LINK);
+            fprintf(stderr, "manners: place %zu REFUSED %" PRIu32 " at %zu: %s\n",
+                    siamrung_first(l->bytes, l->length, place, l->form, LINK), why,
+                    siamrung_named(l->bytes, l->length, place, l->form, LINK), reason(why));
             ++*refused;
         } else {
             ++*reports;
         }
-        place = siamrung_after(l->bytes, l->length, place, l->form);
+        place = siamrung_after(l->bytes, l->length, place, l->form, LINK);
     }
 }
 
@@ -62,7 +66,7 @@ static void print_breaches(const struct line *l, const uint8_t *list, size_t bre
     size_t k;
     for (k = 0; k < breaches; k++) {
         size_t place = siamrung_breach_place(list, k);
-        uint32_t rule = siamrung_breach_rule(list, k), kind = siamrung_kind(l->bytes, l->length, place, l->form);
+        uint32_t rule = siamrung_breach_rule(list, k), kind = siamrung_kind(l->bytes, l->length, place, l->form, LINK);
         printf("%zu %s rule %" PRIu32 ": %s\n", place, kind_names[kind - SIAMRUNG_KIND_SEARCH], rule, wrong[rule]);
         counts[rule]++;
     }

@@ -15,12 +15,16 @@
 
 #include "altitude_form.h"
 #include "line_reason.h"
+#include "number.h"
 
 /* As many as a table may have. */
 #define ENTRIES 512
 
 /* One byte more than a line may have, so that the library sees when a recording is too long. */
 #define ROOM 65537
+
+/* An entry has no link number: a track is the same on each link of its sensor. So the link is not asked for. */
+#define LINK 0
 
 /* The lines are kept: an entry says where its report stands, and not what is in it. */
 struct line {
@@ -77,17 +81,18 @@ static int read_line(const char *name, struct line *l)
 /* The run at the place is refused, or the line itself. */
 static void say_refused(const struct line *l, size_t place)
 {
-    uint32_t why = siamrung_refusal(l->bytes, l->length, place, l->form);
+    uint32_t why = siamrung_refusal(l->bytes, l->length, place, l->form, LINK);
     fprintf(stderr, "track: scan %" PRIu32 " place %zu REFUSED %" PRIu32 " at %zu: %s\n", l->scan,
-            siamrung_first(l->bytes, l->length, place, l->form), why, siamrung_named(l->bytes, l->length, place, l->form), reason(why));
+            siamrung_first(l->bytes, l->length, place, l->form, LINK), why, siamrung_named(l->bytes, l->length, place, l->form, LINK),
+            reason(why));
 }
 
 /* The index does not take what stands at the place. A report without a number is said to have number 0. */
 static void say_not_entered(const struct line *l, size_t place, uint32_t why)
 {
     fprintf(stderr, "track: scan %" PRIu32 " place %zu number %" PRId64 " NOT ENTERED %" PRIu32 ": %s\n", l->scan,
-            siamrung_first(l->bytes, l->length, place, l->form), siamrung_item(l->bytes, l->length, place, l->form, SIAMRUNG_ITEM_FILE), why,
-            reason(why));
+            siamrung_first(l->bytes, l->length, place, l->form, LINK),
+            siamrung_item(l->bytes, l->length, place, l->form, LINK, SIAMRUNG_ITEM_FILE), why, reason(why));
 }
 
 /* Enters the reports of a line, from run to run. Where the line itself is refused, the next place is the one that was passed: nothing more can
@@ -98,15 +103,15 @@ static void enter_line(siamrung_entry *table, const struct line *l)
     uint32_t kind, done;
     do {
         place = next;
-        kind = siamrung_kind(l->bytes, l->length, place, l->form);
-        done = siamrung_index_done(siamrung_index_enter(table, ENTRIES, l->bytes, l->length, place, l->form, l->scan));
+        kind = siamrung_kind(l->bytes, l->length, place, l->form, LINK);
+        done = siamrung_index_done(siamrung_index_enter(table, ENTRIES, l->bytes, l->length, place, l->form, LINK, l->scan));
         /* in the other cases the report is entered, or there is no number to enter */
         if (done == SIAMRUNG_INDEX_REFUSAL_TABLE_BROKEN || done == SIAMRUNG_INDEX_REFUSAL_TABLE_FULL)
             say_not_entered(l, place, done);
         /* a refused run has no number to enter; but it may have been a report of the number that is asked for */
         if (kind == SIAMRUNG_KIND_REFUSED)
             say_refused(l, place);
-        next = siamrung_after(l->bytes, l->length, place, l->form);
+        next = siamrung_after(l->bytes, l->length, place, l->form, LINK);
     } while (kind != SIAMRUNG_KIND_END && next != place);
 }
 
@@ -115,10 +120,10 @@ static void enter_line(siamrung_entry *table, const struct line *l)
 static void print_report(const siamrung_entry *e, const struct line *l)
 {
     printf("%u scan %" PRIu32 " place %zu %s %.4f nmi %.4f deg %.3f s", (unsigned)e->number, e->scan, e->place, kind_name(e->kind),
-           siamrung_nmi(l->bytes, l->length, e->place, l->form), siamrung_degrees(l->bytes, l->length, e->place, l->form),
-           siamrung_seconds(l->bytes, l->length, e->place, l->form));
-    if (siamrung_has(l->bytes, l->length, e->place, l->form, SIAMRUNG_ITEM_ALTITUDE))
-        printf(" altitude %" PRId64 " ft", 100 * siamrung_item(l->bytes, l->length, e->place, l->form, SIAMRUNG_ITEM_ALTITUDE));
+           siamrung_nmi(l->bytes, l->length, e->place, l->form, LINK), siamrung_degrees(l->bytes, l->length, e->place, l->form, LINK),
+           siamrung_seconds(l->bytes, l->length, e->place, l->form, LINK));
+    if (siamrung_has(l->bytes, l->length, e->place, l->form, LINK, SIAMRUNG_ITEM_ALTITUDE))
+        printf(" altitude %" PRId64 " ft", 100 * siamrung_item(l->bytes, l->length, e->place, l->form, LINK, SIAMRUNG_ITEM_ALTITUDE));
     printf("\n");
 }
 
@@ -143,23 +148,6 @@ static int print_last(const siamrung_entry *table, const struct line *lines, uin
 }
 
 /* ---- the whole */
-
-/* Reads a decimal number of at most 32 bits; answers 0 if the text is none. */
-static int read_number(const char *text, uint32_t *number)
-{
-    uint64_t value = 0;
-    if (*text == '\0')
-        return 0;
-    for (; *text != '\0'; text++) {
-        if (*text < '0' || *text > '9')
-            return 0;
-        value = 10 * value + (uint64_t)(*text - '0');
-        if (value > UINT32_MAX)
-            return 0;
-    }
-    *number = (uint32_t)value;
-    return 1;
-}
 
 /* Enters every recording, then prints. Answers 0 where something failed. */
 static int track(uint32_t number, uint32_t form, char **names, struct line *lines, size_t count)

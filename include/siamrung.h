@@ -600,8 +600,8 @@ uint32_t siamrung_frame_write_refusal(const uint8_t *bytes, size_t length, size_
  * a refusal and the end.
  *
  * An entry says where its report stands on its line, and not which line that is: keep the lines, and choose scan numbers by which you find them again.
- * Nor does it say the altitude's form: read the report with the form that it was entered with. Nor does it say the link: file numbers of all links
- * that are entered into one table are taken for one sensor's.
+ * Nor does it say the altitude's form: read the report with the form that it was entered with. Nor does it say the link: a number that
+ * comes on two links of a sensor has one entry.
  *
  * An answer of a call has two parts: what was done, and the entry where it was done. siamrung_index_done and siamrung_index_entry take them out. Do not
  * compare an answer itself with the numbers of what was done: take it apart first.

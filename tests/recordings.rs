@@ -2,7 +2,7 @@
 // tests/document.rs: `recordings NAME` writes the bytes, `recordings NAME printed` what examples/recorder.c prints, `recordings NAME heights` what
 // README.md's lines do. `recordings track NUMBER FILE..` and `recordings refused FILE..` print what examples/track.c must say (tests/tracks.rs).
 // `recordings breaches FILE` and `recordings not-judged FILE` print what examples/manners.c must say (tests/manners.rs), on standard output and on
-// standard error. With --twos-complement in front, altitudes are read in that form.
+// standard error. With --twos-complement in front, altitudes are read in that form; with --link NUMBER next, the recorder is told that link.
 //   story    a sensor that sends ATCRBS and Search reports, and then begins to send DABS reports in place of ATCRBS
 //   morning  every form, with idle words between
 //   damaged  the morning with bits turned over here and there
@@ -19,6 +19,7 @@ use document::*;
 use std::io::Write;
 
 const IDLE: u16 = 1023;
+const LAST_LINK: u32 = 15;
 
 struct Random(u32);
 
@@ -132,6 +133,7 @@ fn print_report(said: &str, at: usize, out: &mut String) {
 
 fn reason(number: u8) -> &'static str {
     match number {
+        13 => "the link number is above 15",
         2 => "the recording has more than 65,536 bytes",
         14 => "the recording has an odd number of bytes",
         3 => "a word has more than thirteen bits",
@@ -146,10 +148,24 @@ fn reason(number: u8) -> &'static str {
     }
 }
 
-fn printed(forms: &[Form], line: &[u16]) -> String {
+// What examples/recorder.c prints in front of each outcome, if it is told a link.
+fn link_text(link: Option<u32>) -> String {
+    link.map_or(String::new(), |number| format!("link {number}: "))
+}
+
+// What it finds: each run with its place. Told a number that no link has, it finds one refusal, at the start, and no link.
+fn printed(forms: &[Form], line: &[u16], link: Option<u32>) -> String {
+    match link {
+        Some(number) if number > LAST_LINK => printed_runs(vec![(0, Read::Refused(13, 0))], ""),
+        _ => printed_runs(runs(forms, line), &link_text(link)),
+    }
+}
+
+fn printed_runs(runs: Vec<(usize, Read)>, link: &str) -> String {
     let names = ["SEARCH", "STROBE", "MAP", "STATUS", "RTQC", "DABS", "DABS-CD", "DABS-MTD", "DABS-RDAS", "ATCRBS", "ATCRBS-CD", "ATCRBS-MTD", "ATCRBS-RDAS", "MTD", "RDAS"];
     let (mut out, mut counts, mut refused, mut heights) = (String::new(), [0; 15], 0, 0);
-    for (at, run) in runs(forms, line) {
+    for (at, run) in runs {
+        out += link;
         match run {
             Read::Report(said) => {
                 print_report(&said, at, &mut out);
@@ -190,6 +206,8 @@ fn main() {
     let option = words[1] == "--twos-complement";
     let forms = if option { complement_forms() } else { all_forms() };
     words.drain(1..1 + usize::from(option));
+    let link: Option<u32> = (words[1] == "--link").then(|| words[2].parse().unwrap());
+    words.drain(1..1 + 2 * link.iter().count());
     let files = |from: usize| words[from..].iter().map(|name| std::fs::read(name).unwrap()).collect::<Vec<Vec<u8>>>();
     let bytes = match (&words[1][..], words.get(2).map(String::as_str)) {
         ("track", Some(number)) => tracks::last(forms, number.parse().unwrap(), &files(3)).into_bytes(),
@@ -197,7 +215,7 @@ fn main() {
         ("breaches", Some(name)) => manners::printed(forms, &std::fs::read(name).unwrap()).into_bytes(),
         ("not-judged", Some(name)) => manners::refused(forms, &std::fs::read(name).unwrap()).into_bytes(),
         (name, None) => recording(name).iter().flat_map(|w| w.to_be_bytes()).collect(),
-        (name, Some("printed")) => printed(forms, &recording(name)).into_bytes(),
+        (name, Some("printed")) => printed(forms, &recording(name), link).into_bytes(),
         (name, Some("heights")) => heights(forms, &recording(name)).into_bytes(),
         (_, Some(other)) => panic!("no such text: {other}"),
     };

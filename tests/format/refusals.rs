@@ -76,7 +76,11 @@ pub fn refusals(page: &[Table], specs: &[File], header: &Numbers, found: &mut Fi
         let said = there[call].iter().map(|number| number.to_string()).collect::<Vec<String>>().join(", ");
         found.that(text.contains(&format!("the first of {said} whose condition holds")), || format!("the order of {call}: {HEADER} does not say '{said}'"));
     }
-    places(page, &there["reading a line of bytes"], found);
+    // of reading a line it says how the order begins
+    let reading = &there["reading a line of bytes"];
+    let begins = reading[..6].iter().map(|number| number.to_string()).collect::<Vec<String>>().join(", ");
+    found.that(text.contains(&format!("({begins}, ..)")), || format!("the order of reading a line of bytes: {HEADER} does not say '({begins}, ..)'"));
+    places(page, reading, found);
 }
 
 // Words with a digit, as conditions have them: 8191, 88-90, 9C.
