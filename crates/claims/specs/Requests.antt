@@ -337,6 +337,7 @@ pub record Ticket6 : Type 0 where
 -- reads a line at a place. With a number from 0 to 15 the answer is what is found there, and that number (given). Whatever number is given, that of the
 -- outcome is one from 0 to 15 (in-range). The lister and the manners read with link 0 (`listerLink` of listing, `mannersLink` of manners)
 pub record LinkOfEveryOutcome : Type 0 where
+  pub fifteen : lastLink ≡ 15
   pub given : lines.WithItsNumber
   pub in-range : lines.NumberInRange
 

@@ -49,6 +49,7 @@ pub under-step : (q : MannersRefusal) → mannersNumber q < step
 under-step M.ListTooSmall = omega arith
 
 line-under-step : (q : LineRefusal) → lineNumber q < step
+line-under-step L.NoSuchLink = omega arith
 line-under-step L.LineTooLong = omega arith
 line-under-step L.OddByteCount = omega arith
 line-under-step L.PlaceBeyondLine = omega arith
