@@ -132,6 +132,11 @@ int main(int argc, char **argv)
 {
     struct line l = {NULL, 0, SIAMRUNG_FORM_SIGN_MAGNITUDE, 0, 0};
     struct tally t = {{0}, 0, 0, 0};
+    /* compiled with the header of another version, the calls would pass other arguments than the library takes */
+    if (siamrung_version() != SIAMRUNG_VERSION) {
+        fprintf(stderr, "recorder: the library has version %" PRIu32 ", this program needs %d\n", siamrung_version(), SIAMRUNG_VERSION);
+        return 1;
+    }
     if (!take_options(argc, argv, &l)) {
         fprintf(stderr, "usage: recorder [--twos-complement] [--link NUMBER] < RECORDING    (a decimal link number, 0 to 15)\n");
         return 2;

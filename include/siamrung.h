@@ -20,10 +20,12 @@
  * are refused in form 0, with 9, and are -2048 in the other form.
  *
  * Links. A site may have several parallel links for surveillance data. The words do not tell on which one they came: the program must know it, and
- * passes the link's number, 0 to 15 (SIAMRUNG_LAST_LINK), as the argument link to every call that reads a line at a place. Every outcome, a report, a
- * refusal or the end, has that number, and siamrung_link answers it. It is no part of the words. It changes nothing else: every other call answers
- * the same with each number from 0 to 15. A greater number is refused with 13, before the line is looked at; the outcome then has link 0, which is no
- * claim that it came on that link. A program that has one link passes 0. siamrung_manners and the lister take no link number, and read with link 0.
+ * passes the link's number, 0 to 15 (SIAMRUNG_LAST_LINK), as the argument link to every call that reads a line at a place. Pass the same number to
+ * all calls about one line. Every outcome, a report, a refusal or the end, has that number, and siamrung_link answers it. It is no part of the
+ * words. It changes nothing else: every other call answers the same with each number from 0 to 15. A greater number is refused with 13, before the
+ * line is looked at; the outcome then has link 0, and this does not say that it came on link 0. A program that has one link passes 0.
+ * siamrung_manners and the lister take no link number, and read with link 0. The arguments form, link, item and scan have one type: no compiler sees
+ * it if two of them are exchanged.
  *
  * Threads. No call keeps anything, so any thread may call at any time. But while a call writes into bytes, into a table or into a list, no other
  * thread may use them.
@@ -47,9 +49,11 @@
  * compiled again before it is linked with this library: its calls would pass no form, and altitudes would be wrong. siamrung_version tells it:
  * compare its answer with the version that the program was written for. Version 7 added siamrung_manners. Version 8 added siamrung_link, and the
  * argument link behind form in the calls from siamrung_kind to siamrung_seconds and in siamrung_index_enter; with a number from 0 to 15 they do what
- * they did before. Here too a program must be changed and compiled again: an old one would pass no link number. A call that accepts more than before
- * keeps its name. If the meaning of a call changes in any other way under the same arguments, it gets a new name, so that an old program does not
- * link with it.
+ * they did before. Here too a program must be changed, and compiled again before it is linked with this library. In a program that was compiled with
+ * an older header, siamrung_has and siamrung_item would take the item's number for the link, siamrung_index_enter the scan number, and the other
+ * calls any number: items and whole reports could be missing, and nothing would say so. So let a program compare, before anything else, the answer
+ * of siamrung_version with SIAMRUNG_VERSION, as examples/recorder.c does. A call that accepts more than before keeps its name. If the meaning of a
+ * call changes in any other way under the same arguments, it gets a new name, so that an old program does not link with it.
  */
 #ifndef SIAMRUNG_H
 #define SIAMRUNG_H
@@ -61,6 +65,9 @@
 extern "C" {
 #endif
 
+/* the version of this header. Compare it with the answer of siamrung_version, which is that of the library */
+#define SIAMRUNG_VERSION 8
+
 /* ---- forms of the altitude, bits 79-90 of DABS and ATCRBS with Mode C and without substitution: the argument form */
 
 /* a sign, 1 negative, and eleven bits: -2047 to 2047 hundreds of feet. Sign 1 with eleven zeros is refused with 9 */
@@ -70,7 +77,7 @@ extern "C" {
 
 /* ---- link numbers, 0 to 15: the argument link */
 
-/* the last one; a greater number is refused with 13 */
+/* the last one; a greater number is refused with 13. There are SIAMRUNG_LAST_LINK + 1 links */
 #define SIAMRUNG_LAST_LINK 15
 
 /* ---- kinds: what siamrung_kind answers */
@@ -393,7 +400,7 @@ extern "C" {
 
 /* ---- calls that read a line */
 
-/* Answers the version of these calls: 8. It grows with each change of the calls, and of what they accept. */
+/* Answers the version of these calls: 8, as SIAMRUNG_VERSION. It grows with each change of the calls, and of what they accept. */
 uint32_t siamrung_version(void);
 
 /* Answers what stands at the place: a kind of report, SIAMRUNG_KIND_REFUSED or SIAMRUNG_KIND_END. */
@@ -419,7 +426,7 @@ size_t siamrung_after(const uint8_t *bytes, size_t length, size_t place, uint32_
 size_t siamrung_named(const uint8_t *bytes, size_t length, size_t place, uint32_t form, uint32_t link);
 
 /* Answers the link number of the outcome at the place: the number that was passed, for a report, for a refusal and at the end; 0 for refusal 13. So
- * look at siamrung_refusal first: 13 says that the number was no link's. */
+ * look at siamrung_refusal first: 13 says that no link has the number that was passed. */
 uint32_t siamrung_link(const uint8_t *bytes, size_t length, size_t place, uint32_t form, uint32_t link);
 
 /* Answers 1 if there is a report at the place and it has the item, else 0. So for a number that is no item of reports it answers 0. */
@@ -600,8 +607,8 @@ uint32_t siamrung_frame_write_refusal(const uint8_t *bytes, size_t length, size_
  * a refusal and the end.
  *
  * An entry says where its report stands on its line, and not which line that is: keep the lines, and choose scan numbers by which you find them again.
- * Nor does it say the altitude's form: read the report with the form that it was entered with. Nor does it say the link: a number that
- * comes on two links of a sensor has one entry.
+ * Nor does it say the altitude's form: read the report with the form that it was entered with. Nor does it say the link: a file number
+ * that comes on two links has one entry. If lines of several links are entered into one table, choose scan numbers that tell the link too.
  *
  * An answer of a call has two parts: what was done, and the entry where it was done. siamrung_index_done and siamrung_index_entry take them out. Do not
  * compare an answer itself with the numbers of what was done: take it apart first.

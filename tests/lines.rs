@@ -1,12 +1,13 @@
 // Works out what crates/lines_test reads and must print, from document 01's "The line" and "Line refusal numbers"; what a run alone is, it
-// has from tests/document.rs, and what differs in the new form of the altitude from document 02, Ticket 5, and the link from Ticket 7. `lines stdin` writes the cases,
-// `lines stdout` what must be printed of them. Besides chosen cases there are random ones, from a fixed seed.
+// has from tests/document.rs, what differs in the new form of the altitude from document 02, Ticket 5, and the link from Ticket 7. `lines stdin`
+// writes the cases, `lines stdout` what must be printed of them. Besides chosen cases there are random ones, from a fixed seed.
 mod document;
 use std::io::Write;
 
 const IDLE: u16 = 1023;
 const MOST: usize = 32768;
 const FAR: u16 = 65535; // stands for the largest place, and for the largest link number
+const CUT: u16 = 65534; // stands for a link number whose last sixteen bits are those of link 15
 const LAST_LINK: u16 = 15;
 
 const C1: [u16; 4] = [868, 1281, 2048, 647];
@@ -58,8 +59,8 @@ fn place_of(place: u16) -> u64 {
 
 // One line of what is printed: what was found, its three places, and the link, which is 0 where there is no such link.
 fn outcome(name: String, places: [u64; 3], link: u16) -> String {
-    let of_such = if link > LAST_LINK { 0 } else { link };
-    format!("{} {} {} {} LINK {}\n", name, places[0], places[1], places[2], of_such)
+    let answered = if link > LAST_LINK { 0 } else { link };
+    format!("{} {} {} {} LINK {}\n", name, places[0], places[1], places[2], answered)
 }
 
 // A refusal of the link, the line or the place: the caller's place three times.
@@ -86,7 +87,8 @@ fn read(line: &[u16], place: u16, form: u16, link: u16, out: &mut String) {
         0
     };
     if untaken != 0 {
-        say(not_taken(untaken, place, link), out);
+        // printed of a long line too
+        out.push_str(&not_taken(untaken, place, link));
         refusals = 1;
     } else {
         let mut at = from as usize;
@@ -294,7 +296,7 @@ fn links(seed: &mut u64) -> Vec<Case> {
             all.push(Case { link, form: i as u16 % 2, ..whole(run) });
         }
     }
-    for link in [7, LAST_LINK, LAST_LINK + 1, 17, 255, 256, 271, FAR - 1, FAR] {
+    for link in [7, LAST_LINK, LAST_LINK + 1, 17, 255, 256, 271, CUT, FAR] {
         for (n, place) in [(0, 0), (0, 1), (5, 0), (5, 5), (5, 6), (5, FAR), (MOST, 0), (MOST + 1, 3), (MOST + 1, FAR)] {
             all.push(Case { n, place, link, ..whole(&[868]) });
         }

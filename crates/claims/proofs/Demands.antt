@@ -210,10 +210,10 @@ demands = record {
   accepted = accepted;
   written-again = written-again;
   read-again = read-again;
+  one-number = record { one-call = linked.with-its-number; calls = linked.on-one-link; bytes = linked.bytes-as-their-words };
   equal-lists = equal-lists;
   list-back = list-back;
   one-each = one-each;
   replaced = parts.replaced;
-  one-number = linked.on-one-link;
   each-form = in-each-form;
 }

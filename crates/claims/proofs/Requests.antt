@@ -232,7 +232,7 @@ manners-refusals = record {
 -- ---- Ticket 7
 
 link-of-every-outcome : LinkOfEveryOutcome
-link-of-every-outcome = record { fifteen = refl; given = linked.with-its-number; in-range = linked.number-in-range }
+link-of-every-outcome = record { fifteen = refl; given = linked.with-its-number; in-range = linked.number-in-range; manners = refl }
 
 no-part-of-the-words : NoPartOfTheWords
 no-part-of-the-words = record {

@@ -2,7 +2,8 @@
 -- says it, by the definitions and claims of the crates below. Where altitudes matter it is said for every sound altitude form; each form that a call
 -- can be given is one (`forms` under MeanWhatIsPrinted), and InEachForm says demands 2 and 3 for each of them. A reader is given a link number too
 -- (document 02, Ticket 7): "Demand 2's round trip is read for a fixed link number; demand 3 speaks of lines read with one number", and so they are said
--- here. Demands, at the end, gathers all, and proofs/Demands.antt proves it as one value. Statements only, with what they need to be said.
+-- here. Laws on what is found (`readBy`, `readAt`, `readBytes`, `calls`, `outcomes`) are laws on what the readers answer by ReadWithOneNumber. Demands,
+-- at the end, gathers all, and proofs/Demands.antt proves it as one value. Statements only, with what they need to be said.
 use Prim.Native.Nat.{ℕ, _+_, _-_, _/_, _%_, _≤_}
 use mathlib.Core.Path.{_≡_}
 use mathlib.Core.Bool.{true}
@@ -65,8 +66,8 @@ pub record WritesField (r : Record) (l : List ℤ) (t s : List ℕ) (answer : Wr
 -- it in." That a call asks for nothing and returns is no claim here: the checker holds every function to it, and no public one has a
 -- `requires`. They are wide::read and bytes::read of line_reader; wide::write, bytes::write and bytes::answer of line_writer; read, judge and text
 -- of field_reader's reading; write and answer of field_writer's writing. A reader's promise is an equation with a definition that answers every
--- input; a writer's allows one answer and one buffer at exit (words, bytes, fields). On a line and from a place that are taken, every outcome but the end goes on (onward), and a line of
--- n words is done within (n + 1) / 2 rounded down, plus one, calls (enough)
+-- input; a writer's allows one answer and one buffer at exit (words, bytes, fields). On a line, from a place and with a link number that are taken, every
+-- outcome but the end goes on (onward), and a line of n words is done within (n + 1) / 2 rounded down, plus one, calls (enough)
 pub record TakeEveryInputAndEnd : Type 0 where
   pub words : (form : AltitudeForm) (line : List ℕ) (place : ℕ) (r : Report) → AllowsOne (Writes form line place r)
   pub bytes : (form : AltitudeForm) (bytes : List ℕ) (place : ℕ) (r : Report) → AllowsOne (WritesBytes form bytes place r)
@@ -100,7 +101,8 @@ pub record NoSkipWithoutAName : Type 0 where
   pub words-counted : lines.TotalsCounted
 
 -- "given exactly under that number's condition": in reading and in writing, of words, of bytes and of fields, the refusal is that of the
--- first row of document 01's table whose condition holds, and it names that row's place
+-- first row of document 01's table whose condition holds, and it names that row's place. In reading a line the row of the link (document 02, Ticket 7)
+-- stands in front
 pub record GivenExactly : Type 0 where
   pub reading-words : lines.ReaderRefuses
   pub reading-bytes : lines.ByteReaderRefuses
@@ -199,11 +201,15 @@ pub record ReadAgain : Type 0 where
       → (readField (take ((n + 7) / 8) exit) n (wayIn r) ≡ record { answer = Accepted r; list = l })
       × (textOf (take ((n + 7) / 8) exit) n (wayIn r) ≡ t)
 
--- ---- demand 3. It speaks of lines read with one link number: the outcomes in its laws are what is found on the line, and the calls answer these, each
--- with that number, whichever it is
+-- ---- demand 3
 
-abbrev pub ReadWithOneNumber : Type 0
-ReadWithOneNumber = lines.OnOneLink
+-- document 02, Ticket 7: "demand 3 speaks of lines read with one number." The laws on whole lines, here and above, speak of what is found: `readAt` and
+-- `readBytes` at a place, `calls` and `outcomes` on a line. With a link number from 0 to 15 the readers answer just that, each outcome with that
+-- number: one call (one-call), and calls one after the other (calls). Bytes are read as the words that they hold (bytes)
+pub record ReadWithOneNumber : Type 0 where
+  pub one-call : lines.WithItsNumber
+  pub calls : lines.OnOneLink
+  pub bytes : lines.BytesAsTheirWords
 
 -- "Take two lists of acceptable reports, each written with at least one idle word between neighbours and any number at the ends, within
 -- 32,768 words. If the lines are equal, so are the lists": and calls of the writer leave such lines
@@ -273,9 +279,9 @@ pub record Demands : Type 0 where
   pub accepted : AcceptedExactly
   pub written-again : WrittenAgain
   pub read-again : ReadAgain
+  pub one-number : ReadWithOneNumber
   pub equal-lists : EqualLinesEqualLists
   pub list-back : ReadingGivesTheList
   pub one-each : OneOutcomeEach
   pub replaced : OutsideStays
-  pub one-number : ReadWithOneNumber
   pub each-form : InEachForm

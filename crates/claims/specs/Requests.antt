@@ -23,6 +23,7 @@ use Rattle.index.specs.Indexing.{Indexes}
 use Rattle.index.specs.Claims as index
 use Rattle.reports.specs.Altitude.{AltitudeForm, Sound}
 use Rattle.manners.specs.Listing.{Lists, ListsBytes}
+use Rattle.manners.specs.Breaches.{mannersLink}
 use Rattle.manners.specs.Claims as manners
 use Rattle.claims.specs.Demands.{AllowsOne, InEachForm, WordsThere, ReadThere, ReadWithOneNumber, ListBack}
 use Rattle.claims.specs.Twelve.{InTheNewForm, WrittenInTheNewForm}
@@ -224,7 +225,8 @@ pub record Ticket4 : Type 0 where
 -- bytes::answer of line_writer, and the C calls. What the new form reads is told by what document 01's reads: of a run (run, lowest), at a place of a
 -- line (place) and of bytes (place-of-bytes). Where no altitude has its first bit one, nothing differs (same); and nothing else of a report depends on its
 -- altitude (rest), so the index is brought the same (entry). A report without an altitude below zero is written alike (written), and any other that
--- document 01's form takes has the same words with its altitude turned (words); so the calls of the writers answer and leave the same (calls)
+-- document 01's form takes has the same words with its altitude turned (words); so the calls of the writers answer and leave the same (calls). What is said
+-- of a place is of what is found there; the readers answer it with a link number (`given` of Ticket 7)
 pub record TheFormAsAnInput : Type 0 where
   pub run : forms.NewReading
   pub lowest : forms.MinusZeroIsLowest
@@ -335,14 +337,16 @@ pub record Ticket6 : Type 0 where
 -- "A site has several parallel surveillance links (section 3). Give every outcome, report or refusal, a link number 0 to 15 that the caller supplies."
 -- lines/specs/Links.antt has what the readers answer with a number. wide::read and bytes::read of line_reader promise it, and so does each C call that
 -- reads a line at a place. With a number from 0 to 15 the answer is what is found there, and that number (given). Whatever number is given, that of the
--- outcome is one from 0 to 15 (in-range). The lister and the manners read with link 0 (`listerLink` of listing, `mannersLink` of manners)
+-- outcome is one from 0 to 15 (in-range). The manners are read with link 0 (manners); so is a listing, which is claimed in listing/specs/Claims.antt
+-- (`LinkZero`)
 pub record LinkOfEveryOutcome : Type 0 where
   pub fifteen : lastLink ≡ 15
   pub given : lines.WithItsNumber
   pub in-range : lines.NumberInRange
+  pub manners : mannersLink ≡ 0
 
 -- "It is no part of the words and doesn't change them." Two readings with two numbers differ in the number alone (alone), and so the index is brought the
--- same (entry). The line is lent for reading alone, which the language holds a reader to, and no definition of a word, of the answer to a run or of a
+-- same (entry; siamrung_index_enter promises this entry, `entryAt` of index_host). The line is lent for reading alone, which the language holds a reader to, and no definition of a word, of the answer to a run or of a
 -- writer names a link; neither is a claim here
 pub record NoPartOfTheWords : Type 0 where
   pub alone : lines.DifferInTheNumber

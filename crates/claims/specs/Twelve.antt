@@ -44,8 +44,8 @@ pub data Input : Type 0 where
   line : List ℕ → Input
   field : List ℕ → ℕ → Direction → Input
 
--- what a call of the reader says of a run: the lister's name, the whole record, and range, azimuth and time in 1024ths of a nmi, of a
--- degree and of a second; or the number of the refusal; or that the line ends
+-- what a call of the reader says of a run, on whichever link it came: the lister's name, the whole record, and range, azimuth and time in 1024ths of a
+-- nmi, of a degree and of a second; or the number of the refusal; or that the line ends
 pub data Said : Type 0 where
   report : Kind → Report → Counted → Said
   refused : ℕ → Said

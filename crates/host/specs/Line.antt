@@ -1,6 +1,5 @@
--- What each call that reads a line answers, from the outcome at the place. siamrung_link answers the link of what is received there (lines/specs/
--- Links.antt). A report's kind has its number from reports; what is no report has
--- its number here. Definitions only.
+-- What each call that reads a line answers, from the outcome at the place. (siamrung_link answers the link that was received with it.) A report's kind
+-- has its number from reports; what is no report has its number here. Definitions only.
 use Prim.Native.Nat.{ℕ}
 use Rattle.refusals.specs.Numbers.{lineNumber}
 use Rattle.measures.specs.declared.Measured.{Measured}

@@ -1,6 +1,5 @@
 // The calls that read a line lent as bytes, two a word, high byte first, at a place counted in words. Each answers one thing about the run
-// at or behind the place, and reads that run and no more. Any bytes, any place, any number of an altitude form and any link number are taken; a link
-// number above 15 is refused, with number 13.
+// at or behind the place, and reads that run and no more. Any bytes, any place, any number of an altitude form and any link number may be passed.
 // Relies on line_reader for the outcome, report_items for the fields, reports for kinds and values.
 ghost use mathlib.Core.Path.{_≡_};
 ghost use Rattle.measures.specs.Exact.{Exact};

@@ -56,13 +56,13 @@ foundNumber (F.Refused q) = indexNumber q
 -- ---- the calls
 
 -- what the outcome at the place of the line brings, with the scan number. An entry has no link number
-abbrev pub broughtBy : AltitudeForm → ℕ → List ℕ → ℕ → ℕ → Entry
-broughtBy form link bytes place scan = entryOf (readBytesOn form link bytes place .outcome) scan
+abbrev pub entryAt : AltitudeForm → ℕ → List ℕ → ℕ → ℕ → Entry
+entryAt form link bytes place scan = entryOf (readBytesOn form link bytes place .outcome) scan
 
 -- what entering promises: that is entered
 pub record Enters (form : AltitudeForm) (link : ℕ) (table : List Entry) (bytes : List ℕ) (place scan answer : ℕ) (exit : List Entry) : Type 0 where
-  pub answers : answer ≡ answerNumber (indexed table (broughtBy form link bytes place scan .number))
-  pub leaves : exit ≡ leftBy (indexed table (broughtBy form link bytes place scan .number)) table (broughtBy form link bytes place scan)
+  pub answers : answer ≡ answerNumber (indexed table (entryAt form link bytes place scan .number))
+  pub leaves : exit ≡ leftBy (indexed table (entryAt form link bytes place scan .number)) table (entryAt form link bytes place scan)
 
 -- how many numbers sixteen bits have
 abbrev numbers : ℕ

@@ -4,7 +4,7 @@
 ghost use mathlib.Core.Path.{_≡_};
 ghost use Rattle.index.specs.Indexing.{found};
 ghost use Rattle.reports.specs.Altitude.{chosen};
-ghost use Rattle.index_host.specs.Calls.{answerNumber, foundNumber, fileNumber, broughtBy, Enters};
+ghost use Rattle.index_host.specs.Calls.{answerNumber, foundNumber, fileNumber, entryAt, Enters};
 use index::Entry;
 use index::Found;
 use index::Indexed;
@@ -51,7 +51,7 @@ fn found_number(answer: Found) -> u32
 
 // What the outcome at a place of the line brings. An entry has no link number.
 fn brought(bytes: &[u8], place: usize, form: u32, link: u32, scan: u32) -> Entry
-    ensures { λ r. ⌜ r ≡ broughtBy (chosen form) link (now (bytes .entry)) place scan ⌝ }
+    ensures { λ r. ⌜ r ≡ entryAt (chosen form) link (now (bytes .entry)) place scan ⌝ }
 {
     let received = line_reader::bytes::read(bytes, place, Form::numbered(form), link);
     let o = received.outcome;

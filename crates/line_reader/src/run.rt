@@ -8,7 +8,7 @@ ghost use Rattle.reports.specs.Altitude.{formOf};
 ghost use Rattle.reports.specs.Runs.{answerOffset};
 ghost use Rattle.refusals.specs.declared.LineRefusal.the-variants.{NoSuchLink};
 ghost use Rattle.lines.specs.Line.{placed, notTaken};
-ghost use Rattle.lines.specs.Links.{receivedOn};
+ghost use Rattle.lines.specs.Links.{noLink, receivedOn};
 ghost use Rattle.line_reader.specs.Places.{stopsAt, answered};
 use lines::Outcome;
 use lines::Received;
@@ -52,18 +52,21 @@ pub fn stops(stop: Stop, w: u16) -> bool
     }
 }
 
-// A line or a place that is not taken: the caller's place for all three.
+// A link number, a line or a place that is not taken: the caller's place for all three.
 pub fn not_taken(why: LineRefusal, place: usize) -> Outcome
     ensures { λ r. ⌜ r ≡ notTaken why place ⌝ }
 {
     Outcome::new(What::Refused(why), place, place, place)
 }
 
-// A number that no link has: the caller's place for all three, and link 0.
+// The number of an outcome that came on no link. It is the first link's number too.
+const NO_LINK: u32 = 0;
+
+// A number that no link has.
 pub fn no_such_link(place: usize) -> Received
-    ensures { λ r. ⌜ r ≡ receivedOn 0 (notTaken NoSuchLink place) ⌝ }
+    ensures { λ r. ⌜ r ≡ receivedOn noLink (notTaken NoSuchLink place) ⌝ }
 {
-    Received::new(0, not_taken(LineRefusal::NoSuchLink, place))
+    Received::new(NO_LINK, not_taken(LineRefusal::NoSuchLink, place))
 }
 
 // The answer to a run of n words, at its place in the line.

@@ -1,5 +1,5 @@
--- The link of an outcome: the claims WithItsNumber, DifferInTheNumber, NumberInRange, NoSuchLinkExactly, NoSuchLinkGives and OnOneLink. Each is proved
--- once, of whatever is found at a place. Assumes nothing.
+-- The link of an outcome: the claims WithItsNumber, DifferInTheNumber, NumberInRange, NoSuchLinkExactly, NoSuchLinkGives,
+-- BytesAsTheirWords and OnOneLink. Each is proved once, of whatever is found at a place. Assumes nothing.
 use Prim.Native.Nat.{ℕ, zero, suc, _+_, _≤_, _<_}
 use mathlib.Core.Path.{_≡_, refl, sym, ap, _∙_}
 use mathlib.Core.Bool.{Bool, true, false, cond}
@@ -17,6 +17,7 @@ use Rattle.refusals.specs.Numbers.{lineNumber}
 use Rattle.words.proofs.Tests.{picked, passed, by-test}
 use Rattle.reports.specs.declared.RunAnswer.{RunAnswer}
 use Rattle.reports.specs.Altitude.{AltitudeForm}
+use Rattle.reports.specs.Records.{reportOf}
 use Rattle.reports.specs.Runs.{readRun}
 use Rattle.lines.specs.declared.What.{What}
 use Rattle.lines.specs.declared.What.the-variants as W
@@ -25,8 +26,9 @@ use Rattle.lines.specs.declared.Received.{Received}
 use Rattle.lines.specs.Line.{notTaken, isEnd, placed, gap, runIn, outcomeAt, lineRows, readBy, readAt, calls, outcomes}
 use Rattle.lines.specs.Bytes.{wordsIn, byteRows, readBytes}
 use Rattle.lines.specs.Rows.{runRows}
-use Rattle.lines.specs.Links.{lastLink, receivedOn, onLink, readByOn, callsOn, outcomesOn}
-use Rattle.lines.specs.Claims.{Answer, WithItsNumber, DifferInTheNumber, NumberInRange, NoSuchLinkExactly, NoSuchLinkGives, OnOneLink}
+use Rattle.lines.specs.Links.{lastLink, noLink, receivedOn, onLink, readByOn, callsOn, outcomesOn}
+use Rattle.lines.specs.Claims.{Answer, WithItsNumber, DifferInTheNumber, NumberInRange, NoSuchLinkExactly, NoSuchLinkGives, BytesAsTheirWords, OnOneLink}
+use Rattle.lines.proofs.ByteWords.{bytes-as-words}
 use Rattle.lines.proofs.Refused.{other, by-run}
 
 -- ---- whatever is found
@@ -35,7 +37,7 @@ module _ (link place : ℕ) (found : Outcome) where
   pub given : link ≤ lastLink → onLink link place found ≡ receivedOn link found
   given h = passed _ _ (le-ltb _ _ h)
 
-  pub refused : lastLink < link → onLink link place found ≡ receivedOn 0 (notTaken NoSuchLink place)
+  pub refused : lastLink < link → onLink link place found ≡ receivedOn noLink (notTaken NoSuchLink place)
   refused h = picked _ _ (lt-ltb _ _ h)
 
   in-range : onLink link place found .link ≤ lastLink
@@ -47,6 +49,7 @@ module _ (link place : ℕ) (found : Outcome) where
 
 pub with-its-number : WithItsNumber
 with-its-number = record {
+  any = λ answer link line place. given link place (readBy answer line place);
   words = λ form link line place. given link place (readAt form line place);
   bytes = λ form link bytes place. given link place (readBytes form bytes place);
 }
@@ -125,6 +128,11 @@ no-such-link-exactly = record {
   words = λ form link line place. exactly link place (readAt form line place) (words-not form line place);
   bytes = λ form link bytes place. exactly link place (readBytes form bytes place) (bytes-not form bytes place);
 }
+
+-- ---- bytes and words
+
+pub bytes-as-their-words : BytesAsTheirWords
+bytes-as-their-words form link bytes place few even = ap (onLink link place) (bytes-as-words form bytes place (reportOf form []) few even .0)
 
 -- ---- the calls with one number
 

@@ -21,7 +21,7 @@ use Rattle.lines.specs.declared.Wrote.{Wrote}
 use Rattle.lines.specs.declared.Wrote.the-variants as P
 use Rattle.lines.specs.Line.{isRefusal, placed, gap, runIn, outcomeAt, lineRows, readBy}
 use Rattle.lines.specs.Bytes.{wordsIn, byteRows, readBytes}
-use Rattle.lines.specs.Links.{lastLink, receivedOn, noSuchLink, onLink}
+use Rattle.lines.specs.Links.{lastLink, receivedOn, aboveLast, onLink}
 use Rattle.lines.specs.Writing.{writerRows, wroteAfter, writeAt}
 use Rattle.lines.specs.ByteWriting.{byteWriterRows, writeBytes}
 use Rattle.lines.specs.Rows.{runRows}
@@ -46,17 +46,17 @@ by-run form n f (w ∷ ws) = law.each-of RunAnswer Outcome (placed f (length (w 
 
 -- one row in front, and the link of every other one
 linked : (link place : ℕ) (rows : List (Row Outcome)) (o : Outcome)
-    → firstOf (noSuchLink link place ∷ each (receivedOn link) rows) (receivedOn link o) ≡ onLink link place (firstOf rows o)
-linked link place rows o = ap (cond (ltb lastLink link) (noSuchLink link place .answer)) (law.each-of Outcome Received (receivedOn link) rows o)
+    → firstOf (aboveLast link place ∷ each (receivedOn link) rows) (receivedOn link o) ≡ onLink link place (firstOf rows o)
+linked link place rows o = ap (cond (ltb lastLink link) (aboveLast link place .answer)) (law.each-of Outcome Received (receivedOn link) rows o)
 
 reads : (link place : ℕ) (rows : List (Row Outcome)) (form : AltitudeForm) (n f : ℕ) (run : List ℕ) (r : Received) → isRefusal (r .outcome .what) ≡ true
     → (onLink link place (firstOf rows (outcomeAt (readRun form) n f run)) ≡ r)
-    ↔ FirstIs (noSuchLink link place ∷ each (receivedOn link) (rows ++ runRows form f run)) r
+    ↔ FirstIs (aboveLast link place ∷ each (receivedOn link) (rows ++ runRows form f run)) r
 reads link place rows form n f run r h =
     let all = rows ++ runRows form f run in
     let e = linked link place all (other form n f run)
     ∙ ap (onLink link place) (law.joined Outcome rows (runRows form f run) (other form n f run) ∙ ap (firstOf rows) (by-run form n f run)) in
-    let k = law.refused-exactly Received accepts (noSuchLink link place ∷ each (receivedOn link) all) (receivedOn link (other form n f run)) r (accepted form n f run) (ap not h) in
+    let k = law.refused-exactly Received accepts (aboveLast link place ∷ each (receivedOn link) all) (receivedOn link (other form n f run)) r (accepted form n f run) (ap not h) in
     (λ x. k .0 (e ∙ x), λ x. sym e ∙ k .1 x)
 
 pub reader-refuses : ReaderRefuses

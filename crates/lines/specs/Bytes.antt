@@ -33,6 +33,6 @@ byteRows bytes place =
     ∷ beyond (length (wordsIn bytes)) place
     ∷ []
 
--- the reader: these rows, and where none holds, what the run gets on the line of the words that the bytes hold
+-- what is found: these rows, and where none holds, what the run gets on the line of the words that the bytes hold
 unfoldable pub readBytes : AltitudeForm → List ℕ → ℕ → Outcome
 readBytes form bytes place = firstOf (byteRows bytes place) (runAt (readRun form) (wordsIn bytes) place)

@@ -27,7 +27,7 @@ use Rattle.lines.specs.declared.Received.{Received}
 use Rattle.lines.specs.declared.Wrote.the-variants as P
 use Rattle.lines.specs.Line.{most, outcomeOf, endOf, notTaken, placed, isReport, isRefusal, isEnd, readBy, readAt, calls, outcomes}
 use Rattle.lines.specs.Bytes.{mostBytes, wordsIn, readBytes}
-use Rattle.lines.specs.Links.{lastLink, receivedOn, readOn, readBytesOn, callsOn, outcomesOn}
+use Rattle.lines.specs.Links.{lastLink, receivedOn, readByOn, readOn, readBytesOn, callsOn, outcomesOn}
 use Rattle.lines.specs.ByteWriting.{byteWriterRows, writeBytes, bytesLeft}
 use Rattle.lines.specs.Stretches.{Run, runs, runsAt, gathered, idleWords, reportedWords, refusedWords}
 use Rattle.lines.specs.Spaced.{Spaced, lineOf, reportsOf, AllFit, Apart, back}
@@ -62,7 +62,7 @@ ByteWriterRefuses =
     → (writeBytes form bytes place r ≡ P.Refused q p) ↔ FirstIs (byteWriterRows form bytes place r) (P.Refused q p)
 
 -- and these are the places: of a run the place of its first word, the place after its last, and the word that is named, at the refusal's
--- offset or, of a report, its first; of a line or a place that is not taken the caller's place three times
+-- offset or, of a report, its first; of a link number, a line or a place that is not taken the caller's place three times
 pub record PlacesGiven : Type 0 where
   pub refused-run : (first n o : ℕ) (q : LineRefusal) → placed first n (A.Refused q o) ≡ outcomeOf (W.Refused q) first (first + n) (first + o)
   pub report : (first n : ℕ) (r : Report) → placed first n (A.Accepted r) ≡ outcomeOf (W.Accepted r) first (first + n) (first + 0)
@@ -72,6 +72,8 @@ pub record PlacesGiven : Type 0 where
 
 -- with a number from 0 to 15 a reader answers what is found at the place, and that number
 pub record WithItsNumber : Type 0 where
+  pub any : (answer : Answer) (link : ℕ) (line : List ℕ) (place : ℕ) → link ≤ lastLink
+      → readByOn answer link line place ≡ receivedOn link (readBy answer line place)
   pub words : (form : AltitudeForm) (link : ℕ) (line : List ℕ) (place : ℕ) → link ≤ lastLink
       → readOn form link line place ≡ receivedOn link (readAt form line place)
   pub bytes : (form : AltitudeForm) (link : ℕ) (bytes : List ℕ) (place : ℕ) → link ≤ lastLink
@@ -102,6 +104,12 @@ pub record NoSuchLinkGives : Type 0 where
       → readOn form link line place ≡ receivedOn 0 (outcomeOf (W.Refused NoSuchLink) place place place)
   pub bytes : (form : AltitudeForm) (link : ℕ) (bytes : List ℕ) (place : ℕ) → lastLink < link
       → readBytesOn form link bytes place ≡ receivedOn 0 (outcomeOf (W.Refused NoSuchLink) place place place)
+
+-- bytes that are few enough and even in number are read as the words that they hold, with every number
+abbrev pub BytesAsTheirWords : Type 0
+BytesAsTheirWords =
+    (form : AltitudeForm) (link : ℕ) (bytes : List ℕ) (place : ℕ) → length bytes ≤ mostBytes → length bytes % 2 ≡ 0
+    → readBytesOn form link bytes place ≡ readOn form link (wordsIn bytes) place
 
 -- a line that is read with one number from 0 to 15 has the outcomes of which the laws below speak, each with that number
 pub record OnOneLink : Type 0 where

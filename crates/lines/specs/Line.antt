@@ -1,5 +1,5 @@
--- The line (document 01, "The line"): what the reader answers at a place, and the calls one after the other. Whatever looks at a run's
--- words is a parameter, an answer to a run; document 01's is `readRun` of an altitude form. Definitions only.
+-- The line (document 01, "The line"): what is found at a place, and the calls one after the other. The reader answers it with the number of a link
+-- (Links.antt). Whatever looks at a run's words is a parameter, an answer to a run; document 01's is `readRun` of an altitude form. Definitions only.
 use Prim.Native.Nat.{ℕ, zero, suc, _+_}
 use mathlib.Core.Bool.{Bool, true, false, cond}
 use mathlib.Core.List.{List, [], _∷_}
@@ -31,7 +31,7 @@ outcomeOf what first after named = record { what = what; first = first; after = 
 abbrev pub endOf : ℕ → Outcome
 endOf n = outcomeOf W.End n n n
 
--- numbers 1, 2 and 14 give the caller's place for all three places
+-- numbers 13, 2, 14 and 1 give the caller's place for all three places
 abbrev pub notTaken : LineRefusal → ℕ → Outcome
 notTaken q place = outcomeOf (W.Refused q) place place place
 
@@ -58,7 +58,7 @@ isEnd (W.Accepted r) = false
 isEnd (W.Refused q) = false
 isEnd W.End = true
 
--- ---- the reader
+-- ---- what is found at a place
 
 -- how many idle words stand in front
 unfoldable pub gap : List ℕ → ℕ
@@ -91,11 +91,11 @@ beyond n place = row (ltb n place) (notTaken PlaceBeyondLine place)
 abbrev pub lineRows : List ℕ → ℕ → List (Row Outcome)
 lineRows line place = row (ltb most (length line)) (notTaken LineTooLong place) ∷ beyond (length line) place ∷ []
 
--- the reader: these rows, and where none holds, what the run gets
+-- what is found: these rows, and where none holds, what the run gets
 unfoldable pub readBy : (List ℕ → RunAnswer) → List ℕ → ℕ → Outcome
 readBy answer line place = firstOf (lineRows line place) (runAt answer line place)
 
--- the reader of document 01's reports
+-- what is found of document 01's reports
 abbrev pub readAt : AltitudeForm → List ℕ → ℕ → Outcome
 readAt form line place = readBy (readRun form) line place
 

@@ -1,6 +1,6 @@
 -- Which link an outcome came on (document 02, Ticket 7). A site has several parallel surveillance links (document 004, section 3). Whoever reads a line
 -- says which one it came on, by a number from 0 to 15. The number is no part of the words. Line.antt and Bytes.antt say what is found at a place; here it
--- gets its number, and the one refusal of a number. Definitions only.
+-- gets its number, and a number above 15 gets its refusal. Definitions only.
 use Prim.Native.Nat.{ℕ, zero, suc}
 use mathlib.Core.Bool.{cond}
 use mathlib.Core.List.{List, [], _∷_}
@@ -20,19 +20,23 @@ use Rattle.lines.specs.Bytes.{readBytes}
 abbrev pub lastLink : ℕ
 lastLink = 15
 
+-- the number of an outcome that came on no link: 0, which is the first link's number too
+abbrev pub noLink : ℕ
+noLink = 0
+
 -- an outcome, with the number of its link
 abbrev pub receivedOn : ℕ → Outcome → Received
 receivedOn link o = record { link = link; outcome = o }
 
 -- 13: link number above 15; the caller's place for all three places, and link 0
-abbrev pub noSuchLink : ℕ → ℕ → Row Received
-noSuchLink link place = row (ltb lastLink link) (receivedOn 0 (notTaken NoSuchLink place))
+abbrev pub aboveLast : ℕ → ℕ → Row Received
+aboveLast link place = row (ltb lastLink link) (receivedOn noLink (notTaken NoSuchLink place))
 
 -- ---- the readers: 13 first; else what is found at the place, with the number that was given
 
 -- whatever is found
 abbrev pub onLink : ℕ → ℕ → Outcome → Received
-onLink link place found = firstOf (noSuchLink link place ∷ []) (receivedOn link found)
+onLink link place found = firstOf (aboveLast link place ∷ []) (receivedOn link found)
 
 -- of words, for any answer to a run
 abbrev pub readByOn : (List ℕ → RunAnswer) → ℕ → List ℕ → ℕ → Received

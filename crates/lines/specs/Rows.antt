@@ -10,7 +10,7 @@ use Rattle.lines.specs.declared.Outcome.{Outcome}
 use Rattle.lines.specs.Line.{placed, gap, runIn, lineRows}
 use Rattle.lines.specs.declared.Received.{Received}
 use Rattle.lines.specs.Bytes.{wordsIn, byteRows}
-use Rattle.lines.specs.Links.{receivedOn, noSuchLink}
+use Rattle.lines.specs.Links.{receivedOn, aboveLast}
 
 -- numbers 3 to 9 of a run whose first word is at a place; none where there is no run
 abbrev pub runRows : AltitudeForm → ℕ → List ℕ → List (Row Outcome)
@@ -31,7 +31,7 @@ byteRowsAt form bytes place = byteRows bytes place ++ runRowsAt form (wordsIn by
 
 -- with a link number: 13, and then these, each with that number
 abbrev withLink : ℕ → ℕ → List (Row Outcome) → List (Row Received)
-withLink link place rows = noSuchLink link place ∷ each (receivedOn link) rows
+withLink link place rows = aboveLast link place ∷ each (receivedOn link) rows
 
 -- the reader of words: 13, 2, 1, 3 to 9
 abbrev pub rowsOn : AltitudeForm → ℕ → List ℕ → ℕ → List (Row Received)

@@ -21,7 +21,7 @@ pub enum What {
 }
 
 // What was found, the place of the run's first word, the place after its last, and the place that a refusal names (a report: its first
-// word). The end has the line's length for all three; a line or a place that is not taken has the caller's place.
+// word). The end has the line's length for all three; a link number, a line or a place that is not taken has the caller's place.
 pub struct Outcome {
     pub what: What,
     pub first: usize,
@@ -46,7 +46,7 @@ impl Outcome {
 // The last link number; the first is 0.
 pub const LAST_LINK: u32 = 15;
 
-// An outcome, and the number of the link that it came on, as the caller gave it. This is what a reader answers.
+// An outcome, and the number of the link that it came on, as the caller gave it; 0 with refusal 13. This is what a reader answers.
 pub struct Received {
     pub link: u32,
     pub outcome: Outcome,

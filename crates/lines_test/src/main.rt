@@ -19,8 +19,15 @@ mod walk; // walk.rt: call by call to the end
 // One word more than a line may have.
 const ROOM: usize = 32769;
 
-// A number of two bytes that stands for the largest place, and for the largest link number.
+// Numbers of two bytes that stand for others: for the largest place and the largest link number; and for a link number whose last sixteen bits are
+// those of link 15.
 const FAR: u16 = 65535;
+
+const CUT: u16 = 65534;
+
+const LARGEST_LINK: u32 = 4294967295;
+
+const CUT_LINK: u32 = 65551;
 
 fn widened(byte: u8) -> u16
     ensures { λ r. ⌜ r < 256 ⌝ }
@@ -44,7 +51,10 @@ fn place_of(n: u16) -> usize {
 
 fn link_of(n: u16) -> u32 {
     if n == FAR {
-        return 4294967295;
+        return LARGEST_LINK;
+    }
+    if n == CUT {
+        return CUT_LINK;
     }
     n as u32
 }

@@ -97,14 +97,32 @@ fn tallied(t: Tally, o: Outcome, differ: u64) -> Tally {
     }
 }
 
+// A refusal that gives the place back.
+fn gives_back(o: Outcome, place: usize) -> bool {
+    let what = o.what;
+    match what {
+        What::End => false,
+        What::Accepted(_) => false,
+        What::Refused(_) => o.after == place,
+    }
+}
+
 // The end, or a refusal that gives the place back.
 fn is_last(o: Outcome, place: usize) -> bool {
     let what = o.what;
     match what {
         What::End => true,
         What::Accepted(_) => false,
-        What::Refused(_) => o.after == place,
+        What::Refused(_) => gives_back(o, place),
     }
+}
+
+// Of a long line only a refusal that gives the place back is printed.
+fn is_printed(shown: bool, o: Outcome, place: usize) -> bool {
+    if shown {
+        return true;
+    }
+    gives_back(o, place)
 }
 
 fn print_tally(t: Tally) {
@@ -144,7 +162,7 @@ pub fn to_the_end(words: &[u16], bytes: &[u8], place: usize, form: Form, link: u
             o,
             differing(r, line_reader::bytes::read(bytes, at, form, link)),
         );
-        if shown {
+        if is_printed(shown, o, at) {
             crate::print::outcome(r);
         }
         if is_last(o, at) {

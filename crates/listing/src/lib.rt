@@ -20,7 +20,7 @@ mod said; // said.rt: the lines of a listing
 // The lister reads altitudes in document 01's form: a recording does not tell its own.
 const FORM: Form = Form::SignMagnitude;
 
-// A listing has no link number. The lister reads with link 0; with any other the same is found.
+// A listing has no link number. The lister reads with link 0; with any other from 0 to 15 the same is found.
 const LINK: u32 = 0;
 
 // No line of a listing is longer, so a buffer of that many bytes holds each.

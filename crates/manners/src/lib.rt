@@ -12,7 +12,7 @@ pub mod bytes; // bytes.rt: a line lent as bytes, the list as bytes
 mod rules; // rules.rt: the rule that a record breaks
 pub mod wide; // wide.rt: a line lent as 16-bit numbers, the list as such numbers
 
-// A breach has no link number. The line is read with link 0; with any other the same is found.
+// A breach has no link number. The line is read with link 0; with any other from 0 to 15 the same is found.
 const LINK: u32 = 0;
 
 // The most breaches that a line of so many words can have.

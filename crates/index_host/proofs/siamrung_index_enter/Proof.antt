@@ -49,7 +49,7 @@ use Rattle.index.proofs.Entry as T
 use Rattle.index.proofs.Entry.Laws as T′
 use Rattle.index.proofs.Indexed as E
 use Rattle.index.proofs.Indexed.Laws as E′
-use Rattle.index_host.specs.Calls.{answerNumber, broughtBy, Enters}
+use Rattle.index_host.specs.Calls.{answerNumber, entryAt, Enters}
 use Rattle.index_host.proofs.brought as brought′
 use Rattle.index_host.proofs.brought.Symbol as brought-def
 use Rattle.index_host.proofs.brought.Symbol.{name as #index_host·brought}
@@ -78,7 +78,7 @@ Arg = RefT (List Entry) × (RefT (List ℕ) × (ℕ × (ℕ × (ℕ × (ℕ × U
 
 -- what the callees give, one after the other, is what the contract says
 told : (ys : List Entry) (bs : List ℕ) (place form link scan : ℕ) (e : Entry) (r : Indexed) (zs : List Entry) (k : ℕ)
-    → e ≡ broughtBy (chosen form) link bs place scan → Indexes ys e r zs → k ≡ answerNumber r → Enters (chosen form) link ys bs place scan k zs
+    → e ≡ entryAt (chosen form) link bs place scan → Indexes ys e r zs → k ≡ answerNumber r → Enters (chosen form) link ys bs place scan k zs
 told ys bs place form link scan e r zs k is-e is-r is-k =
     record {
       answers = is-k ∙ ap answerNumber (is-r .answers) ∙ ap (λ (d : Entry). answerNumber (indexed ys (d .number))) is-e;
@@ -119,7 +119,7 @@ module _ {M : Type 1} (𝓤 : URA M) (H : Heap 𝓤) (A : Atoms 𝓤) (W : Given
   Post = walkOf 𝓤 H A f.ended stayed (f.clauses 𝓤 H A mem run) .post ((κs, (q, (q′, tt)), tt, x₀, at), tt)
 
   abbrev new : Entry
-  new = broughtBy (chosen form) link bs place scan
+  new = entryAt (chosen form) link bs place scan
 
   module _ (gn : Room R (length ys)) (gm : Room u8 (length bs)) (gp : place < 2 ^ 64) (gf : form < 2 ^ 32) (gl : link < 2 ^ 32) (gs : scan < 2 ^ 32) where
     -- `brought`, lent the line
