@@ -1,6 +1,7 @@
 /*
  * agree.c: both libraries answer the same, on every input that is measured and on many more: broken lines, every place, both forms of the altitude,
- * cut and turned fields, damaged frames, broken tables, lists of every room. A difference is printed and ends the program.
+ * link numbers up to the last and beyond, cut and turned fields, damaged frames, broken tables, lists of every room. A difference is printed and ends
+ * the program.
  */
 #include <stdio.h>
 #include <stdlib.h>
@@ -50,6 +51,43 @@ static void same_in(uint32_t form, const char *what, long long x, long long y, c
 
 #define SAME_IN(form, call, ...) same_in(form, #call, (long long)ours.call(__VA_ARGS__), (long long)plain.call(__VA_ARGS__), b, length, at)
 
+/* ---- reading a line: a number that is a link's, and one that is none's */
+
+#define LINKS (SIAMRUNG_LAST_LINK + 1)
+
+static uint32_t link_number(void)
+{
+    return (uint32_t)rnd() % LINKS;
+}
+
+/* Just above the last link's, at the ends of bytes and words, and some whose low byte or low half is a link's. */
+static const uint32_t greater[] = {
+    16, 17, 31, 32, 127, 128, 255, 256, 257, 271, 65535, 65536, 65551, 0x01000000u, 0x7FFFFFFFu, 0x80000000u, 0x8000000Fu, 0xFFFFFFF0u, 0xFFFFFFFFu,
+};
+
+#define GREATER (sizeof greater / sizeof greater[0])
+
+/* One of these, or a random one of any size. */
+static uint32_t greater_number(void)
+{
+    uint32_t any = (uint32_t)rnd();
+
+    if (rnd() % 2)
+        return greater[any % GREATER];
+    any >>= rnd() % 28;
+    return any < LINKS ? any + LINKS : any;
+}
+
+/* A difference in reading is printed behind the link number too. */
+static void same_on(uint32_t form, uint32_t link, const char *what, long long x, long long y, const uint8_t *b, size_t length, size_t at)
+{
+    if (x != y)
+        printf("bench: the link number is %lu\n", (unsigned long)link);
+    same_in(form, what, x, y, b, length, at);
+}
+
+#define SAME_ON(call, ...) same_on(form, link, #call, (long long)ours.call(__VA_ARGS__), (long long)plain.call(__VA_ARGS__), b, length, at)
+
 static long long bits_of(double x)
 {
     long long bits;
@@ -58,26 +96,50 @@ static long long bits_of(double x)
     return bits;
 }
 
-#define SAME_VALUE(call) same_in(form, #call, bits_of(ours.call(b, length, at, form)), bits_of(plain.call(b, length, at, form)), b, length, at)
+#define SAME_VALUE(call)                                                                                                                    \
+    same_on(form, link, #call, bits_of(ours.call(b, length, at, form, link)), bits_of(plain.call(b, length, at, form, link)), b, length, at)
 
-static void at_place(const uint8_t *b, size_t length, size_t at, uint32_t form)
+static void at_link(const uint8_t *b, size_t length, size_t at, uint32_t form, uint32_t link)
 {
     uint32_t item;
 
-    SAME_IN(form, kind, b, length, at, form);
-    SAME_IN(form, refusal, b, length, at, form);
-    SAME_IN(form, first, b, length, at, form);
-    SAME_IN(form, after, b, length, at, form);
-    SAME_IN(form, named, b, length, at, form);
-    SAME_IN(form, has_values, b, length, at, form);
+    SAME_ON(kind, b, length, at, form, link);
+    SAME_ON(refusal, b, length, at, form, link);
+    SAME_ON(first, b, length, at, form, link);
+    SAME_ON(after, b, length, at, form, link);
+    SAME_ON(named, b, length, at, form, link);
+    SAME_ON(link, b, length, at, form, link);
+    SAME_ON(has_values, b, length, at, form, link);
     SAME_VALUE(nmi);
     SAME_VALUE(degrees);
     SAME_VALUE(seconds);
     for (item = 0; item < 40; item++) {
-        SAME_IN(form, has, b, length, at, form, item);
-        SAME_IN(form, item, b, length, at, form, item);
+        SAME_ON(has, b, length, at, form, link, item);
+        SAME_ON(item, b, length, at, form, link, item);
     }
-    SAME_IN(form, has, b, length, at, form, 0xFFFFFFFFu);
+    SAME_ON(has, b, length, at, form, link, 0xFFFFFFFFu);
+}
+
+/* By some link, and now and then by a greater number, which hides the line. */
+static void at_place(const uint8_t *b, size_t length, size_t at, uint32_t form)
+{
+    at_link(b, length, at, form, link_number());
+    if (rnd() % 8 == 0)
+        at_link(b, length, at, form, greater_number());
+}
+
+/* In each form by each link, and by the chosen greater numbers. */
+static void at_every_link(const uint8_t *b, size_t length, size_t at)
+{
+    uint32_t link;
+    size_t i, k;
+
+    for (k = 0; k < FORMS; k++) {
+        for (link = 0; link < LINKS; link++)
+            at_link(b, length, at, forms[k], link);
+        for (i = 0; i < GREATER; i++)
+            at_link(b, length, at, forms[k], greater[i]);
+    }
 }
 
 /* Every run of a line, and places inside some. */
@@ -85,10 +147,10 @@ static void whole_line(const uint8_t *b, size_t length, uint32_t form)
 {
     size_t at = 0, next;
 
-    while (plain.kind(b, length, at, form) != SIAMRUNG_KIND_END) {
+    while (plain.kind(b, length, at, form, 0) != SIAMRUNG_KIND_END) {
         at_place(b, length, at, form);
         at_place(b, length, at + rnd() % 8, form);
-        next = plain.after(b, length, at, form);
+        next = plain.after(b, length, at, form, 0);
         if (next == at)
             return;
         at = next;
@@ -109,6 +171,7 @@ static void every_pattern(uint32_t kind, int mode_c)
 {
     uint8_t b[16], items[MOST_ITEMS];
     size_t length = sizeof b, at = 0;
+    uint32_t form, link;
     unsigned pattern, k;
 
     plain.write(b, length, at, SIAMRUNG_FORM_SIGN_MAGNITUDE, kind, items, altitude_items(kind, 0, items));
@@ -118,10 +181,12 @@ static void every_pattern(uint32_t kind, int mode_c)
     for (pattern = 0; pattern < 4096; pattern++) {
         put_word(b, 6, pattern << 1 | (~(unsigned)__builtin_popcount(pattern) & 1));
         for (k = 0; k < FORMS; k++) {
-            SAME_IN(forms[k], kind, b, length, at, forms[k]);
-            SAME_IN(forms[k], refusal, b, length, at, forms[k]);
-            SAME_IN(forms[k], item, b, length, at, forms[k], SIAMRUNG_ITEM_ALTITUDE);
-            SAME_IN(forms[k], item, b, length, at, forms[k], SIAMRUNG_ITEM_CARRIED);
+            form = forms[k];
+            link = link_number();
+            SAME_ON(kind, b, length, at, form, link);
+            SAME_ON(refusal, b, length, at, form, link);
+            SAME_ON(item, b, length, at, form, link, SIAMRUNG_ITEM_ALTITUDE);
+            SAME_ON(item, b, length, at, form, link, SIAMRUNG_ITEM_CARRIED);
         }
     }
 }
@@ -150,12 +215,12 @@ unsigned long agree_lines(unsigned rounds)
             read_both(b, 2 * n - 1);
         }
     full_line(b, 32768);
-    for (k = 0; k < FORMS; k++) {
-        at_place(b, MOST_BYTES, 32760, forms[k]);
-        at_place(b, MOST_BYTES + 1, 0, forms[k]);
-        at_place(b, MOST_BYTES + 2, 7, forms[k]);
-        at_place(b, 0, 0, forms[k]);
-    }
+    at_every_link(b, MOST_BYTES, 32760);
+    at_every_link(b, MOST_BYTES, 32769);
+    at_every_link(b, MOST_BYTES - 1, 3);
+    at_every_link(b, MOST_BYTES + 1, 0);
+    at_every_link(b, MOST_BYTES + 2, 7);
+    at_every_link(b, 0, 0);
     for (k = 0; k < 2; k++) {
         every_pattern(SIAMRUNG_KIND_DABS, (int)k);
         every_pattern(SIAMRUNG_KIND_ATCRBS, (int)k);
@@ -464,13 +529,21 @@ struct twice {
     size_t entries;
 };
 
-static void same_entered(struct twice *t, const uint8_t *b, size_t length, size_t at, uint32_t form)
+static void entered_on(struct twice *t, const uint8_t *b, size_t length, size_t at, uint32_t form, uint32_t link)
 {
     uint32_t scan = (uint32_t)rnd();
 
-    same_in(form, "index_enter", ours.index_enter(t->ours, t->entries, b, length, at, form, scan),
-            plain.index_enter(t->plain, t->entries, b, length, at, form, scan), b, length, at);
-    same_in(form, "table", memcmp(t->ours, t->plain, sizeof t->ours), 0, b, length, at);
+    same_on(form, link, "index_enter", ours.index_enter(t->ours, t->entries, b, length, at, form, link, scan),
+            plain.index_enter(t->plain, t->entries, b, length, at, form, link, scan), b, length, at);
+    same_on(form, link, "table", memcmp(t->ours, t->plain, sizeof t->ours), 0, b, length, at);
+}
+
+/* By some link, and now and then first by a greater number, which enters nothing. */
+static void same_entered(struct twice *t, const uint8_t *b, size_t length, size_t at, uint32_t form)
+{
+    if (rnd() % 8 == 0)
+        entered_on(t, b, length, at, form, greater_number());
+    entered_on(t, b, length, at, form, link_number());
 }
 
 static void same_found(const struct twice *t, uint32_t number)
@@ -488,7 +561,7 @@ static void whole_index(struct twice *t, const uint8_t *b, size_t length, uint32
         same_entered(t, b, length, at, form);
         if (rnd() % 8 == 0)
             same_entered(t, b, length, at + rnd() % 8, form);
-        next = plain.after(b, length, at, form);
+        next = plain.after(b, length, at, form, 0);
         if (next == at)
             break;
     }
@@ -541,6 +614,12 @@ static void measured_tables(struct twice *t, size_t entries)
     whole_index(t, b, sizeof b, SIAMRUNG_FORM_SIGN_MAGNITUDE);
 }
 
+static void without_table(const uint8_t *b, uint32_t form, uint32_t link)
+{
+    same_on(form, link, "index_enter without a table", ours.index_enter(NULL, 0, b, 64, 0, form, link, 1),
+            plain.index_enter(NULL, 0, b, 64, 0, form, link, 1), b, 64, 0);
+}
+
 unsigned long agree_index(unsigned rounds)
 {
     static struct twice t;
@@ -563,8 +642,8 @@ unsigned long agree_index(unsigned rounds)
     for (i = 0; i < FORMS; i++) {
         whole_index(&t, b, MOST_BYTES + 1, forms[i]);
         whole_index(&t, b, MOST_BYTES + 2, forms[i]);
-        same_in(forms[i], "index_enter without a table", ours.index_enter(NULL, 0, b, 64, 0, forms[i], 1),
-                plain.index_enter(NULL, 0, b, 64, 0, forms[i], 1), b, 64, 0);
+        without_table(b, forms[i], link_number());
+        without_table(b, forms[i], greater_number());
     }
     same("index_find without a table", ours.index_find(NULL, 0, 1), plain.index_find(NULL, 0, 1), NULL, 0, 1);
     return compared - before;

@@ -18,7 +18,7 @@
 #include "plain_frame.h"
 
 #define SIDE(p, f, m)                                                                                                                       \
-    {p##kind, p##refusal, p##has_values, p##first, p##after, p##named, p##nmi, p##degrees, p##seconds, p##has, p##item, p##write,           \
+    {p##kind, p##refusal, p##link, p##has_values, p##first, p##after, p##named, p##nmi, p##degrees, p##seconds, p##has, p##item, p##write,  \
      p##write_refusal, p##field_refusal, p##field_type, p##field_inner_type, p##field_entries, p##field_text_place, p##field_text_length,   \
      p##field_has, p##field_item, p##field_entry, p##field_write, p##field_write_refusal, f##kind, f##refusal, f##from_sensor, f##control,  \
      f##place, f##field_count, f##field, f##write, f##write_refusal, p##index_enter, p##index_find, m##manners}
@@ -31,7 +31,7 @@ const struct calls ours = SIDE(siamrung_, siamrung_frame_, siamrung_), plain = S
 struct input {
     uint8_t *bytes;
     size_t length, bits;
-    uint32_t form, way, type;
+    uint32_t form, link, way, type;
     uint8_t items[MOST_ITEMS];
     size_t items_length;
     uint8_t list[240];
@@ -50,8 +50,8 @@ static uint64_t walk(const struct calls *c, struct input *in)
     uint32_t kind;
 
     do {
-        kind = c->kind(in->bytes, in->length, at, in->form);
-        at = c->after(in->bytes, in->length, at, in->form);
+        kind = c->kind(in->bytes, in->length, at, in->form, in->link);
+        at = c->after(in->bytes, in->length, at, in->form, in->link);
         sum = sum * 31 + kind + at;
     } while (kind != SIAMRUNG_KIND_END);
     return sum;
@@ -64,17 +64,17 @@ static uint64_t record_all(const struct calls *c, struct input *in)
     const uint8_t *b = in->bytes;
     size_t length = in->length, at = 0;
     uint64_t sum = 0, items;
-    uint32_t form = in->form, kind;
+    uint32_t form = in->form, link = in->link, kind;
 
     do {
-        kind = c->kind(b, length, at, form);
+        kind = c->kind(b, length, at, form, link);
         for (items = plain_items_of(kind); items; items &= items - 1)
-            sum += (uint64_t)c->item(b, length, at, form, (uint32_t)__builtin_ctzll(items));
+            sum += (uint64_t)c->item(b, length, at, form, link, (uint32_t)__builtin_ctzll(items));
         if (kind == SIAMRUNG_KIND_REFUSED)
-            sum += c->refusal(b, length, at, form) + c->named(b, length, at, form);
+            sum += c->refusal(b, length, at, form, link) + c->named(b, length, at, form, link);
         else if (kind != SIAMRUNG_KIND_END)
-            sum += (uint64_t)(c->nmi(b, length, at, form) + c->degrees(b, length, at, form) + c->seconds(b, length, at, form));
-        at = c->after(b, length, at, form);
+            sum += (uint64_t)(c->nmi(b, length, at, form, link) + c->degrees(b, length, at, form, link) + c->seconds(b, length, at, form, link));
+        at = c->after(b, length, at, form, link);
         sum = sum * 31 + kind + at;
     } while (kind != SIAMRUNG_KIND_END);
     return sum;
@@ -172,8 +172,8 @@ static uint64_t index_on(const struct calls *c, struct input *in)
     uint64_t sum = 0;
 
     do {
-        sum = sum * 31 + c->index_enter(in->table, in->entries, in->bytes, in->length, at, in->form, SCAN);
-        at = c->after(in->bytes, in->length, at, in->form);
+        sum = sum * 31 + c->index_enter(in->table, in->entries, in->bytes, in->length, at, in->form, in->link, SCAN);
+        at = c->after(in->bytes, in->length, at, in->form, in->link);
     } while (at < in->length / 2);
     return sum + in->table[in->entries / 2].place;
 }
@@ -235,12 +235,15 @@ static struct row *new_row(job *run, struct input *large, double units)
     return r;
 }
 
+/* Each line comes on the next of the links. */
 static struct input *line_of(fill_line *make, size_t n)
 {
+    static uint32_t lines;
     struct input *in = calloc(1, sizeof *in);
 
     in->bytes = malloc(2 * n);
     in->length = 2 * n;
+    in->link = ++lines % (SIAMRUNG_LAST_LINK + 1);
     make(in->bytes, n);
     return in;
 }

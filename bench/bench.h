@@ -6,21 +6,21 @@
 
 #include "plain.h"
 
-/* what reads or writes a line has the altitude's form behind the place */
-typedef uint32_t run_number(const uint8_t *, size_t, size_t, uint32_t);
-typedef size_t run_place(const uint8_t *, size_t, size_t, uint32_t);
-typedef double run_value(const uint8_t *, size_t, size_t, uint32_t);
+/* what reads or writes a line has the altitude's form behind the place; what reads has the link number behind the form */
+typedef uint32_t run_number(const uint8_t *, size_t, size_t, uint32_t, uint32_t);
+typedef size_t run_place(const uint8_t *, size_t, size_t, uint32_t, uint32_t);
+typedef double run_value(const uint8_t *, size_t, size_t, uint32_t, uint32_t);
 typedef uint32_t field_number(const uint8_t *, size_t, size_t, uint32_t);
 typedef size_t field_size(const uint8_t *, size_t, size_t, uint32_t);
 typedef uint32_t frame_number(const uint8_t *, size_t, size_t, size_t);
 typedef size_t frame_size(const uint8_t *, size_t, size_t, size_t);
 
 struct calls {
-    run_number *kind, *refusal, *has_values;
+    run_number *kind, *refusal, *link, *has_values;
     run_place *first, *after, *named;
     run_value *nmi, *degrees, *seconds;
-    uint32_t (*has)(const uint8_t *, size_t, size_t, uint32_t, uint32_t);
-    int64_t (*item)(const uint8_t *, size_t, size_t, uint32_t, uint32_t);
+    uint32_t (*has)(const uint8_t *, size_t, size_t, uint32_t, uint32_t, uint32_t);
+    int64_t (*item)(const uint8_t *, size_t, size_t, uint32_t, uint32_t, uint32_t);
     size_t (*write)(uint8_t *, size_t, size_t, uint32_t, uint32_t, const uint8_t *, size_t);
     uint32_t (*write_refusal)(const uint8_t *, size_t, size_t, uint32_t, uint32_t, const uint8_t *, size_t);
     field_number *field_refusal, *field_type, *field_inner_type;
@@ -36,7 +36,7 @@ struct calls {
     size_t (*frame_field)(const uint8_t *, size_t, size_t, size_t, uint8_t *, size_t);
     size_t (*frame_write)(uint8_t *, size_t, size_t, size_t, uint32_t, uint8_t, const uint8_t *, size_t, size_t);
     uint32_t (*frame_write_refusal)(const uint8_t *, size_t, size_t, size_t, uint32_t, uint8_t, const uint8_t *, size_t, size_t);
-    uint32_t (*index_enter)(siamrung_entry *, size_t, const uint8_t *, size_t, size_t, uint32_t, uint32_t);
+    uint32_t (*index_enter)(siamrung_entry *, size_t, const uint8_t *, size_t, size_t, uint32_t, uint32_t, uint32_t);
     uint32_t (*index_find)(const siamrung_entry *, size_t, uint32_t);
     uint32_t (*manners)(const uint8_t *, size_t, uint32_t, uint8_t *, size_t);
 };

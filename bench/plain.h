@@ -14,11 +14,12 @@
 struct plain_outcome {
     uint32_t kind;
     uint32_t refusal;
+    uint32_t link;
     size_t first, after, named;
     int32_t item[PLAIN_ITEMS];
 };
 
-void plain_read(const uint8_t *bytes, size_t length, size_t place, uint32_t form, struct plain_outcome *o);
+void plain_read(const uint8_t *bytes, size_t length, size_t place, uint32_t form, uint32_t link, struct plain_outcome *o);
 
 /* which items a kind of report has: bit k is item k. A DABS or ATCRBS with a height has ALTITUDE or CARRIED too. */
 uint64_t plain_items_of(uint32_t kind);
@@ -28,17 +29,18 @@ unsigned plain_width(uint32_t kind, unsigned item);
 
 /* ---- the calls */
 
-uint32_t plain_kind(const uint8_t *bytes, size_t length, size_t place, uint32_t form);
-uint32_t plain_refusal(const uint8_t *bytes, size_t length, size_t place, uint32_t form);
-size_t plain_first(const uint8_t *bytes, size_t length, size_t place, uint32_t form);
-size_t plain_after(const uint8_t *bytes, size_t length, size_t place, uint32_t form);
-size_t plain_named(const uint8_t *bytes, size_t length, size_t place, uint32_t form);
-uint32_t plain_has(const uint8_t *bytes, size_t length, size_t place, uint32_t form, uint32_t item);
-int64_t plain_item(const uint8_t *bytes, size_t length, size_t place, uint32_t form, uint32_t item);
-uint32_t plain_has_values(const uint8_t *bytes, size_t length, size_t place, uint32_t form);
-double plain_nmi(const uint8_t *bytes, size_t length, size_t place, uint32_t form);
-double plain_degrees(const uint8_t *bytes, size_t length, size_t place, uint32_t form);
-double plain_seconds(const uint8_t *bytes, size_t length, size_t place, uint32_t form);
+uint32_t plain_kind(const uint8_t *bytes, size_t length, size_t place, uint32_t form, uint32_t link);
+uint32_t plain_refusal(const uint8_t *bytes, size_t length, size_t place, uint32_t form, uint32_t link);
+size_t plain_first(const uint8_t *bytes, size_t length, size_t place, uint32_t form, uint32_t link);
+size_t plain_after(const uint8_t *bytes, size_t length, size_t place, uint32_t form, uint32_t link);
+size_t plain_named(const uint8_t *bytes, size_t length, size_t place, uint32_t form, uint32_t link);
+uint32_t plain_link(const uint8_t *bytes, size_t length, size_t place, uint32_t form, uint32_t link);
+uint32_t plain_has(const uint8_t *bytes, size_t length, size_t place, uint32_t form, uint32_t link, uint32_t item);
+int64_t plain_item(const uint8_t *bytes, size_t length, size_t place, uint32_t form, uint32_t link, uint32_t item);
+uint32_t plain_has_values(const uint8_t *bytes, size_t length, size_t place, uint32_t form, uint32_t link);
+double plain_nmi(const uint8_t *bytes, size_t length, size_t place, uint32_t form, uint32_t link);
+double plain_degrees(const uint8_t *bytes, size_t length, size_t place, uint32_t form, uint32_t link);
+double plain_seconds(const uint8_t *bytes, size_t length, size_t place, uint32_t form, uint32_t link);
 
 size_t plain_write(uint8_t *bytes, size_t length, size_t place, uint32_t form, uint32_t kind, const uint8_t *items, size_t items_length);
 uint32_t plain_write_refusal(const uint8_t *bytes, size_t length, size_t place, uint32_t form, uint32_t kind, const uint8_t *items,
@@ -60,7 +62,7 @@ uint32_t plain_field_write_refusal(const uint8_t *bytes, size_t length, uint32_t
                                    const uint8_t *list, size_t list_length, const uint8_t *text, size_t text_length);
 
 uint32_t plain_index_enter(siamrung_entry *table, size_t entries, const uint8_t *bytes, size_t length, size_t place, uint32_t form,
-                           uint32_t scan);
+                           uint32_t link, uint32_t scan);
 uint32_t plain_index_find(const siamrung_entry *table, size_t entries, uint32_t number);
 
 /* in two passes over the line, and in one */

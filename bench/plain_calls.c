@@ -45,52 +45,59 @@ static int has(const struct plain_outcome *o, uint32_t item)
     return item < PLAIN_ITEMS && (mask >> item & 1);
 }
 
-uint32_t plain_kind(const uint8_t *bytes, size_t length, size_t place, uint32_t form)
+uint32_t plain_kind(const uint8_t *bytes, size_t length, size_t place, uint32_t form, uint32_t link)
 {
     struct plain_outcome o;
-    plain_read(bytes, length, place, form, &o);
+    plain_read(bytes, length, place, form, link, &o);
     return o.kind;
 }
 
-uint32_t plain_refusal(const uint8_t *bytes, size_t length, size_t place, uint32_t form)
+uint32_t plain_refusal(const uint8_t *bytes, size_t length, size_t place, uint32_t form, uint32_t link)
 {
     struct plain_outcome o;
-    plain_read(bytes, length, place, form, &o);
+    plain_read(bytes, length, place, form, link, &o);
     return o.refusal;
 }
 
-size_t plain_first(const uint8_t *bytes, size_t length, size_t place, uint32_t form)
+size_t plain_first(const uint8_t *bytes, size_t length, size_t place, uint32_t form, uint32_t link)
 {
     struct plain_outcome o;
-    plain_read(bytes, length, place, form, &o);
+    plain_read(bytes, length, place, form, link, &o);
     return o.first;
 }
 
-size_t plain_after(const uint8_t *bytes, size_t length, size_t place, uint32_t form)
+size_t plain_after(const uint8_t *bytes, size_t length, size_t place, uint32_t form, uint32_t link)
 {
     struct plain_outcome o;
-    plain_read(bytes, length, place, form, &o);
+    plain_read(bytes, length, place, form, link, &o);
     return o.after;
 }
 
-size_t plain_named(const uint8_t *bytes, size_t length, size_t place, uint32_t form)
+size_t plain_named(const uint8_t *bytes, size_t length, size_t place, uint32_t form, uint32_t link)
 {
     struct plain_outcome o;
-    plain_read(bytes, length, place, form, &o);
+    plain_read(bytes, length, place, form, link, &o);
     return o.named;
 }
 
-uint32_t plain_has(const uint8_t *bytes, size_t length, size_t place, uint32_t form, uint32_t item)
+uint32_t plain_link(const uint8_t *bytes, size_t length, size_t place, uint32_t form, uint32_t link)
 {
     struct plain_outcome o;
-    plain_read(bytes, length, place, form, &o);
+    plain_read(bytes, length, place, form, link, &o);
+    return o.link;
+}
+
+uint32_t plain_has(const uint8_t *bytes, size_t length, size_t place, uint32_t form, uint32_t link, uint32_t item)
+{
+    struct plain_outcome o;
+    plain_read(bytes, length, place, form, link, &o);
     return has(&o, item);
 }
 
-int64_t plain_item(const uint8_t *bytes, size_t length, size_t place, uint32_t form, uint32_t item)
+int64_t plain_item(const uint8_t *bytes, size_t length, size_t place, uint32_t form, uint32_t link, uint32_t item)
 {
     struct plain_outcome o;
-    plain_read(bytes, length, place, form, &o);
+    plain_read(bytes, length, place, form, link, &o);
     return has(&o, item) ? o.item[item] : 0;
 }
 
@@ -101,30 +108,30 @@ static int valued(const struct plain_outcome *o)
     return o->kind <= SIAMRUNG_KIND_RDAS && o->kind != SIAMRUNG_KIND_STATUS;
 }
 
-uint32_t plain_has_values(const uint8_t *bytes, size_t length, size_t place, uint32_t form)
+uint32_t plain_has_values(const uint8_t *bytes, size_t length, size_t place, uint32_t form, uint32_t link)
 {
     struct plain_outcome o;
-    plain_read(bytes, length, place, form, &o);
+    plain_read(bytes, length, place, form, link, &o);
     return valued(&o);
 }
 
-double plain_nmi(const uint8_t *bytes, size_t length, size_t place, uint32_t form)
+double plain_nmi(const uint8_t *bytes, size_t length, size_t place, uint32_t form, uint32_t link)
 {
     struct plain_outcome o;
-    plain_read(bytes, length, place, form, &o);
+    plain_read(bytes, length, place, form, link, &o);
     return valued(&o) ? o.item[SIAMRUNG_ITEM_RANGE] / (o.kind < SIAMRUNG_KIND_DABS ? 8.0 : 128.0) : 0.0;
 }
 
-double plain_degrees(const uint8_t *bytes, size_t length, size_t place, uint32_t form)
+double plain_degrees(const uint8_t *bytes, size_t length, size_t place, uint32_t form, uint32_t link)
 {
     struct plain_outcome o;
-    plain_read(bytes, length, place, form, &o);
+    plain_read(bytes, length, place, form, link, &o);
     return valued(&o) ? o.item[SIAMRUNG_ITEM_AZIMUTH] * 45 / (o.kind < SIAMRUNG_KIND_DABS ? 512.0 : 1024.0) : 0.0;
 }
 
-double plain_seconds(const uint8_t *bytes, size_t length, size_t place, uint32_t form)
+double plain_seconds(const uint8_t *bytes, size_t length, size_t place, uint32_t form, uint32_t link)
 {
     struct plain_outcome o;
-    plain_read(bytes, length, place, form, &o);
+    plain_read(bytes, length, place, form, link, &o);
     return valued(&o) && o.kind != SIAMRUNG_KIND_MAP ? o.item[SIAMRUNG_ITEM_TIME] / 8.0 : 0.0;
 }

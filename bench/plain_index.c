@@ -45,13 +45,13 @@ static uint32_t answer(uint32_t done, size_t entry)
 }
 
 uint32_t plain_index_enter(siamrung_entry *table, size_t entries, const uint8_t *bytes, size_t length, size_t place, uint32_t form,
-                           uint32_t scan)
+                           uint32_t link, uint32_t scan)
 {
     struct plain_outcome o;
     struct look look;
     uint32_t number, done;
 
-    plain_read(bytes, length, place, form, &o);
+    plain_read(bytes, length, place, form, link, &o);
     number = plain_items_of(o.kind) >> SIAMRUNG_ITEM_FILE & 1 ? (uint32_t)o.item[SIAMRUNG_ITEM_FILE] : 0;
     if (!look_through(table, entries, number, &look))
         return SIAMRUNG_INDEX_REFUSAL_TABLE_BROKEN;

@@ -212,21 +212,24 @@ static void all_at(struct plain_outcome *o, uint32_t kind, uint32_t refusal, siz
     o->first = o->after = o->named = place;
 }
 
-void plain_read(const uint8_t *b, size_t length, size_t place, uint32_t form, struct plain_outcome *o)
+/* Why nothing is read where the link number, the line's length or the place is wrong: the first of them that is. */
+static uint32_t unread(size_t length, uint32_t link)
+{
+    if (link > SIAMRUNG_LAST_LINK)
+        return SIAMRUNG_REFUSAL_NO_SUCH_LINK;
+    if (length > 65536)
+        return SIAMRUNG_REFUSAL_LINE_TOO_LONG;
+    return length % 2 ? SIAMRUNG_REFUSAL_ODD_BYTE_COUNT : SIAMRUNG_REFUSAL_PLACE_BEYOND_LINE;
+}
+
+void plain_read(const uint8_t *b, size_t length, size_t place, uint32_t form, uint32_t link, struct plain_outcome *o)
 {
     size_t i = place, n = length / 2, wide = NONE, even = NONE;
     unsigned w;
 
-    if (length > 65536) {
-        all_at(o, SIAMRUNG_KIND_REFUSED, SIAMRUNG_REFUSAL_LINE_TOO_LONG, place);
-        return;
-    }
-    if (length % 2) {
-        all_at(o, SIAMRUNG_KIND_REFUSED, SIAMRUNG_REFUSAL_ODD_BYTE_COUNT, place);
-        return;
-    }
-    if (place > n) {
-        all_at(o, SIAMRUNG_KIND_REFUSED, SIAMRUNG_REFUSAL_PLACE_BEYOND_LINE, place);
+    o->link = link > SIAMRUNG_LAST_LINK ? 0 : link;
+    if (link > SIAMRUNG_LAST_LINK || length > 65536 || length % 2 || place > n) {
+        all_at(o, SIAMRUNG_KIND_REFUSED, unread(length, link), place);
         return;
     }
     while (i < n && word_at(b, i) == IDLE)

@@ -1,5 +1,6 @@
 /*
  * plain_lister.c: the lister by hand: a recording from standard input, its listing to standard output, over the reader of plain_line.c.
+ * A recording has no link; it is read with link 0.
  */
 #include <stdio.h>
 
@@ -18,7 +19,7 @@ static void list(size_t length)
     size_t at = 0, reported = 0, refused = 0;
 
     for (;;) {
-        plain_read(bytes, length, at, SIAMRUNG_FORM_SIGN_MAGNITUDE, &o);
+        plain_read(bytes, length, at, SIAMRUNG_FORM_SIGN_MAGNITUDE, 0, &o);
         if (o.kind == SIAMRUNG_KIND_END)
             break;
         at = o.after;

@@ -34,7 +34,8 @@ static uint32_t rule_broken(const struct plain_outcome *o)
     }
 }
 
-/* Goes from run to run until so many breaches have come, or the line ends; answers how many have come. Without a list it only counts. */
+/* Goes from run to run until so many breaches have come, or the line ends; answers how many have come. Without a list it only counts. A breach has no
+ * link: the line is read with link 0. */
 static size_t go_through(const uint8_t *bytes, size_t length, uint32_t form, uint8_t *list, size_t most)
 {
     struct plain_outcome o;
@@ -42,7 +43,7 @@ static size_t go_through(const uint8_t *bytes, size_t length, uint32_t form, uin
     uint32_t rule;
 
     for (at = 0; at < length / 2 && n < most; at = o.after) {
-        plain_read(bytes, length, at, form, &o);
+        plain_read(bytes, length, at, form, 0, &o);
         rule = rule_broken(&o);
         if (rule == NO_RULE)
             continue;
