@@ -24,8 +24,8 @@
  * all calls about one line. Every outcome, a report, a refusal or the end, has that number, and siamrung_link answers it. It is no part of the
  * words. It changes nothing else: every other call answers the same with each number from 0 to 15. A greater number is refused with 13, before the
  * line is looked at; the outcome then has link 0, and this does not say that it came on link 0. A program that has one link passes 0.
- * siamrung_manners and the lister take no link number, and read with link 0. The arguments form, link, item and scan have one type: no compiler sees
- * it if two of them are exchanged.
+ * siamrung_manners and the lister take no link number, and read with link 0. The calls that write have no link. The arguments form, link, item and
+ * scan have one type: no compiler sees it if two of them are exchanged.
  *
  * Threads. No call keeps anything, so any thread may call at any time. But while a call writes into bytes, into a table or into a list, no other
  * thread may use them.
@@ -642,11 +642,10 @@ static inline size_t siamrung_index_entry(uint32_t answer)
 /*
  * Enters the report at the place, or behind the idle words there, with a scan number that the program chooses. The form matters only for an ATCRBS
  * report with an altitude of the bits 100000000000: in two's complement it is a report like any other, and in form 0 it is refused with 9, and left.
- * The link matters only if its number is above 15: what stands there is then refused with 13, and left.
- * siamrung_index_done takes out of the answer: 50 if the table is broken, whatever stands there; else LEFT if no report with a file number other than 0
- * stands there; else REPLACED if the number is in the table; else ENTERED if an entry is unused; else 51. After ENTERED and REPLACED
- * siamrung_index_entry takes out which entry has the report; only that entry is written. After LEFT, 50 and 51 nothing is written. The table must not
- * overlap the line.
+ * The link matters only if its number is above 15: what stands there is then refused with 13, and left as any refused run is. siamrung_index_done
+ * takes out of the answer: 50 if the table is broken, whatever stands there; else LEFT if no report with a file number other than 0 stands there;
+ * else REPLACED if the number is in the table; else ENTERED if an entry is unused; else 51. After ENTERED and REPLACED siamrung_index_entry takes
+ * out which entry has the report; only that entry is written. After LEFT, 50 and 51 nothing is written. The table must not overlap the line.
  */
 uint32_t siamrung_index_enter(siamrung_entry *table, size_t entries, const uint8_t *bytes, size_t length, size_t place, uint32_t form,
                               uint32_t link, uint32_t scan);

@@ -4,7 +4,10 @@
  *
  * Input: cases, one behind the other, until the end. Every number has its high byte first. "bytes" is a length of four bytes and as many
  * bytes; "numbers" is a count of four bytes and as many numbers of eight.
- *   'L' bytes, form (4), step (4), numbers: a line, and the form to read it in; the places to look at beside the walk, in the same form
+ *   'L' bytes, form (4), link (4), step (4), numbers: a line, and the form and the link number to read it with; the places to look at beside
+ *       the walk, with the same two
+ *   'P' bytes, form (4), count (4), count times: link (4); numbers: a line, the form to read it in, and link numbers; the places to look at,
+ *       each with one link number after the other; a report there is also written again, and looked at again, with the same two
  *   'W' bytes, count (4), count times: place (8), form (4), kind (4), items (bytes): a line, and the reports to write into it
  *   'F' bytes, count (8), from_sensor (4), ask (1), numbers: a field; the indices to ask beside 0 to 31
  *   'G' bytes, type (4), items (bytes), list (bytes), text (bytes): a field to write
@@ -12,12 +15,13 @@
  *   'T' stream, count (4), count times: count (8), place (8), from_sensor (4), control (1), field (bytes), length (8), count (8): a stream,
  *       the frames to write into it with the length and the count to pass with each field; then the walk
  *   'I' table, count (4), count times: bytes; count (4), count times a step: a table, the lines, and the calls in turn, each of them
- *       'e' line (4), place (8), form (4), scan (4): to enter what stands there, the line by its number among the lines
- *       'w' line (4), place (8), form (4), scan (4): to enter every outcome of the line from the place on
+ *       'e' line (4), place (8), form (4), link (4), scan (4): to enter what stands there, the line by its number among the lines
+ *       'w' line (4), place (8), form (4), link (4), scan (4): to enter every outcome of the line from the place on
  *       'f' number (4): to look for a number
- *   'M' bytes, length (8), form (4), count (4), count times: form (4), front (4), length (8), behind (4): a line, the length to pass with it,
- *       the form to walk it in, before the calls and after them; the calls of siamrung_manners in turn, each with its form and its list
- * "form" is the argument form of siamrung.h, any number of 32 bits: it is passed on as it came.
+ *   'M' bytes, length (8), form (4), link (4), count (4), count times: form (4), front (4), length (8), behind (4): a line, the length to
+ *       pass with it, the form and the link number to walk it with, before the calls and after them; the calls of siamrung_manners in turn,
+ *       each with its form and its list
+ * "form" and "link" are the arguments of those names in siamrung.h, any numbers of 32 bits: they are passed on as they came.
  * "table" is front (4), entries (8), count (4), count times: number (2), kind (2), scan (4), place (8): the entries that are there. The
  * table begins behind as many of them as front says, and is passed with that number of entries; the others stand around it. A number of
  * entries over those that are there is only said, and more than 512 are there then. Where no entry is there, NULL is passed.
@@ -34,7 +38,8 @@
  * index stand the entries that it changed: how many (4), and each with its number among all that are there (4); in a walk also
  * siamrung_after. At the end of the case stand all entries. Behind each call of siamrung_manners stand its parts, the place and the rule of
  * each breach in the list, and the list with the bytes around it; a walk has siamrung_kind, siamrung_first and siamrung_after of each
- * outcome. An answer ends with one byte: 1 if nothing that is only read was changed.
+ * outcome. A report that is written again has siamrung_write, the length of its line (4) and the bytes of it, which held the pattern of a
+ * buffer before. An answer ends with one byte: 1 if nothing that is only read was changed.
  *
  * Every slice is malloc'ed to its exact length, so that valgrind sees an access outside; an empty slice is passed as NULL.
  */
@@ -50,6 +55,8 @@
 #define NO_ITEMS 4
 static const uint32_t no_items[NO_ITEMS] = {68, 265, 457, 0x80000004};
 
+/* of an item that is written: its number and its value */
+#define ITEM_BYTES 16
 #define LAST_INDEX 31
 /* where there is no report, items are asked this many times more seldom */
 #define SELDOM 8
@@ -157,14 +164,19 @@ static void put(const uint8_t *bytes, size_t length)
     answer_length += length;
 }
 
-static void put_number(uint64_t number, size_t width)
+static void spell(uint8_t *bytes, uint64_t number, size_t width)
 {
-    uint8_t bytes[8];
     size_t i;
     for (i = 0; i < width; i++) {
         bytes[width - 1 - i] = (uint8_t)(number % 256);
         number /= 256;
     }
+}
+
+static void put_number(uint64_t number, size_t width)
+{
+    uint8_t bytes[8];
+    spell(bytes, number, width);
     put(bytes, width);
 }
 
@@ -193,35 +205,40 @@ static void send_answer(void)
 
 /* ---- a line */
 
-static void put_items(const struct slice *line, size_t place, uint32_t form)
+static void put_items(const struct slice *line, size_t place, uint32_t form, uint32_t link)
 {
     uint32_t i;
     for (i = 0; i < ITEMS + NO_ITEMS; i++) {
         uint32_t item = i < ITEMS ? i : no_items[i - ITEMS];
-        put_yes(siamrung_has(line->bytes, line->length, place, form, item));
-        put_number((uint64_t)siamrung_item(line->bytes, line->length, place, form, item), 8);
+        put_yes(siamrung_has(line->bytes, line->length, place, form, link, item));
+        put_number((uint64_t)siamrung_item(line->bytes, line->length, place, form, link, item), 8);
     }
 }
 
-/* All answers about one place; gives siamrung_after, and sets end where the line is finished. */
-static size_t look(const struct slice *line, size_t place, uint32_t form, uint64_t turn, uint64_t step, int *end)
+static int is_report(uint32_t kind)
 {
-    uint32_t kind = siamrung_kind(line->bytes, line->length, place, form);
-    size_t after = siamrung_after(line->bytes, line->length, place, form);
-    int report = kind != SIAMRUNG_KIND_REFUSED && kind != SIAMRUNG_KIND_END;
-    int asked = turn % (report ? step : SELDOM * step) == 0;
+    return kind != SIAMRUNG_KIND_REFUSED && kind != SIAMRUNG_KIND_END;
+}
+
+/* All answers about one place; gives siamrung_after, and sets end where the line is finished. */
+static size_t look(const struct slice *line, size_t place, uint32_t form, uint32_t link, uint64_t turn, uint64_t step, int *end)
+{
+    uint32_t kind = siamrung_kind(line->bytes, line->length, place, form, link);
+    size_t after = siamrung_after(line->bytes, line->length, place, form, link);
+    int asked = turn % (is_report(kind) ? step : SELDOM * step) == 0;
     put_number(kind, 4);
-    put_number(siamrung_refusal(line->bytes, line->length, place, form), 4);
-    put_number(siamrung_first(line->bytes, line->length, place, form), 8);
+    put_number(siamrung_refusal(line->bytes, line->length, place, form, link), 4);
+    put_number(siamrung_first(line->bytes, line->length, place, form, link), 8);
     put_number(after, 8);
-    put_number(siamrung_named(line->bytes, line->length, place, form), 8);
-    put_number(siamrung_has_values(line->bytes, line->length, place, form), 4);
-    put_double(siamrung_nmi(line->bytes, line->length, place, form));
-    put_double(siamrung_degrees(line->bytes, line->length, place, form));
-    put_double(siamrung_seconds(line->bytes, line->length, place, form));
+    put_number(siamrung_named(line->bytes, line->length, place, form, link), 8);
+    put_number(siamrung_link(line->bytes, line->length, place, form, link), 4);
+    put_number(siamrung_has_values(line->bytes, line->length, place, form, link), 4);
+    put_double(siamrung_nmi(line->bytes, line->length, place, form, link));
+    put_double(siamrung_degrees(line->bytes, line->length, place, form, link));
+    put_double(siamrung_seconds(line->bytes, line->length, place, form, link));
     put_number(asked ? 1 : 0, 1);
     if (asked) {
-        put_items(line, place, form);
+        put_items(line, place, form, link);
     }
     *end = kind == SIAMRUNG_KIND_END || after == place;
     return after;
@@ -231,6 +248,7 @@ static void answer_line(void)
 {
     struct slice line = get_slice();
     uint32_t form = (uint32_t)get_number(4);
+    uint32_t link = (uint32_t)get_number(4);
     uint64_t step = get_number(4);
     uint64_t places = get_number(4);
     uint64_t turn = 0;
@@ -238,15 +256,79 @@ static void answer_line(void)
     int end = 0;
     /* a library that never ends is stopped here: no line has more places to look at */
     while (!end && turn <= line.length / 2 + 1) {
-        place = look(&line, place, form, turn, step, &end);
+        place = look(&line, place, form, link, turn, step, &end);
         turn++;
     }
     for (turn = 0; turn < places; turn++) {
-        look(&line, (size_t)get_number(8), form, turn, 1, &end);
+        look(&line, (size_t)get_number(8), form, link, turn, 1, &end);
     }
     put_number(same(&line) ? 1 : 0, 1);
     drop(&line);
 }
+
+/* ---- a line on several links */
+
+/* The items of the report at the place, as siamrung_write takes them; gives their length. */
+static size_t gather_items(const struct slice *line, size_t place, uint32_t form, uint32_t link, uint8_t *items)
+{
+    size_t length = 0;
+    uint32_t item;
+    for (item = 0; item < ITEMS; item++) {
+        if (siamrung_has(line->bytes, line->length, place, form, link, item) != 0) {
+            spell(items + length, item, 8);
+            spell(items + length + 8, (uint64_t)siamrung_item(line->bytes, line->length, place, form, link, item), 8);
+            length += ITEM_BYTES;
+        }
+    }
+    return length;
+}
+
+/* The report at the place, written into a line that it just fills with its idle word, and all answers about that line. */
+static void put_again(const struct slice *line, size_t place, uint32_t form, uint32_t link)
+{
+    uint8_t items[ITEM_BYTES * ITEMS];
+    size_t items_length = gather_items(line, place, form, link, items);
+    uint32_t kind = siamrung_kind(line->bytes, line->length, place, form, link);
+    size_t words = siamrung_after(line->bytes, line->length, place, form, link) - siamrung_first(line->bytes, line->length, place, form, link);
+    struct slice again = {NULL, NULL, 0};
+    int end;
+    /* a library that says more words is stopped here: no run has more than its line */
+    again.length = 2 * ((words < line->length / 2 ? words : line->length / 2) + 1);
+    again.bytes = take_pattern(again.length);
+    put_number(siamrung_write(again.bytes, again.length, 0, form, kind, items, items_length), 8);
+    put_number(again.length, 4);
+    put(again.bytes, again.length);
+    look(&again, 0, form, link, 0, 1, &end);
+    drop(&again);
+}
+
+static void answer_links(void)
+{
+    struct slice line = get_slice();
+    uint32_t form = (uint32_t)get_number(4);
+    uint64_t links_count = get_number(4);
+    uint32_t *links = take((links_count + 1) * sizeof(uint32_t));
+    uint64_t places;
+    uint64_t i;
+    int end;
+    for (i = 0; i < links_count; i++) {
+        links[i] = (uint32_t)get_number(4);
+    }
+    for (places = get_number(4); places > 0; places--) {
+        size_t place = (size_t)get_number(8);
+        for (i = 0; i < links_count; i++) {
+            look(&line, place, form, links[i], 0, 1, &end);
+            if (is_report(siamrung_kind(line.bytes, line.length, place, form, links[i]))) {
+                put_again(&line, place, form, links[i]);
+            }
+        }
+    }
+    put_number(same(&line) ? 1 : 0, 1);
+    free(links);
+    drop(&line);
+}
+
+/* ---- a line to write into */
 
 static int write_one(struct slice *line)
 {
@@ -563,20 +645,20 @@ static void put_done(struct table *table, uint32_t number)
     put_changes(table);
 }
 
-static void enter(struct table *table, const struct slice *line, size_t place, uint32_t form, uint32_t scan)
+static void enter(struct table *table, const struct slice *line, size_t place, uint32_t form, uint32_t link, uint32_t scan)
 {
-    put_done(table, siamrung_index_enter(table->lent, table->entries, line->bytes, line->length, place, form, scan));
+    put_done(table, siamrung_index_enter(table->lent, table->entries, line->bytes, line->length, place, form, link, scan));
 }
 
-static void enter_all(struct table *table, const struct slice *line, size_t place, uint32_t form, uint32_t scan)
+static void enter_all(struct table *table, const struct slice *line, size_t place, uint32_t form, uint32_t link, uint32_t scan)
 {
     size_t turn = 0;
     int end = 0;
     /* a library that never ends is stopped here: no line has more places to look at */
     while (!end && turn <= line->length / 2 + 1) {
-        uint32_t kind = siamrung_kind(line->bytes, line->length, place, form);
-        size_t after = siamrung_after(line->bytes, line->length, place, form);
-        enter(table, line, place, form, scan);
+        uint32_t kind = siamrung_kind(line->bytes, line->length, place, form, link);
+        size_t after = siamrung_after(line->bytes, line->length, place, form, link);
+        enter(table, line, place, form, link, scan);
         put_number(after, 8);
         end = kind == SIAMRUNG_KIND_END || after == place;
         place = after;
@@ -593,14 +675,15 @@ static void answer_step(struct table *table, const struct slice *lines, size_t l
         size_t line = (size_t)get_number(4);
         size_t place = (size_t)get_number(8);
         uint32_t form = (uint32_t)get_number(4);
+        uint32_t link = (uint32_t)get_number(4);
         uint32_t scan = (uint32_t)get_number(4);
         if (line >= lines_count || (tag != 'e' && tag != 'w')) {
             fail("no such step");
         }
         if (tag == 'w') {
-            enter_all(table, &lines[line], place, form, scan);
+            enter_all(table, &lines[line], place, form, link, scan);
         } else {
-            enter(table, &lines[line], place, form, scan);
+            enter(table, &lines[line], place, form, link, scan);
         }
     }
 }
@@ -634,17 +717,17 @@ static void answer_index(void)
 
 /* ---- manners */
 
-static void walk_line(const struct slice *line, size_t length, uint32_t form)
+static void walk_line(const struct slice *line, size_t length, uint32_t form, uint32_t link)
 {
     size_t place = 0;
     size_t turn = 0;
     int end = 0;
     /* a library that never ends is stopped here: no line has more places to look at */
     while (!end && turn <= line->length / 2 + 1) {
-        uint32_t kind = siamrung_kind(line->bytes, length, place, form);
-        size_t after = siamrung_after(line->bytes, length, place, form);
+        uint32_t kind = siamrung_kind(line->bytes, length, place, form, link);
+        size_t after = siamrung_after(line->bytes, length, place, form, link);
         put_number(kind, 4);
-        put_number(siamrung_first(line->bytes, length, place, form), 8);
+        put_number(siamrung_first(line->bytes, length, place, form, link), 8);
         put_number(after, 8);
         end = kind == SIAMRUNG_KIND_END || after == place;
         place = after;
@@ -686,12 +769,13 @@ static void answer_manners(void)
     struct slice line = get_slice();
     size_t length = (size_t)get_number(8);
     uint32_t form = (uint32_t)get_number(4);
+    uint32_t link = (uint32_t)get_number(4);
     uint64_t calls = get_number(4);
-    walk_line(&line, length, form);
+    walk_line(&line, length, form, link);
     for (; calls > 0; calls--) {
         put_manners(&line, length);
     }
-    walk_line(&line, length, form);
+    walk_line(&line, length, form, link);
     put_number(same(&line) ? 1 : 0, 1);
     drop(&line);
 }
@@ -703,6 +787,9 @@ static void answer_case(int tag)
     switch (tag) {
     case 'L':
         answer_line();
+        break;
+    case 'P':
+        answer_links();
         break;
     case 'W':
         answer_write();

@@ -11,6 +11,7 @@ use crate::index_cases;
 use crate::layout::Layout;
 use crate::line::{self, IDLE};
 use crate::line_cases::{case_of, line_in, random_bits, shuffled_bytes, valid_items, valid_text, write_in};
+use crate::link_cases;
 use crate::report::{self, ALTITUDE, CARRIED};
 use crate::rng::Rng;
 
@@ -94,7 +95,8 @@ pub fn line_of_altitudes(tables: &Tables, seed: u64, number: u64) -> Case {
         words.extend(run(rng, tables));
         words.extend(vec![IDLE; rng.between(1, 3) as usize]);
     }
-    case_of(rng, line::to_bytes(&words), form)
+    let link = link_cases::mostly(rng);
+    case_of(rng, line::to_bytes(&words), form, link)
 }
 
 // ---- writing
@@ -143,12 +145,7 @@ pub fn write_of_altitude(tables: &Tables, seed: u64, number: u64) -> Case {
 pub fn table(tables: &Tables, seed: u64, number: u64) -> Case {
     let rng = &mut Rng::new(seed, TABLE, number);
     let mut indexing = index_cases::table_of(rng, tables, number);
-    for step in &mut indexing.steps {
-        match step {
-            Step::Enter { form, .. } | Step::Walk { form, .. } => *form = either(rng),
-            Step::Find { .. } => (),
-        }
-    }
+    indexing.forms_and_links().for_each(|(form, _)| *form = either(rng));
     Case::Index(indexing)
 }
 
@@ -163,11 +160,12 @@ pub fn table_of_altitudes(tables: &Tables, seed: u64, number: u64) -> Case {
         bits::paste(&mut text, &[(66, 77)], &format!("{:012b}", rng.below(4)));
         bits::paste(&mut text, &[(79, 90)], &pattern(rng));
         words.push(IDLE);
-        steps.push(Step::Enter { line: 0, place: words.len() as u64, form: either(rng), scan: rng.below(3) as u32 });
+        let (form, link) = (either(rng), link_cases::mostly(rng));
+        steps.push(Step::Enter { line: 0, place: words.len() as u64, form, link, scan: rng.below(3) as u32 });
         words.extend(report::to_words(&report::with_parity(&text)));
     }
     rng.shuffle(&mut steps);
-    steps.push(Step::Walk { line: 0, place: 0, form: either(rng), scan: 3 });
+    steps.push(Step::Walk { line: 0, place: 0, form: either(rng), link: link_cases::link(rng), scan: 3 });
     steps.extend((1..=3).map(|number| Step::Find { number }));
     let used = rng.below(3) as u16;
     let mut table: Vec<Entry> = (1..=used).map(|number| Entry { number, kind: 114, scan: 9, place: 90 }).collect();

@@ -34,7 +34,7 @@ fn look(tables: &Tables, form: u32, words: &[u16]) -> Look {
 }
 
 fn line_of(words: &[u16], form: u32, places: &[u64]) -> Case {
-    Case::Line { bytes: line::to_bytes(words), form, step: 1, places: places.to_vec() }
+    Case::Line { bytes: line::to_bytes(words), form, link: 0, step: 1, places: places.to_vec() }
 }
 
 // ---- every pattern
@@ -346,7 +346,7 @@ fn places(_: &Tables) -> Vec<Named> {
         for (name, bytes) in &lines {
             let words = bytes.len() as u64 / 2;
             let places = vec![0, 1, words, words + 1, 1 << 32, 1 << 63, u64::MAX];
-            cases.push((format!("{} in form {}", name, form), Case::Line { bytes: bytes.clone(), form, step: 1, places }));
+            cases.push((format!("{} in form {}", name, form), Case::Line { bytes: bytes.clone(), form, link: 0, step: 1, places }));
         }
     }
     cases
@@ -379,7 +379,7 @@ fn tables_in_forms(tables: &Tables) -> Vec<Named> {
         for &(text, signed, complement) in TABLES {
             let gets = if form == 0 { signed } else { complement };
             let left = if gets.0 == 50 { (50, 0) } else { (125, 0) };
-            let steps = vec![1, 2, 0].into_iter().map(|line| Step::Enter { line, place: 0, form, scan: 5 }).collect();
+            let steps = vec![1, 2, 0].into_iter().map(|line| Step::Enter { line, place: 0, form, link: 0, scan: 5 }).collect();
             let indexing = Indexing::alone(table_of(text), lines.clone(), steps);
             cases.extend(checked(tables, &format!("table {} in form {}", text, form), indexing, &[left, left, gets]));
         }
@@ -391,7 +391,7 @@ fn tables_in_forms(tables: &Tables) -> Vec<Named> {
 fn walked_in_forms(tables: &Tables) -> Vec<Named> {
     let mut cases = Vec::new();
     for form in FORMS {
-        let walk = |form: u32, scan: u32| Step::Walk { line: 0, place: 0, form, scan };
+        let walk = |form: u32, scan: u32| Step::Walk { line: 0, place: 0, form, link: 0, scan };
         let steps = vec![walk(0, 1), find(1), find(2), walk(form, 2), find(1), walk(0, 3), find(1), find(2)];
         let found = if form == 0 { (127, 0) } else { (126, 1) };
         let first = if form == 0 { (125, 0) } else { (123, 1) };

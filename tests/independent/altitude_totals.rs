@@ -14,11 +14,11 @@ use crate::tally::{Row, Tally};
 const LEAST: i64 = -2048;
 const SAME_BITS: i64 = 2048;
 
-const KINDS: &[u64] = &[101, 102, 103, 104, 105, 106, 107, 108, 109, 110, 111, 112, 113, 114, 115];
+pub const KINDS: &[u64] = &[101, 102, 103, 104, 105, 106, 107, 108, 109, 110, 111, 112, 113, 114, 115];
 /// The kinds that may have an altitude.
 const WITH_ALTITUDE: &[u64] = &[106, 110];
 /// The kinds that have a file number.
-const WITH_FILE: &[u64] = &[110, 111, 112, 113, 114, 115];
+pub const WITH_FILE: &[u64] = &[110, 111, 112, 113, 114, 115];
 /// The numbers of two's complement that are counted each for itself.
 const NUMBERS: &[u64] = &[1, 2, 255, 256, 65_536, 0x8000_0000, 0xFFFF_FFFF];
 
@@ -36,7 +36,7 @@ const READING: &[Row] = &[
     ("complement, kind N read, altitude below zero", WITH_ALTITUDE, 1_000),
     ("complement, kind N read, altitude -2048", WITH_ALTITUDE, 1_000),
     ("complement, kind N read, carried bits", WITH_ALTITUDE, 1_000),
-    ("complement, reading, refusal N", &[2, 14, 1, 3, 4, 5, 6, 7, 8], 100),
+    ("complement, reading, refusal N", &[13, 2, 14, 1, 3, 4, 5, 6, 7, 8], 100),
     ("complement, the end", &[], 1_000),
     ("form N, altitude below zero read", NUMBERS, 1_000),
     ("form above 1, altitude below zero read", &[], 1_000),
@@ -69,7 +69,7 @@ const INDEX: &[Row] = &[
     ("complement, altitude -2048 entered", &[], 1_000),
     ("complement, altitude -2048 replaced", &[], 1_000),
     ("complement, altitude -2048, file number 0 or a kind without one, left", &[], 1_000),
-    ("complement, left, refusal N", &[2, 14, 1, 3, 4, 5, 6, 7, 8], 100),
+    ("complement, left, refusal N", &[13, 2, 14, 1, 3, 4, 5, 6, 7, 8], 100),
     ("complement, refused with N", &[50, 51], 1_000),
     ("form N, altitude -2048 entered or replaced", NUMBERS, 100),
     ("form above 1, altitude -2048 entered or replaced", &[], 1_000),

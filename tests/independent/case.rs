@@ -7,7 +7,8 @@ use crate::field::{self, Field, Given};
 use crate::frame_case::{Reading, Writing};
 use crate::index_case::Indexing;
 use crate::layout::Layout;
-use crate::line::{self, Look};
+use crate::line::{self, Lent, Look};
+use crate::link_case::Linking;
 use crate::manners_case::Checking;
 use crate::report;
 use crate::totals::Totals;
@@ -43,9 +44,20 @@ pub struct Write {
     pub items: Vec<u8>,
 }
 
+impl Write {
+    fn put(&self, message: &mut Vec<u8>) {
+        message.extend_from_slice(&self.place.to_be_bytes());
+        message.extend_from_slice(&self.form.to_be_bytes());
+        message.extend_from_slice(&self.kind.to_be_bytes());
+        put_bytes(message, &self.items);
+    }
+}
+
 pub enum Case {
-    /// A line is walked in a form, and then looked at from the places. Items are asked of every step-th report.
-    Line { bytes: Vec<u8>, form: u32, step: u32, places: Vec<u64> },
+    /// A line is walked in a form, with a link number, and then looked at from the places. Items are asked of every step-th report.
+    Line { bytes: Vec<u8>, form: u32, link: u32, step: u32, places: Vec<u64> },
+    /// Places of a line are looked at with several link numbers.
+    Links(Linking),
     /// Reports are written into a line one after the other.
     Write { bytes: Vec<u8>, writes: Vec<Write> },
     /// A field is read. Items are asked where it is accepted or ask is set; entries 0 to 31 and those at the indices.
@@ -70,9 +82,19 @@ const LAST_INDEX: u64 = 31;
 /// Where there is no report, items are asked this many times more seldom.
 const SELDOM: u64 = 8;
 
+/// How many items are asked where any are.
+pub fn items_asked() -> usize {
+    ITEMS.chain(NO_ITEMS).count()
+}
+
 pub fn put_bytes(message: &mut Vec<u8>, bytes: &[u8]) {
     message.extend_from_slice(&(bytes.len() as u32).to_be_bytes());
     message.extend_from_slice(bytes);
+}
+
+/// What a buffer holds before a call.
+pub fn pattern(length: u64) -> Vec<u8> {
+    (0..length).map(|index| ((165 + 7 * index) % 256) as u8).collect()
 }
 
 pub fn put_numbers(message: &mut Vec<u8>, numbers: &[u64]) {
@@ -87,21 +109,18 @@ impl Case {
     pub fn message(&self) -> Vec<u8> {
         let mut message = vec![self.tag()];
         match self {
-            Case::Line { bytes, form, step, places } => {
+            Case::Line { bytes, form, link, step, places } => {
                 put_bytes(&mut message, bytes);
                 message.extend_from_slice(&form.to_be_bytes());
+                message.extend_from_slice(&link.to_be_bytes());
                 message.extend_from_slice(&step.to_be_bytes());
                 put_numbers(&mut message, places);
             }
+            Case::Links(linking) => linking.put(&mut message),
             Case::Write { bytes, writes } => {
                 put_bytes(&mut message, bytes);
                 message.extend_from_slice(&(writes.len() as u32).to_be_bytes());
-                for write in writes {
-                    message.extend_from_slice(&write.place.to_be_bytes());
-                    message.extend_from_slice(&write.form.to_be_bytes());
-                    message.extend_from_slice(&write.kind.to_be_bytes());
-                    put_bytes(&mut message, &write.items);
-                }
+                writes.iter().for_each(|write| write.put(&mut message));
             }
             Case::Field { bytes, count, from_sensor, ask, indices } => {
                 put_bytes(&mut message, bytes);
@@ -128,6 +147,7 @@ impl Case {
     fn tag(&self) -> u8 {
         match self {
             Case::Line { .. } => b'L',
+            Case::Links(_) => b'P',
             Case::Write { .. } => b'W',
             Case::Field { .. } => b'F',
             Case::FieldWrite { .. } => b'G',
@@ -142,7 +162,12 @@ impl Case {
     pub fn expect(&self, tables: &Tables, totals: &mut Totals, naming: bool) -> Answer {
         let mut answer = Answer::new(naming);
         match self {
-            Case::Line { bytes, form, step, places } => expect_line(tables, &mut answer, totals, bytes, (*form, *step), places),
+            Case::Line { bytes, form, link, step, places } => {
+                let words = line::words(bytes);
+                let line = Lent { form: *form, layouts: tables.of(*form), link: *link, length: bytes.len(), words: &words };
+                expect_line(&mut answer, totals, &line, *step, places);
+            }
+            Case::Links(linking) => linking.expect(tables, &mut answer, totals),
             Case::Write { bytes, writes } => expect_writes(tables, &mut answer, totals, bytes, writes),
             Case::Field { bytes, count, from_sensor, ask, indices } => {
                 let read = field::read(&tables.fields, bytes, *count, *from_sensor != 0);
@@ -163,17 +188,21 @@ impl Case {
         answer
     }
 
+    /// What has to hold between the answers that came, whatever this program expects.
+    pub fn check(&self, came: &[u8], totals: &mut Totals) -> Result<(), String> {
+        match self {
+            Case::Links(linking) => linking.check(came, &mut totals.links),
+            _ => Ok(()),
+        }
+    }
+
     /// The words of a line from a place on, as numbers, or the bits of a stream, since long ones in hexadecimal are hard to count through.
     pub fn near(&self, place: u64) -> String {
         match self {
-            Case::Line { bytes, .. } => {
-                let words = line::words(bytes);
-                let from = words.len().min(place as usize);
-                let to = words.len().min(from + 24);
-                format!("\nwords from place {}: {:?}", from, &words[from..to])
-            }
+            Case::Line { bytes, .. } => words_near(bytes, place),
+            Case::Links(linking) => words_near(&linking.bytes, place),
             Case::Frames(reading) => reading.near(place),
-            Case::Manners(checking) => checking.near(place),
+            Case::Manners(checking) => words_near(&checking.bytes, place),
             _ => String::new(),
         }
     }
@@ -181,9 +210,10 @@ impl Case {
     /// The case in words, for a difference.
     pub fn shown(&self) -> String {
         match self {
-            Case::Line { bytes, form, places, .. } => {
-                format!("line in form {}, {} bytes {}; places {:?}", form, bytes.len(), hex(bytes), places)
+            Case::Line { bytes, form, link, places, .. } => {
+                format!("line in form {} on link {}, {} bytes {}; places {:?}", form, link, bytes.len(), hex(bytes), places)
             }
+            Case::Links(linking) => linking.shown(),
             Case::Write { bytes, writes } => {
                 let one = |write: &Write| {
                     let what = format!("kind {} items {}", write.kind, hex(&write.items));
@@ -207,38 +237,34 @@ impl Case {
     }
 }
 
-/// The walk from place 0, stopped at the end of the line or where a place gives itself back; then the other places.
-fn expect_line(tables: &Tables, answer: &mut Answer, totals: &mut Totals, bytes: &[u8], (form, step): (u32, u32), places: &[u64]) {
-    let layouts = tables.of(form);
+fn words_near(bytes: &[u8], place: u64) -> String {
     let words = line::words(bytes);
-    totals.line(bytes.len());
-    let mut place = 0;
-    let mut turn = 0;
-    loop {
-        let look = line::look(layouts, bytes.len(), &words, place);
-        expect_look(answer, &look, place, turn, u64::from(step));
-        totals.look(&look, true);
-        totals.altitudes.look(form, &look);
-        if look.kind == line::END || look.after == place {
-            break;
-        }
-        place = look.after;
-        turn += 1;
+    let from = words.len().min(place as usize);
+    let to = words.len().min(from + 24);
+    format!("\nwords from place {}: {:?}", from, &words[from..to])
+}
+
+/// The walk from place 0, stopped at the end of the line or where a place gives itself back; then the other places.
+fn expect_line(answer: &mut Answer, totals: &mut Totals, line: &Lent, step: u32, places: &[u64]) {
+    totals.line(line);
+    for (turn, (place, look)) in line.walk().enumerate() {
+        expect_look(answer, &look, place, turn as u64, u64::from(step));
+        totals.look(line, place, &look, true);
     }
     for (turn, &place) in places.iter().enumerate() {
-        let look = line::look(layouts, bytes.len(), &words, place);
+        let look = line.look(place);
         expect_look(answer, &look, place, turn as u64, 1);
-        totals.look(&look, false);
-        totals.altitudes.look(form, &look);
+        totals.look(line, place, &look, false);
     }
 }
 
-fn expect_look(answer: &mut Answer, look: &Look, place: u64, turn: u64, step: u64) {
+pub fn expect_look(answer: &mut Answer, look: &Look, place: u64, turn: u64, step: u64) {
     answer.u32("siamrung_kind", place, look.kind);
     answer.u32("siamrung_refusal", place, look.refusal);
     answer.u64("siamrung_first", place, 0, look.first);
     answer.u64("siamrung_after", place, 0, look.after);
     answer.u64("siamrung_named", place, 0, look.named);
+    answer.u32("siamrung_link", place, look.link);
     let values = look.report.as_ref().and_then(|report| report.values());
     answer.u32("siamrung_has_values", place, u32::from(values.is_some()));
     let (nmi, degrees, seconds) = values.unwrap_or((0, 0, 0));

@@ -40,7 +40,7 @@ fn items(layout: &Layout, end: End) -> Vec<(u64, u64)> {
 // ---- lines
 
 fn line_of(words: &[u16], step: u32) -> Case {
-    Case::Line { bytes: line::to_bytes(words), form: 0, step, places: vec![0, words.len() as u64] }
+    Case::Line { bytes: line::to_bytes(words), form: 0, link: 0, step, places: vec![0, words.len() as u64] }
 }
 
 /// Every number of sixteen bits, an idle word behind each; the idle word itself is there too, and no run.

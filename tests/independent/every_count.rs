@@ -26,7 +26,7 @@ fn line_of(layout: &Layout, item: u32, from: u64, to: u64) -> Case {
         words.extend(report::to_words(&report::with_parity(&text)));
         words.push(IDLE);
     }
-    Case::Line { bytes: line::to_bytes(&words), form: 0, step: 512, places: Vec::new() }
+    Case::Line { bytes: line::to_bytes(&words), form: 0, link: 0, step: 512, places: Vec::new() }
 }
 
 fn lines_of(layout: &Layout, item: u32, width: usize) -> Vec<Named> {

@@ -2,7 +2,7 @@
 
 use crate::answer::{hex, Answer};
 use crate::bits;
-use crate::case::{put_bytes, put_numbers};
+use crate::case::{pattern, put_bytes, put_numbers};
 use crate::frame::{self, Look, Stream, Write};
 use crate::frame_totals::FrameTotals;
 use crate::line::END;
@@ -35,11 +35,6 @@ pub struct Writing {
 
 /// No field needs a larger buffer. Of a greater size only so many bytes are there.
 pub const MOST_ROOM: u64 = 256;
-
-/// What a buffer holds before a field is copied to it.
-fn pattern(room: u64) -> Vec<u8> {
-    (0..room.min(MOST_ROOM)).map(|index| ((165 + 7 * index) % 256) as u8).collect()
-}
 
 fn put_stream(message: &mut Vec<u8>, bytes: &[u8], numbers: [u64; 3], rooms: &[u64]) {
     put_bytes(message, bytes);
@@ -163,7 +158,7 @@ fn expect_look(answer: &mut Answer, totals: &mut FrameTotals, place: u64, look: 
     answer.u64("siamrung_frame_field_count", place, 0, frame.map_or(0, |frame| frame.field.len() as u64));
     let field = frame.map_or(Vec::new(), |frame| bits::to_bytes(&frame.field));
     for &room in rooms {
-        let mut buffer = pattern(room);
+        let mut buffer = pattern(room.min(MOST_ROOM));
         let fits = field.len() as u64 <= room;
         if fits {
             buffer[..field.len()].copy_from_slice(&field);

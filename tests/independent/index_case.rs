@@ -4,16 +4,17 @@ use crate::answer::{hex, Answer};
 use crate::case::{put_bytes, Tables};
 use crate::index::{self, Done, Entry, Index};
 use crate::index_totals::Call;
-use crate::line::{self, Look, END};
+use crate::line::{self, Lent, Look, END};
 use crate::totals::Totals;
+use std::collections::BTreeMap;
 
 /// One call, or the calls of a walk. A line is named by its place among the case's lines.
 #[derive(Clone, Copy, Debug)]
 pub enum Step {
     /// The report at the place is entered.
-    Enter { line: usize, place: u64, form: u32, scan: u32 },
+    Enter { line: usize, place: u64, form: u32, link: u32, scan: u32 },
     /// From the place on every outcome of the line is entered.
-    Walk { line: usize, place: u64, form: u32, scan: u32 },
+    Walk { line: usize, place: u64, form: u32, link: u32, scan: u32 },
     /// A number is looked for.
     Find { number: u32 },
 }
@@ -40,6 +41,14 @@ impl Indexing {
         &self.entries[self.front..self.entries.len().min(self.front.saturating_add(self.size as usize))]
     }
 
+    /// The form and the link number of each call that reads a line.
+    pub fn forms_and_links(&mut self) -> impl Iterator<Item = (&mut u32, &mut u32)> {
+        self.steps.iter_mut().filter_map(|step| match step {
+            Step::Enter { form, link, .. } | Step::Walk { form, link, .. } => Some((form, link)),
+            Step::Find { .. } => None,
+        })
+    }
+
     pub fn put(&self, message: &mut Vec<u8>) {
         message.extend_from_slice(&(self.front as u32).to_be_bytes());
         message.extend_from_slice(&self.size.to_be_bytes());
@@ -50,8 +59,8 @@ impl Indexing {
         message.extend_from_slice(&(self.steps.len() as u32).to_be_bytes());
         for step in &self.steps {
             match *step {
-                Step::Enter { line, place, form, scan } => put_entering(message, b'e', line, place, [form, scan]),
-                Step::Walk { line, place, form, scan } => put_entering(message, b'w', line, place, [form, scan]),
+                Step::Enter { line, place, form, link, scan } => put_entering(message, b'e', line, place, [form, link, scan]),
+                Step::Walk { line, place, form, link, scan } => put_entering(message, b'w', line, place, [form, link, scan]),
                 Step::Find { number } => {
                     message.push(b'f');
                     message.extend_from_slice(&number.to_be_bytes());
@@ -76,18 +85,20 @@ impl Indexing {
 
     fn run(&self, tables: &Tables, answer: &mut Answer, totals: &mut Totals) -> Now {
         let lines: Vec<Vec<u16>> = self.lines.iter().map(|bytes| line::words(bytes)).collect();
+        let lent = |at: usize, form: u32, link: u32| {
+            let (layouts, length, words) = (tables.of(form), self.lines[at].len(), &lines[at][..]);
+            Lent { form, layouts, link, length, words }
+        };
         let mut now = Now::of(self);
         totals.index.table(self, &now.index.faults);
         for (turn, step) in self.steps.iter().enumerate() {
             let turn = turn as u64;
             match *step {
-                Step::Enter { line, place, form, scan } => {
-                    let at = Place { length: self.lines[line].len(), words: &lines[line], place, form, scan };
-                    now.enter(tables, answer, totals, turn, &at);
+                Step::Enter { line, place, form, link, scan } => {
+                    now.enter(answer, totals, turn, &Place { line: lent(line, form, link), place, scan });
                 }
-                Step::Walk { line, place, form, scan } => {
-                    let at = Place { length: self.lines[line].len(), words: &lines[line], place, form, scan };
-                    now.walk(tables, answer, totals, turn, at);
+                Step::Walk { line, place, form, link, scan } => {
+                    now.walk(answer, totals, turn, Place { line: lent(line, form, link), place, scan });
                 }
                 Step::Find { number } => {
                     let done = now.index.find(number);
@@ -114,20 +125,18 @@ impl Indexing {
     }
 }
 
-fn put_entering(message: &mut Vec<u8>, tag: u8, line: usize, place: u64, [form, scan]: [u32; 2]) {
+/// Form, link number and scan number stand behind the place.
+fn put_entering(message: &mut Vec<u8>, tag: u8, line: usize, place: u64, behind: [u32; 3]) {
     message.push(tag);
     message.extend_from_slice(&(line as u32).to_be_bytes());
     message.extend_from_slice(&place.to_be_bytes());
-    message.extend_from_slice(&form.to_be_bytes());
-    message.extend_from_slice(&scan.to_be_bytes());
+    behind.iter().for_each(|number| message.extend_from_slice(&number.to_be_bytes()));
 }
 
 /// What siamrung_index_enter is asked.
 struct Place<'a> {
-    length: usize,
-    words: &'a [u16],
+    line: Lent<'a>,
     place: u64,
-    form: u32,
     scan: u32,
 }
 
@@ -139,6 +148,8 @@ struct Now {
     there: usize,
     /// all reports with a file number that were handed in
     seen: Vec<Entry>,
+    /// the link on which each of their numbers came last
+    links: BTreeMap<u16, u32>,
     /// what the calls answered
     dones: Vec<Done>,
 }
@@ -147,7 +158,8 @@ impl Now {
     fn of(case: &Indexing) -> Now {
         let table = case.table();
         let index = Index::of(table, case.size);
-        Now { index, entries: case.entries.clone(), front: case.front, there: table.len(), seen: Vec::new(), dones: Vec::new() }
+        let (entries, front, there) = (case.entries.clone(), case.front, table.len());
+        Now { index, entries, front, there, seen: Vec::new(), links: BTreeMap::new(), dones: Vec::new() }
     }
 
     /// The places of the table among the entries.
@@ -156,13 +168,14 @@ impl Now {
     }
 
     /// One call; answers what stands at the place.
-    fn enter(&mut self, tables: &Tables, answer: &mut Answer, totals: &mut Totals, turn: u64, at: &Place) -> Look {
-        let look = line::look(tables.of(at.form), at.length, at.words, at.place);
+    fn enter(&mut self, answer: &mut Answer, totals: &mut Totals, turn: u64, at: &Place) -> Look {
+        let look = at.line.look(at.place);
         let entry = index::entry_of(&look, at.scan);
         let done = self.index.enter(entry);
-        let table = &self.entries[self.lent()];
-        totals.altitudes.enter(at.form, &look, done);
-        totals.index.enter(&Call { table, faults: &self.index.faults, words: at.words, place: at.place, look: &look, entry, done });
+        let call = Call { table: &self.entries[self.lent()], faults: &self.index.faults, line: &at.line, place: at.place, look: &look, entry, done };
+        totals.altitudes.enter(at.line.form, &look, done);
+        totals.index.enter(&call);
+        totals.links.enter(&call, &mut self.links);
         self.seen.extend(entry);
         self.dones.push(done);
         expect_done(answer, "siamrung_index_enter", turn, done);
@@ -184,14 +197,14 @@ impl Now {
     }
 
     /// Every outcome from the place on, up to the end or to a place that gives itself back.
-    fn walk(&mut self, tables: &Tables, answer: &mut Answer, totals: &mut Totals, turn: u64, mut at: Place) {
+    fn walk(&mut self, answer: &mut Answer, totals: &mut Totals, turn: u64, mut at: Place) {
         let mut outcomes = 0;
         loop {
-            let look = self.enter(tables, answer, totals, turn, &at);
+            let look = self.enter(answer, totals, turn, &at);
             answer.u64("siamrung_after", at.place, turn, look.after);
             outcomes += 1;
             if look.kind == END || look.after == at.place {
-                return totals.index.walk(at.words.len(), outcomes);
+                return totals.index.walk(at.line.words.len(), outcomes);
             }
             at.place = look.after;
         }

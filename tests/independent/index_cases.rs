@@ -8,8 +8,9 @@ use crate::case::{Case, Tables};
 use crate::index::{self, Entry, FILE};
 use crate::index_case::{Indexing, Step};
 use crate::layout::Layout;
-use crate::line::{self, IDLE};
+use crate::line::{self, Lent, IDLE};
 use crate::line_cases::{damaged, minus_zero, noise, odd_word, unassigned_radar, valid_items};
+use crate::link_cases;
 use crate::report;
 use crate::rng::Rng;
 use std::collections::BTreeSet;
@@ -246,7 +247,7 @@ impl Made {
 }
 
 /// A report with the damage that is the most seldom otherwise: refusal 7, refusal 9.
-fn seldom(rng: &mut Rng, tables: &Tables) -> Vec<u16> {
+pub fn seldom(rng: &mut Rng, tables: &Tables) -> Vec<u16> {
     let text = if rng.below(3) > 0 { unassigned_radar(rng, tables) } else { minus_zero(rng, tables) };
     report::to_words(&text)
 }
@@ -287,12 +288,8 @@ fn apart(rng: &mut Rng, tables: &Tables, numbers: &[u16]) -> Made {
 fn numbers_met(tables: &Tables, lines: &[Made]) -> BTreeSet<u16> {
     let mut numbers = BTreeSet::new();
     for made in lines {
-        let mut place = 0;
-        while place < made.words.len() as u64 {
-            let look = line::look(&tables.reports, 2 * made.words.len(), &made.words, place);
-            numbers.extend(index::entry_of(&look, 0).map(|entry| entry.number));
-            place = look.after;
-        }
+        let line = Lent { form: 0, layouts: &tables.reports, link: 0, length: 2 * made.words.len(), words: &made.words };
+        numbers.extend(line.walk().filter_map(|(_, look)| index::entry_of(&look, 0)).map(|entry| entry.number));
     }
     numbers
 }
@@ -345,13 +342,18 @@ fn lend_bytes(rng: &mut Rng, pool: &[u16], table: Vec<Entry>, lines: Vec<Vec<u8>
     Indexing { entries, front, size, lines, steps }
 }
 
+/// A call that enters, in document 01's form, with one of those link numbers.
+fn entering(rng: &mut Rng, line: usize, place: u64, links: fn(&mut Rng) -> u32) -> Step {
+    Step::Enter { line, place, form: 0, link: links(rng), scan: scan(rng) }
+}
+
 /// Calls that enter from the lines, and some that look for numbers between them.
 fn calls(rng: &mut Rng, pool: &[u16], table: &[Entry], lines: &[Made], enters: u64, finds: u64) -> Vec<Step> {
     let mut steps: Vec<Step> = Vec::new();
     for _ in 0..enters {
         let line = rng.index(lines.len());
         let place = place(rng, &lines[line]);
-        steps.push(Step::Enter { line, place, form: 0, scan: scan(rng) });
+        steps.push(entering(rng, line, place, link_cases::mostly));
     }
     for _ in 0..finds {
         let at = rng.index(steps.len() + 1);
@@ -392,7 +394,7 @@ fn large(rng: &mut Rng, tables: &Tables, turn: u64) -> Indexing {
     let pool = [base, base + 1, base + 2];
     let table = sound_without(rng, &pool, &pool, size, used);
     let made = apart(rng, tables, &pool);
-    let enter = |rng: &mut Rng, which: usize| Step::Enter { line: 0, place: made.starts[which], form: 0, scan: scan(rng) };
+    let enter = |rng: &mut Rng, which: usize| entering(rng, 0, made.starts[which], link_cases::link);
     let mut steps = vec![enter(rng, 0), Step::Find { number: u32::from(base) }, enter(rng, 0), enter(rng, 1), enter(rng, 1)];
     steps.extend([Step::Find { number: u32::from(base + 1) }, enter(rng, 2), Step::Find { number: sought(rng, &pool, &table) }]);
     if used > 0 {
@@ -408,7 +410,7 @@ fn full(rng: &mut Rng, tables: &Tables, turn: u64) -> Indexing {
     let mut table = sound_without(rng, &pool, &pool, MOST_ENTRIES, MOST_ENTRIES);
     table[(turn / 2 * 5 % 512) as usize].number = base;
     let made = apart(rng, tables, &pool);
-    let mut steps: Vec<Step> = made.starts.iter().map(|&place| Step::Enter { line: 0, place, form: 0, scan: scan(rng) }).collect();
+    let mut steps: Vec<Step> = made.starts.iter().map(|&place| entering(rng, 0, place, link_cases::link)).collect();
     steps.push(Step::Find { number: u32::from(*rng.pick(&pool)) });
     lend(rng, &pool, table, &[made], steps)
 }
@@ -420,7 +422,7 @@ fn in_turn(rng: &mut Rng, tables: &Tables, turn: u64) -> Indexing {
     let mut table: Vec<Entry> = (1..=used as u16).map(|k| entry(rng, pool[0] + 4096 * k)).collect();
     table.extend((0..6 + rng.index(3)).map(|_| unused(rng)));
     let made = apart(rng, tables, &pool);
-    let mut steps = vec![Step::Walk { line: 0, place: 0, form: 0, scan: scan(rng) }];
+    let mut steps = vec![Step::Walk { line: 0, place: 0, form: 0, link: link_cases::link(rng), scan: scan(rng) }];
     steps.extend([Step::Find { number: u32::from(pool[5]) }, Step::Find { number: u32::from(pool[0]) }]);
     lend(rng, &pool, table, &[made], steps)
 }
@@ -439,13 +441,29 @@ fn walked(rng: &mut Rng, tables: &Tables, numbers: u64, segments: u64) -> Indexi
     let first = scan(rng);
     let step = *rng.pick(&[1, 1, 0, u32::MAX]);
     let scan = |line: usize| first.wrapping_add(step.wrapping_mul(line as u32));
-    let mut steps: Vec<Step> = (0..lines.len()).map(|line| Step::Walk { line, place: 0, form: 0, scan: scan(line) }).collect();
+    let walk = |line: usize| Step::Walk { line, place: 0, form: 0, link: link_cases::link(rng), scan: scan(line) };
+    let mut steps: Vec<Step> = (0..lines.len()).map(walk).collect();
     if rng.once_in(8) {
         let place = place(rng, &lines[0]);
-        steps.push(Step::Walk { line: 0, place, form: 0, scan: first });
+        steps.push(Step::Walk { line: 0, place, form: 0, link: link_cases::mostly(rng), scan: first });
     }
     steps.extend((0..2).map(|_| Step::Find { number: u32::from(*rng.pick(&pool)) }));
     lend(rng, &pool, table, &lines, steps)
+}
+
+/// Six reports with few file numbers, each entered twice at most on any link, and then all in a walk; into a small table, mostly with room.
+pub fn few_numbers(rng: &mut Rng, tables: &Tables) -> Indexing {
+    let more = rng.between(1, 3);
+    let pool = pool(rng, more);
+    let numbers: Vec<u16> = (0..6).map(|_| *rng.pick(&pool)).collect();
+    let made = apart(rng, tables, &numbers);
+    let used = rng.index(2);
+    let size = used + rng.index(5);
+    let table = sound(rng, &pool, size, used);
+    let mut steps: Vec<Step> = made.starts.iter().chain(&made.starts[..3]).map(|&place| entering(rng, 0, place, link_cases::mostly)).collect();
+    rng.shuffle(&mut steps);
+    steps.push(Step::Walk { line: 0, place: 0, form: 0, link: link_cases::link(rng), scan: scan(rng) });
+    lend(rng, &pool, table, &[made], steps)
 }
 
 /// A line that is refused for its length, or just not, with reports on it; entered from anywhere.
@@ -470,7 +488,10 @@ fn refused_line(rng: &mut Rng, tables: &Tables, turn: u64) -> Indexing {
     let mut steps = calls(rng, &pool, &table, std::slice::from_ref(&made), if turn % 8 == 0 { 20 } else { 8 }, 1);
     if turn % 2 == 0 {
         let (words, start) = (made.words.len() as u64, made.starts[0]);
-        steps.extend((0..4).map(|_| Step::Enter { line: 0, place: beyond(rng, words, start), form: 0, scan: scan(rng) }));
+        for _ in 0..4 {
+            let place = beyond(rng, words, start);
+            steps.push(entering(rng, 0, place, link_cases::link));
+        }
     }
     let mut bytes = made.bytes();
     if odd {

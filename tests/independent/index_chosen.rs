@@ -84,11 +84,11 @@ pub fn bytes_of(text: &str) -> Vec<u8> {
 }
 
 const fn enter(line: usize, place: u64, scan: u32) -> Step {
-    Step::Enter { line, place, form: 0, scan }
+    Step::Enter { line, place, form: 0, link: 0, scan }
 }
 
 const fn walk(line: usize, scan: u32) -> Step {
-    Step::Walk { line, place: 0, form: 0, scan }
+    Step::Walk { line, place: 0, form: 0, link: 0, scan }
 }
 
 pub const fn find(number: u32) -> Step {
@@ -111,10 +111,10 @@ pub fn checked(tables: &Tables, name: &str, indexing: Indexing, dones: &[Done]) 
 // ---- what is at the place, and what is in the table
 
 /// Outcomes that are entered, all with file number 1.
-const WITH_NUMBER: &[&str] = &["110:1", "111:1", "112:1", "113:1", "114:1", "115:1", "I I 110:1", "3200 1 1 1 1 2 1", "110:1 I 8192"];
+pub const WITH_NUMBER: &[&str] = &["110:1", "111:1", "112:1", "113:1", "114:1", "115:1", "I I 110:1", "3200 1 1 1 1 2 1", "110:1 I 8192"];
 
 /// Outcomes that are not: other kinds, file number 0, refusals 3 to 9, the end.
-const WITHOUT_NUMBER: &[&str] = &[
+pub const WITHOUT_NUMBER: &[&str] = &[
     "101:1",
     "102:1",
     "103:1",
@@ -148,7 +148,7 @@ const WITHOUT_NUMBER: &[&str] = &[
 ];
 
 /// Sound tables, and what number 1 gets.
-const SOUND: &[(&str, Done)] = &[
+pub const SOUND: &[(&str, Done)] = &[
     ("", (51, 0)),
     ("0", (123, 0)),
     ("_", (123, 0)),
@@ -194,7 +194,7 @@ const SOUND: &[(&str, Done)] = &[
 ];
 
 /// Broken tables: every call gets 50.
-const BROKEN: &[&str] = &[
+pub const BROKEN: &[&str] = &[
     // more than 512
     "0*513",
     "_*513",

@@ -4,14 +4,14 @@
 
 use crate::index::{Done, Entry, Faults, BROKEN, ENTERED, FOUND, FULL, LEFT, REPLACED};
 use crate::index_case::{Indexing, Step};
-use crate::line::{Look, END, IDLE, REFUSED};
+use crate::line::{Lent, Look, END, IDLE, NO_SUCH_LINK, REFUSED};
 use crate::tally::{Row, Tally};
 use std::collections::{BTreeMap, BTreeSet};
 
 /// The kinds that have a file number: ATCRBS, its substitutions, MTD, RDAS; and those that have none.
 const WITH_FILE: &[u64] = &[110, 111, 112, 113, 114, 115];
 const WITHOUT_FILE: &[u64] = &[101, 102, 103, 104, 105, 106, 107, 108, 109];
-const REFUSALS: &[u64] = &[2, 14, 1, 3, 4, 5, 6, 7, 8, 9];
+const REFUSALS: &[u64] = &[13, 2, 14, 1, 3, 4, 5, 6, 7, 8, 9];
 /// An entry from here on needs more than a byte to be counted.
 const FAR: u64 = 256;
 
@@ -59,6 +59,7 @@ const BROKEN_TABLES: &[Row] = &[
     ("50, left anyway: file number 0", &[], 1_000),
     ("50, left anyway: a refused run", &[], 1_000),
     ("50, left anyway: a refused line or place", &[], 1_000),
+    ("50, left anyway: a refused link number", &[], 1_000),
     ("50, left anyway: the end", &[], 1_000),
 ];
 
@@ -154,7 +155,7 @@ const DIFFERENT: &[Row] = &[FILES, ENTERED_IN, REPLACED_IN, FOUND_IN];
 pub struct Call<'a> {
     pub table: &'a [Entry],
     pub faults: &'a Faults,
-    pub words: &'a [u16],
+    pub line: &'a Lent<'a>,
     pub place: u64,
     pub look: &'a Look,
     pub entry: Option<Entry>,
@@ -166,7 +167,7 @@ impl Call<'_> {
         u64::from(self.look.kind)
     }
 
-    fn full(&self) -> bool {
+    pub fn full(&self) -> bool {
         self.table.iter().all(Entry::used)
     }
 }
@@ -207,7 +208,7 @@ fn likeness(number: u16, table: &[Entry]) -> Likeness {
     like
 }
 
-fn only(over: bool, behind: bool, twice: bool) -> Faults {
+pub fn only(over: bool, behind: bool, twice: bool) -> Faults {
     Faults { over, behind, twice }
 }
 
@@ -319,8 +320,9 @@ impl IndexTotals {
         match (call.entry, call.look.kind) {
             (Some(entry), _) => self.broken_with_report(call, &entry),
             (None, END) => self.tally.add("50, left anyway: the end"),
-            (None, REFUSED) if matches!(call.look.refusal, 2 | 14 | 1) => self.tally.add("50, left anyway: a refused line or place"),
-            (None, REFUSED) => self.tally.add("50, left anyway: a refused run"),
+            (None, REFUSED) if call.look.is_run() => self.tally.add("50, left anyway: a refused run"),
+            (None, REFUSED) if call.look.refusal == NO_SUCH_LINK => self.tally.add("50, left anyway: a refused link number"),
+            (None, REFUSED) => self.tally.add("50, left anyway: a refused line or place"),
             (None, 110..=115) => self.tally.add("50, left anyway: file number 0"),
             (None, _) => self.tally.add("50, left anyway: a kind without a file number"),
         }
@@ -402,7 +404,7 @@ impl IndexTotals {
 
     /// Entered or replaced.
     fn written(&mut self, call: &Call, entry: &Entry) {
-        let inside = call.place > 0 && call.words[call.place as usize - 1] != IDLE;
+        let inside = call.place > 0 && call.line.words[call.place as usize - 1] != IDLE;
         if matches!(entry.scan, 0 | u32::MAX) {
             self.tally.add_of("entered or replaced, scan N", u64::from(entry.scan));
         }

@@ -6,10 +6,13 @@ use crate::bits;
 use crate::case::{Case, Tables, Write};
 use crate::layout::{encode, Layout, Role, Rule};
 use crate::line::{self, IDLE};
+use crate::link_cases;
 use crate::report::{self, WORD_BITS};
 use crate::rng::Rng;
 
 const MOST_WORDS: usize = 32_768;
+/// A line of more words is long.
+const LONG: usize = 600;
 const LINE: u64 = 1;
 const WRITE: u64 = 2;
 
@@ -206,7 +209,7 @@ fn exactly(rng: &mut Rng, tables: &Tables, words: usize) -> Vec<u16> {
     line
 }
 
-fn short(rng: &mut Rng, tables: &Tables) -> Vec<u16> {
+pub fn short(rng: &mut Rng, tables: &Tables) -> Vec<u16> {
     let words = match rng.below(8) {
         0 => rng.index(10),
         1 => rng.index(300),
@@ -267,7 +270,7 @@ fn each_first_word(rng: &mut Rng, number: usize) -> Option<Vec<u16>> {
 }
 
 /// Beside the walk: places inside runs, at the end, beyond it.
-fn places(rng: &mut Rng, words: usize) -> Vec<u64> {
+pub fn places(rng: &mut Rng, words: usize) -> Vec<u64> {
     let words = words as u64;
     let mut places: Vec<u64> = (0..3).map(|_| rng.between(0, words)).collect();
     places.push(match rng.below(6) {
@@ -281,11 +284,11 @@ fn places(rng: &mut Rng, words: usize) -> Vec<u64> {
     places
 }
 
-pub fn case_of(rng: &mut Rng, bytes: Vec<u8>, form: u32) -> Case {
+pub fn case_of(rng: &mut Rng, bytes: Vec<u8>, form: u32, link: u32) -> Case {
     let words = bytes.len() / 2;
     // On long lines items are asked of some reports only, to keep the number of calls down.
-    let step = if words > 600 { 12 } else { 1 };
-    Case::Line { form, step, places: places(rng, words), bytes }
+    let step = if words > LONG { 12 } else { 1 };
+    Case::Line { form, link, step, places: places(rng, words), bytes }
 }
 
 /// The line with that number, read in document 01's form.
@@ -293,14 +296,15 @@ pub fn line(tables: &Tables, seed: u64, number: u64) -> Case {
     line_in(&mut Rng::new(seed, LINE, number), tables, number, 0)
 }
 
-/// A line whose sort goes by the number, read in a form.
+/// A line whose sort goes by the number, read in a form, on any link. Of the short lines some are read with a number that is no link's.
 pub fn line_in(rng: &mut Rng, tables: &Tables, number: u64, form: u32) -> Case {
     if number % 4 == 0 {
         let turn = (number / 4) as usize;
         let all = bits_of_all(tables);
         let made = if turn < all { each_bit(rng, tables, turn) } else { each_first_word(rng, turn - all) };
         if let Some(words) = made {
-            return case_of(rng, line::to_bytes(&words), form);
+            let link = link_cases::link(rng);
+            return case_of(rng, line::to_bytes(&words), form, link);
         }
     }
     let words = if number % 800 == 7 {
@@ -317,7 +321,8 @@ pub fn line_in(rng: &mut Rng, tables: &Tables, number: u64, form: u32) -> Case {
     if number % 50 == 9 || (number % 160 == 5 && rng.once_in(2)) {
         bytes.push(rng.below(256) as u8);
     }
-    case_of(rng, bytes, form)
+    let link = if words.len() > LONG { link_cases::link(rng) } else { link_cases::mostly(rng) };
+    case_of(rng, bytes, form, link)
 }
 
 // ---- writing

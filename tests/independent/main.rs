@@ -9,15 +9,17 @@
 //!                                                           document 01's form of the altitude; then as many lines, writings of reports
 //!                                                           and tables in both forms, and more whose altitudes stand at the limits; then
 //!                                                           the breaches of LINES lines made for them, and of a quarter as many others;
-//!                                                           from 20,000 lines and 50,000 fields on (ELMs: 50,000 fields; both forms and
-//!                                                           breaches: 20,000 lines), from 20,000 streams on, and from 20,000 tables on,
-//!                                                           the quotas have to be met; 0 leaves a part out
+//!                                                           then lines and tables on several links; from 20,000 lines and 50,000 fields
+//!                                                           on (ELMs: 50,000 fields; both forms, breaches and links: 20,000 lines), from
+//!                                                           20,000 streams on, and from 20,000 tables on, the quotas have to be met; 0
+//!                                                           leaves a part out
 //!   independent chosen COMMAND..                            compares nmi, degrees and seconds for every count of every field, and the
 //!                                                           cases of chosen.rs, segment_chosen.rs, altitude_chosen.rs, frame_chosen.rs,
-//!                                                           index_chosen.rs and manners_chosen.rs
+//!                                                           index_chosen.rs, manners_chosen.rs and link_chosen.rs
 //!   independent chosen-frames COMMAND..                     compares the cases of frame_chosen.rs alone
 //!   independent chosen-index COMMAND..                      compares the cases of index_chosen.rs alone, those that take long left out
 //!   independent chosen-manners COMMAND..                    compares the cases of manners_chosen.rs alone, those that take long left out
+//!   independent chosen-links COMMAND..                      compares the cases of link_chosen.rs alone
 //!
 //! A difference is printed with its case, and the program then ends with 1.
 
@@ -46,6 +48,10 @@ mod index_totals;
 mod layout;
 mod line;
 mod line_cases;
+mod link_case;
+mod link_cases;
+mod link_chosen;
+mod link_totals;
 mod manners;
 mod manners_case;
 mod manners_cases;
@@ -114,19 +120,11 @@ fn cases_of_index(seed: u64, count: u64) -> impl Iterator<Item = Named> {
     (0..count).map(move |number| (format!("seed {}, table {}", seed, number), index_cases::table(&tables, seed, number)))
 }
 
-/// Lines, writings and tables in both forms of the altitude: a name, how many there are, and what makes the one with a number.
+/// A sort of cases: a name, how many there are, and what makes the one with a number.
 type Sort = (&'static str, u64, fn(&Tables, u64, u64) -> Case);
 
-/// The cases of both forms, in order.
-fn cases_of_forms(seed: u64, lines: u64, count: u64) -> impl Iterator<Item = Named> {
-    let sorts: [Sort; 6] = [
-        ("line in a form", lines, altitude_cases::line),
-        ("line of altitudes", lines / 2, altitude_cases::line_of_altitudes),
-        ("writing in a form", lines / 2, altitude_cases::write),
-        ("writing of an altitude", lines, altitude_cases::write_of_altitude),
-        ("table in both forms", count, altitude_cases::table),
-        ("table of altitudes", count / 2, altitude_cases::table_of_altitudes),
-    ];
+/// The cases of several sorts, in order.
+fn cases_of_sorts(seed: u64, sorts: Vec<Sort>) -> impl Iterator<Item = Named> {
     let tables = Rc::new(Tables::new());
     sorts.into_iter().flat_map(move |(name, count, make)| {
         let tables = Rc::clone(&tables);
@@ -134,13 +132,34 @@ fn cases_of_forms(seed: u64, lines: u64, count: u64) -> impl Iterator<Item = Nam
     })
 }
 
+/// The cases of both forms, in order.
+fn cases_of_forms(seed: u64, lines: u64, count: u64) -> impl Iterator<Item = Named> {
+    let sorts: Vec<Sort> = vec![
+        ("line in a form", lines, altitude_cases::line),
+        ("line of altitudes", lines / 2, altitude_cases::line_of_altitudes),
+        ("writing in a form", lines / 2, altitude_cases::write),
+        ("writing of an altitude", lines, altitude_cases::write_of_altitude),
+        ("table in both forms", count, altitude_cases::table),
+        ("table of altitudes", count / 2, altitude_cases::table_of_altitudes),
+    ];
+    cases_of_sorts(seed, sorts)
+}
+
 /// The cases of breaches, in order.
 fn cases_of_manners(seed: u64, lines: u64) -> impl Iterator<Item = Named> {
-    let tables = Rc::new(Tables::new());
-    let others = Rc::clone(&tables);
-    let line = move |number| (format!("seed {}, line of breaches {}", seed, number), manners_cases::line(&tables, seed, number));
-    let other = move |number| (format!("seed {}, any line of breaches {}", seed, number), manners_cases::any_line(&others, seed, number));
-    (0..lines).map(line).chain((0..lines / 4).map(other))
+    let sorts: Vec<Sort> = vec![("line of breaches", lines, manners_cases::line), ("any line of breaches", lines / 4, manners_cases::any_line)];
+    cases_of_sorts(seed, sorts)
+}
+
+/// The cases of links, in order.
+fn cases_of_links(seed: u64, lines: u64, count: u64) -> impl Iterator<Item = Named> {
+    let sorts: Vec<Sort> = vec![
+        ("line on a link", lines, link_cases::line),
+        ("line on several links", lines / 2, link_cases::links),
+        ("table on several links", count / 2, link_cases::table),
+        ("table of links", count / 2, link_cases::table_of_links),
+    ];
+    cases_of_sorts(seed, sorts)
 }
 
 fn compare(seed: u64, [lines, fields, frames, tables]: [u64; 4], command: &[String]) -> Result<(), String> {
@@ -166,15 +185,13 @@ fn compare(seed: u64, [lines, fields, frames, tables]: [u64; 4], command: &[Stri
         short.extend(below.into_iter().filter(|_| tables >= 20_000));
     }
     if lines + tables > 0 {
-        // A run of their own: the quotas of lines and tables have to be met in document 01's form alone.
-        let altitudes = run::run(command, move || cases_of_forms(seed, lines, tables))?.altitudes;
-        let of_lines = if lines > 0 { altitudes.report_lines() } else { Vec::new() };
-        let of_index = if tables > 0 { altitudes.report_index() } else { Vec::new() };
-        short.extend(of_lines.into_iter().filter(|_| lines >= 20_000));
-        short.extend(of_index.into_iter().filter(|_| tables >= 20_000));
+        short.extend(compare_forms(seed, [lines, tables], command)?);
     }
     if lines > 0 {
         short.extend(compare_manners(seed, lines, command)?);
+    }
+    if lines + tables > 0 {
+        short.extend(compare_links(seed, [lines, tables], command)?);
     }
     if !short.is_empty() {
         return Err(format!("below the quota: {}", short.join("; ")));
@@ -183,10 +200,30 @@ fn compare(seed: u64, [lines, fields, frames, tables]: [u64; 4], command: &[Stri
     Ok(())
 }
 
+/// Prints the counts of lines, if there are any, and those of tables, if there are any. Answers what is below its quota.
+fn below([lines, tables]: [u64; 2], of_lines: impl Fn() -> Vec<String>, of_tables: impl Fn() -> Vec<String>) -> Vec<String> {
+    let of_lines = if lines > 0 { of_lines() } else { Vec::new() };
+    let of_tables = if tables > 0 { of_tables() } else { Vec::new() };
+    let of_lines = of_lines.into_iter().filter(|_| lines >= 20_000);
+    of_lines.chain(of_tables.into_iter().filter(|_| tables >= 20_000)).collect()
+}
+
+/// Both forms, in a run of their own: the quotas of lines and tables have to be met in document 01's form alone. Answers what is below its quota.
+fn compare_forms(seed: u64, [lines, tables]: [u64; 2], command: &[String]) -> Result<Vec<String>, String> {
+    let altitudes = run::run(command, move || cases_of_forms(seed, lines, tables))?.altitudes;
+    Ok(below([lines, tables], || altitudes.report_lines(), || altitudes.report_index()))
+}
+
 /// The breaches, in a run of their own: no other quota needs these lines. Answers what is below its quota.
 fn compare_manners(seed: u64, lines: u64, command: &[String]) -> Result<Vec<String>, String> {
     let below = run::run(command, move || cases_of_manners(seed, lines))?.manners.report();
     Ok(below.into_iter().filter(|_| lines >= 20_000).collect())
+}
+
+/// The links, in a run of their own: no other quota needs these lines and tables. Answers what is below its quota.
+fn compare_links(seed: u64, [lines, tables]: [u64; 2], command: &[String]) -> Result<Vec<String>, String> {
+    let links = run::run(command, move || cases_of_links(seed, lines, tables))?.links;
+    Ok(below([lines, tables], || links.report_lines(), || links.report_index()))
 }
 
 fn chosen(command: &[String]) -> Result<(), String> {
@@ -199,7 +236,8 @@ fn chosen(command: &[String]) -> Result<(), String> {
     chosen_altitudes(command)?;
     chosen_frames(command)?;
     chosen_index(command, true)?;
-    chosen_manners(command, true)
+    chosen_manners(command, true)?;
+    chosen_links(command)
 }
 
 fn chosen_altitudes(command: &[String]) -> Result<(), String> {
@@ -228,14 +266,21 @@ fn chosen_manners(command: &[String], long: bool) -> Result<(), String> {
     Ok(())
 }
 
+fn chosen_links(command: &[String]) -> Result<(), String> {
+    let (reads, enters) = run::run(command, link_chosen::cases)?.links.both();
+    println!("chosen cases of links: {} places looked at, {} calls that enter, no difference", reads, enters);
+    Ok(())
+}
+
 fn start(arguments: &[String]) -> Result<(), String> {
     worked::check(&Tables::new());
-    let usage = "usage: independent SEED LINES FIELDS FRAMES TABLES COMMAND.. | (chosen | chosen-frames | chosen-index | chosen-manners) COMMAND..";
+    let usage = "usage: independent SEED LINES FIELDS FRAMES TABLES COMMAND.. | chosen[-frames | -index | -manners | -links] COMMAND..";
     match arguments.first().map(|first| first.as_str()) {
         Some("chosen") if arguments.len() >= 2 => return chosen(&arguments[1..]),
         Some("chosen-frames") if arguments.len() >= 2 => return chosen_frames(&arguments[1..]),
         Some("chosen-index") if arguments.len() >= 2 => return chosen_index(&arguments[1..], false),
         Some("chosen-manners") if arguments.len() >= 2 => return chosen_manners(&arguments[1..], false),
+        Some("chosen-links") if arguments.len() >= 2 => return chosen_links(&arguments[1..]),
         _ if arguments.len() < 6 => return Err(usage.to_string()),
         _ => (),
     }

@@ -1,8 +1,8 @@
 //! Cases for manners: how they are sent to driver.c, and what should come back.
 
 use crate::answer::{hex, Answer};
-use crate::case::{put_bytes, Tables};
-use crate::line::{self, Look, END};
+use crate::case::{pattern, put_bytes, Tables};
+use crate::line::{self, Lent, Look};
 use crate::manners::{self, Breach, LISTED, MOST};
 use crate::manners_totals::Met;
 use crate::totals::Totals;
@@ -23,8 +23,9 @@ pub struct Checking {
     pub bytes: Vec<u8>,
     /// the length that is passed with the line
     pub length: u64,
-    /// the form of the walks
+    /// the form and the link number of the walks
     pub form: u32,
+    pub link: u32,
     pub lends: Vec<Lend>,
 }
 
@@ -39,8 +40,7 @@ impl Lend {
 
     /// The bytes that are there before the call: around the list and in it.
     fn pattern(&self) -> Vec<u8> {
-        let there = u64::from(self.front) + self.length.min(MOST_LIST) + u64::from(self.behind);
-        (0..there).map(|index| ((165 + 7 * index) % 256) as u8).collect()
+        pattern(u64::from(self.front) + self.length.min(MOST_LIST) + u64::from(self.behind))
     }
 
     /// The bytes after the call: only those of the breaches are others.
@@ -63,15 +63,16 @@ pub fn which(form: u32) -> usize {
 }
 
 impl Checking {
-    /// A line with its own length.
+    /// A line with its own length, on link 0.
     pub fn of(bytes: Vec<u8>, form: u32, lends: Vec<Lend>) -> Checking {
-        Checking { length: bytes.len() as u64, bytes, form, lends }
+        Checking { length: bytes.len() as u64, bytes, form, link: 0, lends }
     }
 
     pub fn put(&self, message: &mut Vec<u8>) {
         put_bytes(message, &self.bytes);
         message.extend_from_slice(&self.length.to_be_bytes());
         message.extend_from_slice(&self.form.to_be_bytes());
+        message.extend_from_slice(&self.link.to_be_bytes());
         message.extend_from_slice(&(self.lends.len() as u32).to_be_bytes());
         for lend in &self.lends {
             message.extend_from_slice(&lend.form.to_be_bytes());
@@ -88,23 +89,17 @@ impl Checking {
         lists
     }
 
-    /// The outcomes of a walk, up to the end or to a place that gives itself back. The rules have to be broken by items as they are by bits.
+    /// The outcomes of a walk. The rules have to be broken by items as they are by bits.
     fn looks(&self, tables: &Tables, words: &[u16]) -> Vec<Look> {
-        let mut looks: Vec<Look> = Vec::new();
-        let mut place = 0;
-        loop {
-            let look = line::look(tables.of(self.form), self.length as usize, words, place);
+        let line = Lent { form: self.form, layouts: tables.of(self.form), link: self.link, length: self.length as usize, words };
+        let looks: Vec<Look> = line.walk().map(|(_, look)| look).collect();
+        for look in &looks {
             if let Some(report) = &look.report {
                 let bits = manners::text_of(&words[look.first as usize..look.after as usize]);
                 assert_eq!(manners::broken_by(report), manners::broken(&bits), "{}", bits);
             }
-            let stays = look.kind == END || look.after == place;
-            place = look.after;
-            looks.push(look);
-            if stays {
-                return looks;
-            }
         }
+        looks
     }
 
     pub fn expect(&self, tables: &Tables, answer: &mut Answer, totals: &mut Totals) {
@@ -119,17 +114,10 @@ impl Checking {
         totals.manners.line(tables, &Met { case: self, words: &words, looks: &looks, lists: &lists });
     }
 
-    pub fn near(&self, place: u64) -> String {
-        let words = line::words(&self.bytes);
-        let from = words.len().min(place as usize);
-        let to = words.len().min(from + 24);
-        format!("\nwords from place {}: {:?}", from, &words[from..to])
-    }
-
     pub fn shown(&self) -> String {
         let bytes = if self.bytes.len() > 10_000 { "which are many".to_string() } else { hex(&self.bytes) };
         let line = format!("{} bytes {}, passed with the length {}", self.bytes.len(), bytes, self.length);
-        format!("manners of a line, {}, walked in form {}; calls {:?}", line, self.form, self.lends)
+        format!("manners of a line, {}, walked in form {} on link {}; calls {:?}", line, self.form, self.link, self.lends)
     }
 }
 

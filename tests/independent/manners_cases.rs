@@ -9,6 +9,7 @@ use crate::altitude_cases::{complement, either};
 use crate::case::{Case, Tables};
 use crate::line::{self, IDLE};
 use crate::line_cases::{self, damaged, noise, valid};
+use crate::link_cases;
 use crate::manners::{self, BREACH, MOST};
 use crate::manners_case::{Checking, Lend};
 use crate::manners_runs::{breaking, flipped, nearly, refused, NEARLY_SORTS, REFUSED_SORTS};
@@ -190,7 +191,7 @@ fn needed(tables: &Tables, words: &[u16]) -> u64 {
 fn checking(rng: &mut Rng, tables: &Tables, bytes: Vec<u8>) -> Checking {
     let form = either(rng);
     let lends = lends(rng, form, needed(tables, &line::words(&bytes)));
-    Checking::of(bytes, form, lends)
+    Checking { link: link_cases::link(rng), ..Checking::of(bytes, form, lends) }
 }
 
 // ---- cases

@@ -6,7 +6,7 @@ use crate::altitude_cases::FORMS;
 use crate::bits;
 use crate::case::Tables;
 use crate::layout::Layout;
-use crate::line::{Look, END, IDLE, MOST_BYTES};
+use crate::line::{Look, IDLE, MOST_BYTES};
 use crate::manners::{self, Bits, Breach, BREACH, LISTED, MOST, ODD, RELAY, SUBSTITUTION, TOO_LONG, TOO_SMALL, ZEROS};
 use crate::manners_case::{Checking, Lend, Lists, MOST_LIST};
 use crate::report;
@@ -163,8 +163,7 @@ pub struct Met<'a> {
 
 impl Met<'_> {
     fn runs(&self) -> Vec<Run<'_>> {
-        let is_run = |look: &&Look| look.kind != END && !matches!(look.refusal, 2 | 14 | 1);
-        self.looks.iter().filter(is_run).map(|look| Run::of(look, self.words)).collect()
+        self.looks.iter().filter(|look| look.is_run()).map(|look| Run::of(look, self.words)).collect()
     }
 
     /// The breaches; nothing for a refused line.

@@ -117,6 +117,11 @@ impl Report {
         self.items.iter().find(|item| item.0 == number).map(|item| item.1)
     }
 
+    /// The items as the writer takes them.
+    pub fn record(&self) -> Vec<(u64, u64)> {
+        self.items.iter().map(|&(number, value)| (u64::from(number), value as u64)).collect()
+    }
+
     /// Range, azimuth and time as the bits of floats; nothing for Status. A Map's range is its start, and its time 0.
     pub fn values(&self) -> Option<(u64, u64, u64)> {
         let range = self.item(RANGE).or_else(|| self.item(START))?;

@@ -9,6 +9,10 @@ use std::process::{Child, ChildStdin, ChildStdout, Command, Stdio};
 use std::sync::mpsc::{channel, Receiver, Sender};
 use std::thread;
 
+/// What the head has to say.
+const VERSION: u32 = 8;
+const SIZE_BYTES: u32 = 8;
+
 /// A case with its name, e.g. "line 17".
 pub type Named = (String, Case);
 
@@ -30,8 +34,8 @@ impl Driver {
         let output = child.stdout.take().ok_or("no output of the driver")?;
         let mut driver = Driver { child, output: BufReader::with_capacity(1 << 16, output) };
         let head = driver.answer()?;
-        if head != [0, 0, 0, 7, 0, 0, 0, 8] {
-            return Err(format!("version 7 and a size_t of 8 bytes are needed, came {:?}", head));
+        if head != [VERSION.to_be_bytes(), SIZE_BYTES.to_be_bytes()].concat() {
+            return Err(format!("version {} and a size_t of {} bytes are needed, came {:?}", VERSION, SIZE_BYTES, head));
         }
         Ok((driver, input))
     }
@@ -75,6 +79,7 @@ fn compare(driver: &mut Driver, tables: &Tables, totals: &mut Totals, named: &Na
     let expected = named.1.expect(tables, totals, false);
     let shown = || format!("{}: {}", named.0, named.1.shown());
     let came = driver.answer().map_err(|error| format!("{}\n{}", shown(), error))?;
+    named.1.check(&came, totals).map_err(|error| format!("{}\n{}", shown(), error))?;
     if came == expected.bytes {
         return Ok(());
     }

@@ -4,12 +4,13 @@ use crate::altitude_totals::AltitudeTotals;
 use crate::field::{Record, RELAY};
 use crate::frame_totals::FrameTotals;
 use crate::index_totals::IndexTotals;
-use crate::line::{self, Look, MOST_BYTES};
+use crate::line::{is_link, Lent, Look, MOST_BYTES};
+use crate::link_totals::LinkTotals;
 use crate::manners_totals::MannersTotals;
 use crate::segment_totals::SegmentTotals;
 use std::collections::BTreeMap;
 
-pub const LINE_REFUSALS: &[u32] = &[2, 14, 1, 3, 4, 5, 6, 7, 8, 9];
+pub const LINE_REFUSALS: &[u32] = &[13, 2, 14, 1, 3, 4, 5, 6, 7, 8, 9];
 pub const WRITE_REFUSALS: &[u32] = &[2, 14, 1, 11, 10];
 pub const FIELD_REFUSALS: &[u32] = &[20, 21, 22, 23, 24, 25, 29, 26, 27, 28];
 pub const FIELD_WRITE_REFUSALS: &[u32] = &[30, 31];
@@ -32,6 +33,7 @@ pub struct Totals {
     pub segments: SegmentTotals,
     pub altitudes: AltitudeTotals,
     pub manners: MannersTotals,
+    pub links: LinkTotals,
     /// reports by place in the list of layouts
     layouts: Tally,
     types: Tally,
@@ -59,18 +61,21 @@ pub fn say(short: &mut Vec<String>, name: String, count: u64, quota: u64) {
 }
 
 impl Totals {
-    pub fn line(&mut self, length: usize) {
+    /// A line to walk. Its words are counted only if its link number is accepted.
+    pub fn line(&mut self, line: &Lent) {
         self.lines += 1;
-        if length <= MOST_BYTES {
-            self.words += (length / 2) as u64;
-            self.over_thousand += u64::from(length / 2 > 1000);
-            self.full += u64::from(length == MOST_BYTES);
+        if line.length <= MOST_BYTES && is_link(line.link) {
+            self.words += (line.length / 2) as u64;
+            self.over_thousand += u64::from(line.length / 2 > 1000);
+            self.full += u64::from(line.length == MOST_BYTES);
         }
+        self.links.line();
     }
 
-    pub fn look(&mut self, look: &Look, walked: bool) {
-        let run = look.kind != line::END && !matches!(look.refusal, 1 | 2 | 14);
-        self.runs += u64::from(walked && run);
+    pub fn look(&mut self, line: &Lent, place: u64, look: &Look, walked: bool) {
+        self.altitudes.look(line.form, look);
+        self.links.look(line, place, look, walked);
+        self.runs += u64::from(walked && look.is_run());
         self.places += u64::from(!walked);
         if let Some(report) = &look.report {
             add(&mut self.layouts, report.layout as u32);

@@ -1,6 +1,6 @@
 //! The worked cases of document 01 (C1 to C12, the lister's example, the flipped bit of "Three easy errors"), an ELM of one segment, both forms
-//! of every altitude, known frames, a small index and a line with breaches, run on this program itself: before it judges the library it has to
-//! agree with the paper.
+//! of every altitude, link numbers, known frames, a small index and a line with breaches, run on this program itself: before it judges the
+//! library it has to agree with the paper.
 
 use crate::altitude_cases::FORMS;
 use crate::bits;
@@ -99,7 +99,7 @@ fn both_ways(tables: &Tables) {
                 let items = valid_items(rng, layout);
                 let words = report::write(layouts, layout.number, &items).expect("valid values are written");
                 let read = line::look(layouts, 2 * words.len(), &words, 0).report.expect("what is written is read");
-                let again: Vec<(u64, u64)> = read.items.iter().map(|&(number, value)| (u64::from(number), value as u64)).collect();
+                let again = read.record();
                 assert_eq!((read.layout, &again), (index, &items));
                 assert_eq!(report::write(layouts, layout.number, &again), Some(words));
             }
@@ -152,6 +152,26 @@ fn forms(tables: &Tables) {
     }
     let unlike = tables.of(0).iter().zip(tables.of(1)).filter(|(one, other)| one.pieces != other.pieces).map(|pair| pair.0.name);
     assert_eq!(unlike.collect::<Vec<_>>(), ["DABS with altitude", "ATCRBS with altitude"]);
+}
+
+/// C1 on links, and with numbers that are no link's; a line too long, a place beyond the line, the end (Ticket 7 of document 02).
+fn links(tables: &Tables) {
+    let c1 = [868, 1281, 2048, 647];
+    let look = |link: u32, length: usize, place: u64| {
+        let look = line::Lent { form: 0, layouts: &tables.reports, link, length, words: &c1 }.look(place);
+        (look.kind, look.refusal, [look.first, look.after, look.named], look.link, look.report.is_some())
+    };
+    for link in 0..=15 {
+        assert_eq!(look(link, 8, 0), (101, 0, [0, 4, 0], link, true));
+        assert_eq!(look(link, 8, 1), (120, 5, [1, 4, 1], link, false));
+        assert_eq!(look(link, 8, 4), (121, 0, [4, 4, 4], link, false));
+        assert_eq!(look(link, 8, 5), (120, 1, [5, 5, 5], link, false));
+        assert_eq!(look(link, 7, 0), (120, 14, [0, 0, 0], link, false));
+        assert_eq!(look(link, 65_538, 3), (120, 2, [3, 3, 3], link, false));
+    }
+    for (link, length, place) in [(16, 8, 0), (17, 8, 4), (271, 8, 5), (1 << 31, 7, 1), (u32::MAX, 65_538, 3), (16, 0, u64::MAX)] {
+        assert_eq!(look(link, length, place), (120, 13, [place; 3], 0, false));
+    }
 }
 
 /// The known frames are read and written; a check sequence over nine octets; no one or two neighbouring bits may be turned over.
@@ -220,5 +240,6 @@ pub fn check(tables: &Tables) {
     patterns();
     altitudes();
     forms(tables);
+    links(tables);
     both_ways(tables);
 }
