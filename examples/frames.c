@@ -9,6 +9,8 @@
 
 #include "siamrung.h"
 
+#include "version.h"
+
 /* A field has at most 2008 bits. */
 #define MOST 251
 
@@ -261,6 +263,8 @@ int main(void)
     struct stream s = {NULL, 0, 0};
     struct totals t = {0, 0, 0, 0, 0, 0};
     size_t place = 0;
+    if (!right_version("frames"))
+        return 1;
     if (!read_all(&s)) {
         free(s.bytes);
         return 1;

@@ -13,6 +13,7 @@
 #include "altitude_form.h"
 #include "kind_names.h"
 #include "line_reason.h"
+#include "version.h"
 
 /* One byte more than a line may have, so that the library sees when a recording is too long. */
 #define ROOM 65537
@@ -95,6 +96,8 @@ int main(int argc, char **argv)
 {
     static struct line l;
     int good;
+    if (!right_version("manners"))
+        return 1;
     l.form = SIAMRUNG_FORM_SIGN_MAGNITUDE;
     if (take_form(argc, argv, &l.form) != argc) {
         fprintf(stderr, "usage: manners [--twos-complement] < RECORDING\n");

@@ -2,7 +2,8 @@
  * A small recorder: recorder [--twos-complement] [--link NUMBER]. It reads a recording from standard input. It prints each report with its values and
  * units, and each refusal with its reason. At the end it prints how many reports of each kind there were, how many refusals, and how many reports had
  * a height: so one sees at once that a recording has no heights. With --twos-complement it reads altitudes in that form: some sensors send them so.
- * With --link each report and each refusal is printed with the number of the link that it came on, 0 to 15.
+ * With --link each report and each refusal is printed with the number of the link that it came on, 0 to 15. A greater number is refused with 13, and
+ * then no link is printed. The options stand in this order.
  */
 #include <inttypes.h>
 #include <stdio.h>
@@ -15,6 +16,7 @@
 #include "kind_names.h"
 #include "line_reason.h"
 #include "number.h"
+#include "version.h"
 
 /* One byte more than a line may have, so that the library sees when a recording is too long. */
 #define MOST 65537
@@ -132,11 +134,8 @@ int main(int argc, char **argv)
 {
     struct line l = {NULL, 0, SIAMRUNG_FORM_SIGN_MAGNITUDE, 0, 0};
     struct tally t = {{0}, 0, 0, 0};
-    /* compiled with the header of another version, the calls would pass other arguments than the library takes */
-    if (siamrung_version() != SIAMRUNG_VERSION) {
-        fprintf(stderr, "recorder: the library has version %" PRIu32 ", this program needs %d\n", siamrung_version(), SIAMRUNG_VERSION);
+    if (!right_version("recorder"))
         return 1;
-    }
     if (!take_options(argc, argv, &l)) {
         fprintf(stderr, "usage: recorder [--twos-complement] [--link NUMBER] < RECORDING    (a decimal link number, 0 to 15)\n");
         return 2;

@@ -16,6 +16,7 @@
 #include "altitude_form.h"
 #include "line_reason.h"
 #include "number.h"
+#include "version.h"
 
 /* As many as a table may have. */
 #define ENTRIES 512
@@ -171,6 +172,8 @@ int main(int argc, char **argv)
     int good, first = take_form(argc, argv, &form);
     size_t i, count = argc < first + 2 ? 0 : (size_t)(argc - first - 1);
     struct line *lines;
+    if (!right_version("track"))
+        return 1;
     if (count == 0 || !read_number(argv[first], &number)) {
         fprintf(stderr, "usage: track [--twos-complement] NUMBER RECORDING..    (a decimal file number; a recording for each scan, "
                         "the earliest first)\n");

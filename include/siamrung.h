@@ -50,10 +50,11 @@
  * compare its answer with the version that the program was written for. Version 7 added siamrung_manners. Version 8 added siamrung_link, and the
  * argument link behind form in the calls from siamrung_kind to siamrung_seconds and in siamrung_index_enter; with a number from 0 to 15 they do what
  * they did before. Here too a program must be changed, and compiled again before it is linked with this library. In a program that was compiled with
- * an older header, siamrung_has and siamrung_item would take the item's number for the link, siamrung_index_enter the scan number, and the other
- * calls any number: items and whole reports could be missing, and nothing would say so. So let a program compare, before anything else, the answer
- * of siamrung_version with SIAMRUNG_VERSION, as examples/recorder.c does. A call that accepts more than before keeps its name. If the meaning of a
- * call changes in any other way under the same arguments, it gets a new name, so that an old program does not link with it.
+ * the header of version 6 or 7, siamrung_has and siamrung_item would take the item's number for the link, and siamrung_index_enter the scan number.
+ * The other calls would take whatever happens to stand there. So items would be missing, reports would not be entered, and lines could be refused
+ * with 13. Let a program compare, before anything else, the answer of siamrung_version with SIAMRUNG_VERSION, as the programs in examples/ do. A
+ * call that accepts more than before keeps its name. If the meaning of a call changes in any other way under the same arguments, it gets a new name,
+ * so that an old program does not link with it.
  */
 #ifndef SIAMRUNG_H
 #define SIAMRUNG_H

@@ -1,7 +1,7 @@
 // Holds include/siamrung.h to the crates, wherever in them something stands.
-// Numbers: every form of the altitude, kind, type, refusal, item and rule of manners that specs/ numbers stands in the header with the same number, as
-// do the version, the last link number and what a call of the index or of manners has done, and the header has no other. No two kinds, refusals and numbers of what
-// was done are the same, no two items are, and no two rules.
+// Numbers: every form of the altitude, kind, type, refusal, item and rule of manners that specs/ numbers stands in the header with the same number,
+// as do the version, the last link number and what a call of the index or of manners has done, and the header has no other. No two kinds, refusals
+// and numbers of what was done are the same, no two items are, and no two rules.
 // Structs: every `#[repr(C)]` struct stands in the header with the same fields, in order and by name and type, and the header has no other.
 // Calls: every `extern "C"` function stands in the header with the same arguments, in order and by name and type, and the same answer, and the
 // header has no other, but those that it defines itself.

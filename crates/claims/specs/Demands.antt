@@ -84,7 +84,7 @@ abbrev pub OnlyIdleBytesLeft : List ℕ → ℕ → Type 0
 OnlyIdleBytesLeft bytes place = (length bytes ≤ mostBytes) × (length bytes % 2 ≡ 0) × OnlyIdleLeft (wordsIn bytes) place
 
 -- "What can't be accepted gets one numbered refusal": a place has a report, a refusal or the end, and the end is told exactly where only
--- idle words are left and there is such a link, so no word is passed over without a name; a number names one refusal, and 0 names none
+-- idle words are left and the link number is one from 0 to 15, so no word is passed over without a name; a number names one refusal, and 0 names none
 pub record OneNumberedRefusal : Type 0 where
   pub end : (form : AltitudeForm) (link : ℕ) (line : List ℕ) (place : ℕ)
       → (readOn form link line place .outcome .what ≡ W.End) ↔ ((link ≤ lastLink) × OnlyIdleLeft line place)

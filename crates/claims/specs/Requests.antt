@@ -334,20 +334,20 @@ pub record Ticket6 : Type 0 where
 
 -- ---- Ticket 7: which link it came on
 
--- "A site has several parallel surveillance links (section 3). Give every outcome, report or refusal, a link number 0 to 15 that the caller supplies."
--- lines/specs/Links.antt has what the readers answer with a number. wide::read and bytes::read of line_reader promise it, and so does each C call that
--- reads a line at a place. With a number from 0 to 15 the answer is what is found there, and that number (given). Whatever number is given, that of the
--- outcome is one from 0 to 15 (in-range). The manners are read with link 0 (manners); so is a listing, which is claimed in listing/specs/Claims.antt
--- (`LinkZero`)
+-- "A site has several parallel surveillance links (section 3). Give every outcome, report or refusal, a link number 0 to 15 that the caller
+-- supplies." lines/specs/Links.antt has what the readers answer with a number. wide::read and bytes::read of line_reader promise it, and so does each
+-- C call that reads a line at a place. With a number from 0 to 15 the answer is what is found there, and that number (given). The last number is 15
+-- (fifteen). Whatever number is given, that of the outcome is one from 0 to 15 (in-range). The manners are read with link 0 (manners); so is a
+-- listing, which is claimed in listing/specs/Claims.antt (`LinkZero`)
 pub record LinkOfEveryOutcome : Type 0 where
   pub fifteen : lastLink ≡ 15
   pub given : lines.WithItsNumber
   pub in-range : lines.NumberInRange
   pub manners : mannersLink ≡ 0
 
--- "It is no part of the words and doesn't change them." Two readings with two numbers differ in the number alone (alone), and so the index is brought the
--- same (entry; siamrung_index_enter promises this entry, `entryAt` of index_host). The line is lent for reading alone, which the language holds a reader to, and no definition of a word, of the answer to a run or of a
--- writer names a link; neither is a claim here
+-- "It is no part of the words and doesn't change them." Two readings with two numbers differ in the number alone (alone), and so the index is brought
+-- the same (entry; siamrung_index_enter promises this entry, `entryAt` of index_host). The line is lent for reading alone, which the language holds a
+-- reader to, and no definition of a word, of the answer to a run or of a writer names a link; neither is a claim here
 pub record NoPartOfTheWords : Type 0 where
   pub alone : lines.DifferInTheNumber
   pub entry : (form : AltitudeForm) (link other : ℕ) (bytes : List ℕ) (place scan : ℕ) → link ≤ lastLink → other ≤ lastLink
