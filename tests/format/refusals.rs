@@ -1,4 +1,4 @@
-// The refusals: names and numbers, the order in which each call tests them, the places that they name.
+// The refusals: names and numbers, the order in which each call tests them, the places that they name; and that the lister's help names each of a line.
 use crate::definitions::{numbered, upper, File, Numbers};
 use crate::page::{plain, table, Findings, Table, PAGE};
 use crate::sources::{cases, words, FRAMES, HEADER, INDEX, MANNERS, NUMBERS, REFUSALS};
@@ -16,6 +16,9 @@ const OF_WRITING_FRAMES: [&str; 3] = ["CountOrFlag", "WrongLength", "NoRoom"];
 const NOT_OF_READING_FRAMES: [&str; 1] = ["NoRoom"];
 const NOT_OF_FINDING: [&str; 1] = ["TableFull"];
 const BEFORE_LISTING: [&str; 1] = ["LineTooLong"];
+
+// The command that lists a recording; its help stands in it.
+const LISTER: &str = "lister";
 
 // What each call can answer, in the order of the cases of an enum, which is that of the papers' tables.
 fn orders([line, field, frame, index, manners]: [&[(String, u32)]; 5]) -> BTreeMap<String, Vec<u32>> {
@@ -81,6 +84,19 @@ pub fn refusals(page: &[Table], specs: &[File], header: &Numbers, found: &mut Fi
     let begins = reading[..6].iter().map(|number| number.to_string()).collect::<Vec<String>>().join(", ");
     found.that(text.contains(&format!("({begins}, ..)")), || format!("the order of reading a line of bytes: {HEADER} does not say '({begins}, ..)'"));
     places(page, reading, found);
+    helped(&ordered[0], found);
+}
+
+// What ./lister --help says of refusals names every refusal of a line: those of a run each in a row, the others behind the rows.
+fn helped(line: &[(String, u32)], found: &mut Findings) {
+    let file = read_to_string(LISTER).unwrap();
+    let help = file.split_once("\nHELP\n").unwrap_or_else(|| panic!("{LISTER} has no help")).0;
+    let (rows, others) = help.split_once("\nLONG is refusal").unwrap_or_else(|| panic!("{LISTER}: its help does not say what LONG is"));
+    let row = |text: &str| text.strip_prefix("  ").and_then(|text| text.split(' ').next()).map(str::to_string);
+    let said: Vec<String> = rows.lines().filter_map(row).chain(figures(others)).collect();
+    for (name, number) in line {
+        found.that(said.contains(&number.to_string()), || format!("refusal {name}: the help of {LISTER} does not say {number}"));
+    }
 }
 
 // Words with a digit, as conditions have them: 8191, 88-90, 9C.

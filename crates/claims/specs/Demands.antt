@@ -79,7 +79,7 @@ pub record TakeEveryInputAndEnd : Type 0 where
 abbrev pub OnlyIdleLeft : List ℕ → ℕ → Type 0
 OnlyIdleLeft line place = (length line ≤ most) × (place ≤ length line) × (drop place line ≡ replicate (length line - place) idle)
 
--- the same of bytes
+-- the bytes are taken, and the line of the words that they hold has only idle words from the place on
 abbrev pub OnlyIdleBytesLeft : List ℕ → ℕ → Type 0
 OnlyIdleBytesLeft bytes place = (length bytes ≤ mostBytes) × (length bytes % 2 ≡ 0) × OnlyIdleLeft (wordsIn bytes) place
 

@@ -59,7 +59,7 @@ foundNumber (F.Refused q) = indexNumber q
 abbrev pub entryAt : AltitudeForm → ℕ → List ℕ → ℕ → ℕ → Entry
 entryAt form link bytes place scan = entryOf (readBytesOn form link bytes place .outcome) scan
 
--- what entering promises: that is entered
+-- what entering promises: this entry is entered
 pub record Enters (form : AltitudeForm) (link : ℕ) (table : List Entry) (bytes : List ℕ) (place scan answer : ℕ) (exit : List Entry) : Type 0 where
   pub answers : answer ≡ answerNumber (indexed table (entryAt form link bytes place scan .number))
   pub leaves : exit ≡ leftBy (indexed table (entryAt form link bytes place scan .number)) table (entryAt form link bytes place scan)

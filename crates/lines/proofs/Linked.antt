@@ -4,7 +4,7 @@ use Prim.Native.Nat.{ℕ, zero, suc, _+_, _≤_, _<_}
 use mathlib.Core.Path.{_≡_, refl, sym, ap, _∙_}
 use mathlib.Core.Bool.{Bool, true, false, cond}
 use mathlib.Core.Logic.{_↔_}
-use mathlib.Core.List.{List, [], _∷_, _++_, map}
+use mathlib.Core.List.{List, [], _∷_, map}
 use native.Mathlib.Omega.{arith}
 use lib.Dec.{eqb, ltb}
 use lib.ListN.{length, drop}
@@ -15,7 +15,6 @@ use Rattle.rows.proofs.Claims.{differ}
 use Rattle.refusals.specs.declared.LineRefusal.the-variants.{NoSuchLink}
 use Rattle.refusals.specs.Numbers.{lineNumber}
 use Rattle.words.proofs.Tests.{picked, passed, by-test}
-use Rattle.reports.specs.declared.RunAnswer.{RunAnswer}
 use Rattle.reports.specs.Altitude.{AltitudeForm}
 use Rattle.reports.specs.Records.{reportOf}
 use Rattle.reports.specs.Runs.{readRun}
@@ -23,10 +22,10 @@ use Rattle.lines.specs.declared.What.{What}
 use Rattle.lines.specs.declared.What.the-variants as W
 use Rattle.lines.specs.declared.Outcome.{Outcome}
 use Rattle.lines.specs.declared.Received.{Received}
-use Rattle.lines.specs.Line.{notTaken, isEnd, placed, gap, runIn, outcomeAt, lineRows, readBy, readAt, calls, outcomes}
+use Rattle.lines.specs.Line.{notTaken, isEnd, gap, runIn, outcomeAt, lineRows, readBy, readAt, calls}
 use Rattle.lines.specs.Bytes.{wordsIn, byteRows, readBytes}
 use Rattle.lines.specs.Rows.{runRows}
-use Rattle.lines.specs.Links.{lastLink, noLink, receivedOn, onLink, readByOn, callsOn, outcomesOn}
+use Rattle.lines.specs.Links.{lastLink, noLink, receivedOn, onLink, callsOn}
 use Rattle.lines.specs.Claims.{Answer, WithItsNumber, DifferInTheNumber, NumberInRange, NoSuchLinkExactly, NoSuchLinkGives, BytesAsTheirWords, OnOneLink}
 use Rattle.lines.proofs.ByteWords.{bytes-as-words}
 use Rattle.lines.proofs.Refused.{other, by-run}

@@ -1,4 +1,5 @@
-// The line (document 01, "The line" and "Line refusal numbers"): what is found at a place, what the writer answers, and how long a line may be.
+// The line (document 01, "The line" and "Line refusal numbers"): what is found at a place, with the number of its link (document 02, Ticket 7), what the
+// writer answers, and how long a line may be.
 // The reader stands in line_reader, the writer in line_writer; what both mean, and the laws on whole lines, stand here in specs/ and proofs/.
 // Relies on reports for the records, refusals for names.
 ghost use mathlib.Core.Path.{_≡_};
