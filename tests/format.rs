@@ -1,7 +1,7 @@
 // Holds docs/FORMAT.md to the definitions and to the C header, number by number and both ways: limits, weights, kinds, the bits of every layout of
-// a report and of every type of link data field, frames, rules, refusals and the order in which each call tests them. Besides, the page must agree with itself:
-// every data bit of a layout stands in it once, no two layouts fit the same words, and the examples say what their bits say.
-// What a bit means, the page says in words: that is not compared.
+// a report and of every type of link data field, frames, rules, refusals and the order in which each call tests them. Besides, the page must agree with
+// itself: every data bit of a layout stands in it once, no two layouts fit the same words, and the examples say what their bits say.
+// What a bit means, the page says in words: that is not compared. The lister's help must name every refusal of a line.
 mod definitions;
 #[path = "format/fields.rs"]
 mod fields;

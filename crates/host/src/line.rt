@@ -131,8 +131,8 @@ pub extern "C" fn siamrung_link(bytes: &[u8], place: usize, form: u32, link: u32
 
 // ---- the fields of a report
 
-// The outcome is taken out of what is received here and not by outcome_at: else the report is copied twice, and reading every item takes a third more
-// time (docs/PERFORMANCE.md).
+// The outcome is taken out of what is received here and not by outcome_at: else the report is copied twice, and reading every item takes a third to a
+// half more time (docs/PERFORMANCE.md).
 fn item_at(bytes: &[u8], place: usize, form: u32, link: u32, item: u32) -> Item
     ensures { λ r. ⌜ r ≡ itemAt (readBytesOn (chosen form) link (now (bytes .entry)) place .outcome .what) item ⌝ }
 {
