@@ -2,7 +2,7 @@
 // stand before it and by its width. Both calls take every place and every width: what lies past the end reads as 0, and a write there does nothing.
 // Relies on nothing; specs/Bits.antt says what each answer means.
 ghost use Rattle.std.specs.Prelude.{◌≡◌, ◌+◌, ◌-◌, ◌*◌, ◌/◌, ◌%◌, ◌≤◌, ◌<◌, ◌^◌, length};
-ghost use Rattle.bits.specs.Bits.{bit_at, bitsOf, withDigit, withPart, put_bit, putBits};
+ghost use Rattle.bits.specs.Bits.{bit_at, bits_of, with_digit, with_part, put_bit, put_bits};
 
 fn widened(x: u8) -> u64
     ensures { (result ≡ x) × (result < 256) }
@@ -47,7 +47,7 @@ fn beyond(n: usize) -> usize
 // Bit by bit: the number that the n bits after the first `before` make, the first the heaviest; of more than 64 bits, that of the last 64.
 // For places and widths that no caller in a hurry asks for.
 fn by_digits(b: &[u8], before: usize, n: usize) -> u64
-    ensures { result ≡ bitsOf b.now before n % 2 ^ 64 }
+    ensures { result ≡ bits_of b.now before n % 2 ^ 64 }
 {
     let mut v: u64 = 0;
     let mut i = beyond(n);
@@ -68,7 +68,7 @@ fn weight(k: usize) -> u64
 // The number that two bytes make, from the one at j on.
 fn two(b: &[u8], j: usize) -> u64
     requires { j + 2 ≤ length b.now }
-    ensures { (result ≡ bitsOf b.now (j * 8) 16) × (result < 65536) }
+    ensures { (result ≡ bits_of b.now (j * 8) 16) × (result < 65536) }
 {
     widened(b[j]) * 256 + widened(b[j + 1])
 }
@@ -76,7 +76,7 @@ fn two(b: &[u8], j: usize) -> u64
 // Four bytes: one sum, byte after byte, of which the compiler makes one load.
 fn four(b: &[u8], j: usize) -> u64
     requires { j + 4 ≤ length b.now }
-    ensures { (result ≡ bitsOf b.now (j * 8) 32) × (result < 4294967296) }
+    ensures { (result ≡ bits_of b.now (j * 8) 32) × (result < 4294967296) }
 {
     ((widened(b[j]) * 256 + widened(b[j + 1])) * 256 + widened(b[j + 2])) * 256 + widened(b[j + 3])
 }
@@ -84,7 +84,7 @@ fn four(b: &[u8], j: usize) -> u64
 // Eight bytes: one load too.
 fn eight(b: &[u8], j: usize) -> u64
     requires { j + 8 ≤ length b.now }
-    ensures { result ≡ bitsOf b.now (j * 8) 64 }
+    ensures { result ≡ bits_of b.now (j * 8) 64 }
 {
     four(b, j) * 4294967296 + four(b, j + 4)
 }
@@ -92,7 +92,7 @@ fn eight(b: &[u8], j: usize) -> u64
 // The first 64 bits of fewer than eight bytes: the bytes there are from both ends, and zeros.
 fn few(b: &[u8]) -> u64
     requires { length b.now < 8 }
-    ensures { result ≡ bitsOf b.now 0 64 }
+    ensures { result ≡ bits_of b.now 0 64 }
 {
     let len = b.len();
     if 4 <= len {
@@ -125,7 +125,7 @@ fn eight_from(i: usize, len: usize) -> usize
 
 // A field that no eight bytes of the slice hold: past the end, over it, or over nine bytes; or of more than 64 bits.
 fn apart(b: &[u8], before: usize, n: usize) -> u64
-    ensures { result ≡ bitsOf b.now before n % 2 ^ 64 }
+    ensures { result ≡ bits_of b.now before n % 2 ^ 64 }
 {
     if b.len() <= before / 8 {
         return 0;
@@ -136,7 +136,7 @@ fn apart(b: &[u8], before: usize, n: usize) -> u64
 // The number that the n bits after the first `before` make, the first the heaviest; of more than 64 bits, the number that the last 64 make.
 // Out of eight bytes at once where they hold the field, as they do for each that has at most 57 bits and lies in the slice.
 pub fn read(b: &[u8], before: usize, n: usize) -> u64
-    ensures { result ≡ bitsOf b.now before n % 2 ^ 64 }
+    ensures { result ≡ bits_of b.now before n % 2 ^ 64 }
 {
     if n == 0 {
         return 0;
@@ -158,7 +158,7 @@ pub fn read(b: &[u8], before: usize, n: usize) -> u64
 // The byte x with its digit of weight 2 ^ k replaced by v.
 fn with_digit(x: u8, k: usize, v: u64) -> u8
     requires { (k ≤ 7) × (v < 2) }
-    ensures { result ≡ withDigit x k v }
+    ensures { result ≡ with_digit x k v }
 {
     let w = x as u64;
     let p = weight(k);
@@ -180,7 +180,7 @@ fn put_digit(s: &mut [u8], before: usize, i: usize, v: u64)
 
 // Bit by bit, for places and widths that no caller in a hurry asks for.
 fn put_digits(s: &mut [u8], before: usize, n: usize, v: u64)
-    ensures { s.new ≡ putBits s.old before n v }
+    ensures { s.new ≡ put_bits s.old before n v }
 {
     let mut rest = v;
     let mut k = n;
@@ -194,7 +194,7 @@ fn put_digits(s: &mut [u8], before: usize, n: usize, v: u64)
 // The byte x with its w digits from weight 2 ^ k on replaced by v.
 fn with_part(x: u8, k: usize, w: usize, v: u64) -> u8
     requires { (k + w ≤ 8) × (v < 2 ^ w) }
-    ensures { result ≡ withPart x k w v }
+    ensures { result ≡ with_part x k w v }
 {
     let x = x as u64;
     let p = weight(k);
@@ -205,7 +205,7 @@ fn with_part(x: u8, k: usize, w: usize, v: u64) -> u8
 // Replaces w bits that stand in one byte.
 fn put_part(s: &mut [u8], before: usize, w: usize, v: u64)
     requires { before % 8 + w ≤ 8 }
-    ensures { s.new ≡ putBits s.old before w v }
+    ensures { s.new ≡ put_bits s.old before w v }
 {
     let j = before / 8;
     let k = 8 - before % 8 - w;
@@ -226,7 +226,7 @@ fn in_last(end: usize, k: usize) -> usize
 // Byte by byte, the last one first.
 fn put_near(s: &mut [u8], before: usize, n: usize, v: u64)
     requires { (before ≤ 4294967296) × (n ≤ 64) }
-    ensures { s.new ≡ putBits s.old before n v }
+    ensures { s.new ≡ put_bits s.old before n v }
 {
     let mut rest = v;
     let mut k = n;
@@ -241,14 +241,14 @@ fn put_near(s: &mut [u8], before: usize, n: usize, v: u64)
 // A whole byte, as a text has them one after the other.
 fn put_byte(s: &mut [u8], before: usize, v: u64)
     requires { before % 8 ≡ 0 }
-    ensures { s.new ≡ putBits s.old before 8 v }
+    ensures { s.new ≡ put_bits s.old before 8 v }
 {
     put_part(s, before, 8, v);
 }
 
 // Replaces the n bits after the first `before` by the n low bits of v, by zeros before them where n is over 64. All other bits stay.
 pub fn write(s: &mut [u8], before: usize, n: usize, v: u64)
-    ensures { s.new ≡ putBits s.old before n v }
+    ensures { s.new ≡ put_bits s.old before n v }
 {
     if n == 8 {
         if before % 8 == 0 {

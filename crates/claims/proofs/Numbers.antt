@@ -132,8 +132,8 @@ back (kind K.AtcrbsRdas) = (refl, tt)
 back (kind K.Mtd) = (refl, tt)
 back (kind K.Rdas) = (refl, tt)
 
-pub numbers-differ : NumbersDiffer
-numbers-differ a b same = sym (back a).0 ∙ ap named same ∙ (back b).0
+pub numbers_differ : NumbersDiffer
+numbers_differ a b same = sym (back a).0 ∙ ap named same ∙ (back b).0
 
-pub no-number-is-zero : NoNumberIsZero
-no-number-is-zero a = ltb→lt 0 (number_of a) (back a).1
+pub no_number_is_zero : NoNumberIsZero
+no_number_is_zero a = ltb→lt 0 (number_of a) (back a).1

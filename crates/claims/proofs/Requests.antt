@@ -13,202 +13,202 @@ use Rattle.frames.proofs.Lent as lent
 use Rattle.frames.proofs.Lists as lists
 use Rattle.frames.proofs.Refused as refused
 use Rattle.frames.proofs.Zeros as zeros
-use Rattle.index.specs.Entries.{entryOf}
+use Rattle.index.specs.Entries.{entry_of}
 use Rattle.index.proofs.Claims as index
 use Rattle.manners.proofs.Answered as answered
 use Rattle.manners.proofs.Broken as broken
 use Rattle.manners.proofs.Exactly as exactly
 use Rattle.manners.proofs.Worked.{worked}
 use Rattle.claims.specs.Requests.{ReadAndWriteThem, FlagsAndIdle, PlacesAnswered, TheWriter, TheirOwnRoundTrip, FrameRefusals, Ticket1, OneSegmentAccepted, UplinkKeepsItsMinimum, RefusalsLoseThisCase, TakesReportsWithANumber, EntersAndReplaces, EqualsTheOneWorkedOutAfresh, IndexRefusals, CountsTheOnes, ItsPromiseStays, TheFormAsAnInput, RangeAndPatterns, RefusalsOfAltitudes, TheRules, ExactlyTheBreaches, StaysAccepted, MannersRefusals, OneAnswerOneList, LinkOfEveryOutcome, NoPartOfTheWords, FixedNumber, LinkRefusal, Requests}
-use Rattle.claims.proofs.Numbers.{numbers-differ, no-number-is-zero}
+use Rattle.claims.proofs.Numbers.{numbers_differ, no_number_is_zero}
 use Rattle.claims.proofs.OneSegment as segment
-use Rattle.claims.proofs.Folds.{folds-answer-the-same}
+use Rattle.claims.proofs.Folds.{folds_answer_the_same}
 use Rattle.claims.proofs.Twelve as twelve
 use Rattle.claims.proofs.TwoForms as forms
 use Rattle.claims.proofs.Demands.{demands}
 
 -- ---- Ticket 1
 
-read-and-write : ReadAndWriteThem
-read-and-write = record {
-  accepted = back.accepted-exactly;
-  zeros-taken-out = zeros.taken_out;
-  zeros-put-in = zeros.put_in;
-  no-flag-inside = zeros.no-flag-inside;
-  known-checks = checked.known-checks;
+read_and_write : ReadAndWriteThem
+read_and_write = record {
+  accepted = back.accepted_exactly;
+  zeros_taken_out = zeros.taken_out;
+  zeros_put_in = zeros.put_in;
+  no_flag_inside = zeros.no_flag_inside;
+  known_checks = checked.known_checks;
   remainder = checked.remainder;
-  burst-found = checked.burst-found;
-  one-flip-found = checked.one-flip-found;
-  two-flips-found = checked.two-flips-found;
+  burst_found = checked.burst_found;
+  one_flip_found = checked.one_flip_found;
+  two_flips_found = checked.two_flips_found;
 }
 
-flags-and-idle : FlagsAndIdle
-flags-and-idle = record {
-  shared-flags-and-idle = lists.list-reads-back;
-  written-on-a-shared-flag = lent.written_on;
-  end = ends.end-exactly;
+flags_and_idle : FlagsAndIdle
+flags_and_idle = record {
+  shared_flags_and_idle = lists.list_reads_back;
+  written_on_a_shared_flag = lent.written_on;
+  end = ends.end_exactly;
   no_field = λ way control h. record { control = h; field = omega arith };
 }
 
 places : PlacesAnswered
-places = record { refusals = refused.reader-refuses; frame = back.written-again; writing = ends.refused-stays }
+places = record { refusals = refused.reader_refuses; frame = back.written_again; writing = ends.refused_stays }
 
 writer : TheWriter
 writer = record {
-  allows-one = λ bytes count place way control field n. (_, _, record { answers = refl; leaves = refl }, λ b left w. (w.answers, w.leaves));
-  others-stay = lent.others-stay;
+  allows_one = λ bytes count place way control field n. (_, _, record { answers = refl; leaves = refl }, λ b left w. (w.answers, w.leaves));
+  others_stay = lent.others_stay;
 }
 
 round_trip : TheirOwnRoundTrip
 round_trip = record {
-  written-and-read = lent.written-reads;
-  wherever-it-stands = back.reads-back;
-  read-and-written = lent.read-writes;
-  field-handed-out = lent.handed_out;
-  equal-lists = lists.equal-lists;
-  calls-enough = lists.calls-enough;
+  written_and_read = lent.written_reads;
+  wherever_it_stands = back.reads_back;
+  read_and_written = lent.read_writes;
+  field_handed_out = lent.handed_out;
+  equal_lists = lists.equal_lists;
+  calls_enough = lists.calls_enough;
   not_behind = lists.not_behind;
 }
 
 refusals : FrameRefusals
 refusals = record {
-  reading = refused.reader-refuses;
-  writing = refused.writer-refuses;
-  nothing_written = ends.refused-stays;
-  numbers = numbers-differ;
-  none-is-0 = no-number-is-zero;
+  reading = refused.reader_refuses;
+  writing = refused.writer_refuses;
+  nothing_written = ends.refused_stays;
+  numbers = numbers_differ;
+  none_is_0 = no_number_is_zero;
 }
 
 -- ---- Ticket 2
 
 accepted : OneSegmentAccepted
 accepted = record {
-  bare-read = segment.bare-read;
-  relayed-read = segment.relayed-read;
-  bare-written = segment.bare-written;
-  relayed-written = segment.relayed-written;
+  bare_read = segment.bare_read;
+  relayed_read = segment.relayed_read;
+  bare_written = segment.bare_written;
+  relayed_written = segment.relayed_written;
 }
 
 uplink : UplinkKeepsItsMinimum
-uplink = record { read = segment.uplink-read; written = segment.uplink-written }
+uplink = record { read = segment.uplink_read; written = segment.uplink_written }
 
 lost : RefusalsLoseThisCase
 lost = record {
-  value = segment.not-in-use-before;
-  one-segment-read = segment.one-segment-read;
-  others-read = segment.others-read-as-before;
-  count = segment.count-stays;
-  spares = segment.spares-stay;
-  taken = segment.taken-before;
-  one-segment-written = segment.one-segment-written;
-  others-written = segment.others-written-as-before;
-  table = segment.rows-and-widths-stay;
+  value = segment.not_in_use_before;
+  one_segment_read = segment.one_segment_read;
+  others_read = segment.others_read_as_before;
+  count = segment.count_stays;
+  spares = segment.spares_stay;
+  taken = segment.taken_before;
+  one_segment_written = segment.one_segment_written;
+  others_written = segment.others_written_as_before;
+  table = segment.rows_and_widths_stay;
 }
 
 -- ---- Ticket 3
 
 takes : TakesReportsWithANumber
 takes = record {
-  number = index.number-as-printed;
+  number = index.number_as_printed;
   refused = λ q. refl;
   end = refl;
-  left = index.left-exactly;
-  stays = index.zero-is-left;
+  left = index.left_exactly;
+  stays = index.zero_is_left;
 }
 
 enters : EntersAndReplaces
 enters = record {
-  new = index.entered-exactly;
-  later-report = index.replaced-exactly;
-  kept = index.never-broken;
-  found = index.found-exactly;
-  missing = index.missing-exactly;
+  new = index.entered_exactly;
+  later_report = index.replaced_exactly;
+  kept = index.never_broken;
+  found = index.found_exactly;
+  missing = index.missing_exactly;
 }
 
 afresh : EqualsTheOneWorkedOutAfresh
 afresh = record {
-  from-unused = index.from-unused;
+  from_unused = index.from_unused;
   begins = index.begins;
   onward = index.onward;
-  all_fit = index.room-for-all;
-  line = index.over-a-line;
-  clicked = index.found-is-latest;
+  all_fit = index.room_for_all;
+  line = index.over_a_line;
+  clicked = index.found_is_latest;
 }
 
-index-refusals : IndexRefusals
-index-refusals = record {
-  entering = index.enter-refuses;
-  finding = index.find-refuses;
-  broken = index.broken-exactly;
-  full = index.full-exactly;
-  stays = index.refused-stays;
-  numbers = numbers-differ;
-  none-is-0 = no-number-is-zero;
+index_refusals : IndexRefusals
+index_refusals = record {
+  entering = index.enter_refuses;
+  finding = index.find_refuses;
+  broken = index.broken_exactly;
+  full = index.full_exactly;
+  stays = index.refused_stays;
+  numbers = numbers_differ;
+  none_is_0 = no_number_is_zero;
 }
 
 -- ---- Ticket 4
 
 counts : CountsTheOnes
-counts = record { counted = words.ones-by-bits; asked = words.odd-by-bits; each-bit = words.flip-turns-parity; bit-13 = words.one-word-for-data }
+counts = record { counted = words.ones_by_bits; asked = words.odd_by_bits; each_bit = words.flip_turns_parity; bit_13 = words.one_word_for_data }
 
 stays : ItsPromiseStays
-stays = record { folds = folds-answer-the-same }
+stays = record { folds = folds_answer_the_same }
 
 -- ---- Ticket 5
 
 input : TheFormAsAnInput
 input = record {
-  run = forms.new-reading;
-  lowest = forms.minus-zero-is-lowest;
-  place = forms.new-outcome;
-  place-of-bytes = forms.new-outcome-of-bytes;
-  same = forms.equal-readings;
-  rest = forms.rest-stays;
-  entry = forms.same-entry;
-  written = forms.equal-writing;
-  words = forms.turned-words;
-  calls = forms.same-calls;
+  run = forms.new_reading;
+  lowest = forms.minus_zero_is_lowest;
+  place = forms.new_outcome;
+  place_of_bytes = forms.new_outcome_of_bytes;
+  same = forms.equal_readings;
+  rest = forms.rest_stays;
+  entry = forms.same_entry;
+  written = forms.equal_writing;
+  words = forms.turned_words;
+  calls = forms.same_calls;
 }
 
 range : RangeAndPatterns
 range = record {
-  ranges = altitudes.range-of-each;
-  patterns = altitudes.every-pattern-valid;
-  cases = twelve.in-the-new-form;
-  written-cases = twelve.written-in-the-new-form;
+  ranges = altitudes.range_of_each;
+  patterns = altitudes.every_pattern_valid;
+  cases = twelve.in_the_new_form;
+  written_cases = twelve.written_in_the_new_form;
 }
 
-altitude-refusals : RefusalsOfAltitudes
-altitude-refusals = record { never-9 = forms.never-minus-zero; never-9-in-bytes = forms.never-minus-zero-in-bytes; eleven = forms.eleven-follows }
+altitude_refusals : RefusalsOfAltitudes
+altitude_refusals = record { never_9 = forms.never_minus_zero; never_9_in_bytes = forms.never_minus_zero_in_bytes; eleven = forms.eleven_follows }
 
 -- ---- Ticket 6
 
 rules : TheRules
 rules = record {
-  same = broken.same-of-record;
-  found = broken.found-exactly;
+  same = broken.same_of_record;
+  found = broken.found_exactly;
   one = broken.at_most_one;
-  one-of-record = broken.at-most-one-of-record;
-  numbers = exactly.rules-numbered;
+  one_of_record = broken.at_most_one_of_record;
+  numbers = exactly.rules_numbered;
   worked = worked;
 }
 
-exactly-the-breaches : ExactlyTheBreaches
-exactly-the-breaches = record {
-  exactly = exactly.exactly-the-breaches;
+exactly_the_breaches : ExactlyTheBreaches
+exactly_the_breaches = record {
+  exactly = exactly.exactly_the_breaches;
   by_place = exactly.by_place;
-  outcomes = exactly.from-the-outcomes;
-  both-forms = exactly.same-in-both-forms;
-  parts = exactly.splits-in-parts;
+  outcomes = exactly.from_the_outcomes;
+  both_forms = exactly.same_in_both_forms;
+  parts = exactly.splits_in_parts;
   outside = exactly.replaced;
   no_more = exactly.no_more;
 }
 
-stays-accepted : StaysAccepted
-stays-accepted = record {
-  read = exactly.read-there;
-  listed = answered.listed-exactly;
-  bytes-listed = answered.byte-listed-exactly;
+stays_accepted : StaysAccepted
+stays_accepted = record {
+  read = exactly.read_there;
+  listed = answered.listed_exactly;
+  bytes_listed = answered.byte_listed_exactly;
 }
 
 one_list : OneAnswerOneList
@@ -217,77 +217,77 @@ one_list = record {
   bytes = λ form bytes list. (_, _, record { answers = refl; leaves = refl }, λ b left w. (w.answers, w.leaves));
 }
 
-manners-refusals : MannersRefusals
-manners-refusals = record {
-  words = answered.list-refuses;
-  of-bytes = answered.byte-list-refuses;
-  nothing_written = answered.refused-stays;
-  behind = answered.behind-stays;
-  bytes = answered.bytes-as-words;
-  numbers-in-bytes = exactly.numbers-in-bytes;
-  numbers = numbers-differ;
-  none-is-0 = no-number-is-zero;
+manners_refusals : MannersRefusals
+manners_refusals = record {
+  words = answered.list_refuses;
+  of_bytes = answered.byte_list_refuses;
+  nothing_written = answered.refused_stays;
+  behind = answered.behind_stays;
+  bytes = answered.bytes_as_words;
+  numbers_in_bytes = exactly.numbers_in_bytes;
+  numbers = numbers_differ;
+  none_is_0 = no_number_is_zero;
 }
 
 -- ---- Ticket 7
 
-link-of-every-outcome : LinkOfEveryOutcome
-link-of-every-outcome = record { fifteen = refl; given = linked.with-its-number; in-range = linked.number-in-range; manners = refl }
+link_of_every_outcome : LinkOfEveryOutcome
+link_of_every_outcome = record { fifteen = refl; given = linked.with_its_number; in_range = linked.number_in_range; manners = refl }
 
-no-part-of-the-words : NoPartOfTheWords
-no-part-of-the-words = record {
-  alone = linked.differ-in-the-number;
+no_part_of_the_words : NoPartOfTheWords
+no_part_of_the_words = record {
+  alone = linked.differ_in_the_number;
   entry = λ form link other bytes place scan h k.
-      ap (λ (r : Received). entryOf r.outcome scan) ((linked.differ-in-the-number).bytes form link other bytes place h k);
+      ap (λ (r : Received). entry_of r.outcome scan) ((linked.differ_in_the_number).bytes form link other bytes place h k);
 }
 
 fixed_number : FixedNumber
 fixed_number = record {
-  words = demands.written-again.there;
+  words = demands.written_again.there;
   back = demands.read_again.there;
   one_number = demands.one_number;
   list = demands.list_back.list;
 }
 
-link-refusal : LinkRefusal
-link-refusal = record {
-  exactly = linked.no-such-link-exactly;
-  gives = linked.no-such-link-gives;
-  rows = line_Refused.reader-refuses;
-  byte-rows = line_Refused.byte-reader-refuses;
+link_refusal : LinkRefusal
+link_refusal = record {
+  exactly = linked.no_such_link_exactly;
+  gives = linked.no_such_link_gives;
+  rows = line_Refused.reader_refuses;
+  byte_rows = line_Refused.byte_reader_refuses;
   thirteen = refl;
-  numbers = numbers-differ;
-  none-is-0 = no-number-is-zero;
+  numbers = numbers_differ;
+  none_is_0 = no_number_is_zero;
 }
 
 -- ---- all of them
 
 pub requests : Requests
 requests = record {
-  ticket-1 = record {
-    read-and-write = read-and-write;
-    flags-and-idle = flags-and-idle;
+  ticket_1 = record {
+    read_and_write = read_and_write;
+    flags_and_idle = flags_and_idle;
     places = places;
     writer = writer;
     round_trip = round_trip;
     refusals = refusals;
   };
-  ticket-2 = record { accepted = accepted; uplink = uplink; refusals = lost };
-  ticket-3 = record {
+  ticket_2 = record { accepted = accepted; uplink = uplink; refusals = lost };
+  ticket_3 = record {
     one_answer = λ table e. (_, _, record { answers = refl; leaves = refl }, λ b left w. (w.answers, w.leaves));
     takes = takes;
     enters = enters;
     afresh = afresh;
-    refusals = index-refusals;
+    refusals = index_refusals;
   };
-  ticket-4 = record { counts = counts; stays = stays };
-  ticket-5 = record {
+  ticket_4 = record { counts = counts; stays = stays };
+  ticket_5 = record {
     input = input;
-    from-c = altitudes.numbers-of-forms;
+    from_c = altitudes.numbers_of_forms;
     range = range;
-    one_form = record { demands = demands.each-form; sound = altitudes.forms-sound };
-    refusals = altitude-refusals;
+    one_form = record { demands = demands.each_form; sound = altitudes.forms_sound };
+    refusals = altitude_refusals;
   };
-  ticket-6 = record { one_answer = one_list; rules = rules; list = exactly-the-breaches; stays = stays-accepted; refusals = manners-refusals };
-  ticket-7 = record { every-outcome = link-of-every-outcome; no_part = no-part-of-the-words; fixed = fixed_number; refusal = link-refusal };
+  ticket_6 = record { one_answer = one_list; rules = rules; list = exactly_the_breaches; stays = stays_accepted; refusals = manners_refusals };
+  ticket_7 = record { every_outcome = link_of_every_outcome; no_part = no_part_of_the_words; fixed = fixed_number; refusal = link_refusal };
 }

@@ -9,9 +9,9 @@ abbrev pub folded : ℕ → ℕ → ℕ
 folded k n = bit_xor n (n / 2 ^ k)
 
 -- four folds, one after the other; the lowest bit of the result is the answer
-abbrev pub oddByFolds : ℕ → Bool
-oddByFolds w = eqb (folded 1 (folded 2 (folded 4 (folded 8 w))) % 2) 1
+abbrev pub odd_by_folds : ℕ → Bool
+odd_by_folds w = eqb (folded 1 (folded 2 (folded 4 (folded 8 w))) % 2) 1
 
 -- for every number of sixteen bits the folds give the answer that the count of ones gives
 abbrev pub FoldsAnswerTheSame : Type 0
-FoldsAnswerTheSame = (w : ℕ) → w < 2 ^ 16 → oddByFolds w ≡ odd w
+FoldsAnswerTheSame = (w : ℕ) → w < 2 ^ 16 → odd_by_folds w ≡ odd w

@@ -4,15 +4,15 @@
 use Rattle.std.specs.Prelude.{ℕ, ◌<◌, ◌≡◌}
 use Rattle.refusals.specs.declared.LineRefusal.{LineRefusal}
 use Rattle.refusals.specs.declared.FieldRefusal.{FieldRefusal}
-use Rattle.refusals.specs.Numbers.{lineNumber, fieldNumber}
+use Rattle.refusals.specs.Numbers.{line_number, field_number}
 use Rattle.frames.specs.declared.FrameRefusal.{FrameRefusal}
-use Rattle.frames.specs.Numbers.{frameNumber}
+use Rattle.frames.specs.Numbers.{frame_number}
 use Rattle.index.specs.declared.IndexRefusal.{IndexRefusal}
-use Rattle.index.specs.Numbers.{indexNumber}
+use Rattle.index.specs.Numbers.{index_number}
 use Rattle.manners.specs.declared.MannersRefusal.{MannersRefusal}
-use Rattle.manners.specs.Numbers.{mannersNumber}
+use Rattle.manners.specs.Numbers.{manners_number}
 use Rattle.reports.specs.declared.kinds.Kind.{Kind}
-use Rattle.reports.specs.Kinds.{kindNumber}
+use Rattle.reports.specs.Kinds.{kind_number}
 
 -- a refusal of the line, of a link data field, of a frame, of the index, of manners; the kind of a report
 pub data Named : Type 0 where
@@ -24,12 +24,12 @@ pub data Named : Type 0 where
   kind : Kind → Named
 
 abbrev pub number_of : Named → ℕ
-number_of (line q) = lineNumber q
-number_of (field q) = fieldNumber q
-number_of (frame q) = frameNumber q
-number_of (index q) = indexNumber q
-number_of (manners q) = mannersNumber q
-number_of (kind k) = kindNumber k
+number_of (line q) = line_number q
+number_of (field q) = field_number q
+number_of (frame q) = frame_number q
+number_of (index q) = index_number q
+number_of (manners q) = manners_number q
+number_of (kind k) = kind_number k
 
 -- a number names one of them
 abbrev pub NumbersDiffer : Type 0

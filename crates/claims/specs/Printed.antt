@@ -8,9 +8,9 @@ use Rattle.fields.specs.declared.Direction.TheVariants.{ToSensor, FromSensor}
 use Rattle.fields.specs.declared.Row as known
 use Rattle.fields.specs.declared.Field.{Field}
 use Rattle.fields.specs.declared.Field.TheVariants.{TacticalUplink, ElmUplink, DownlinkRequest, IdRequest, CapabilityRequest, Cancellation, Test, AltimeterCorrection, AtcFailure, SensorFailure, DabsControlState, AtcrbsControlState, RejectionNotice, DeliveryNotice, TacticalDownlink, ElmDownlink, Utility, Capability, IdCode, TestResponse, ControllerAlert}
-use Rattle.fields.specs.Table.{rows, place_of, byPlace, rowAt, rulesAt, hasFault, sizeIn}
+use Rattle.fields.specs.Table.{rows, place_of, by_place, row_at, rules_at, has_fault, size_in}
 use Rattle.fields.specs.Lists.{block_of}
-use Rattle.fields.specs.Reading.{type_of, valuesAt, recordIn, listIn, spareBitSet}
+use Rattle.fields.specs.Reading.{type_of, values_at, record_in, list_in, spare_bit_set}
 
 -- a type, the way it travels, how many bits a field of it has, and its record
 pub record PrintedType : Type 0 where
@@ -75,16 +75,16 @@ printed at =
 
 -- a field that begins behind the first so many bits and has the row's type: the way that the table has for it, the bits that it must have
 -- and its record are the row's
-abbrev wayAt : List ℕ → ℕ → Direction
-wayAt s before = byPlace ToSensor (λ i. (rowAt i).way) (place_of (type_of s before))
+abbrev way_at : List ℕ → ℕ → Direction
+way_at s before = by_place ToSensor (λ i. (row_at i).way) (place_of (type_of s before))
 
-abbrev totalAt : List ℕ → ℕ → ℕ
-totalAt s before = byPlace 0 (λ i. sizeIn (rowAt i) (valuesAt s before i)) (place_of (type_of s before))
+abbrev total_at : List ℕ → ℕ → ℕ
+total_at s before = by_place 0 (λ i. size_in (row_at i) (values_at s before i)) (place_of (type_of s before))
 
 abbrev pub AllMeant : List ℕ → ℕ → List PrintedType → Type 0
 AllMeant s before [] = Unit {0}
 AllMeant s before (x ∷ rows) =
-    (type_of s before ≡ x.code → (wayAt s before ≡ x.way) × (totalAt s before ≡ x.total) × (recordIn s before ≡ x.means)) × AllMeant s before rows
+    (type_of s before ≡ x.code → (way_at s before ≡ x.way) × (total_at s before ≡ x.total) × (record_in s before ≡ x.means)) × AllMeant s before rows
 
 -- a field alone, and one inside a relay, behind its type and sensor
 abbrev pub AsPrinted : Type 0
@@ -97,10 +97,10 @@ OnlyPrinted = map (λ (x : known.Row). x.code) rows ≡ map (λ (x : PrintedType
 -- the list beside the record, entry k of it counted from 0: an altimeter block has 8 bits, an address or an identifier 24, and the first
 -- stands at bit 17. (No type that is relayed has a list.)
 pub record EntriesAsPrinted (s : List ℕ) (k : ℕ) : Type 0 where
-  pub blocks : type_of s 0 ≡ 0x9B → k < 1 + bits s 13 16 → get_or (listIn s) k (pos 0) ≡ block_of (bits s (17 + 8 * k) (24 + 8 * k))
+  pub blocks : type_of s 0 ≡ 0x9B → k < 1 + bits s 13 16 → get_or (list_in s) k (pos 0) ≡ block_of (bits s (17 + 8 * k) (24 + 8 * k))
   pub addresses : type_of s 0 ≡ 0x9A → k < bits s 9 11 + bits s 12 14 + bits s 15 16
-      → get_or (listIn s) k (pos 0) ≡ pos (bits s (17 + 24 * k) (40 + 24 * k))
-  pub identifiers : type_of s 0 ≡ 0x96 → k < bits s 9 12 + bits s 13 16 → get_or (listIn s) k (pos 0) ≡ pos (bits s (17 + 24 * k) (40 + 24 * k))
+      → get_or (list_in s) k (pos 0) ≡ pos (bits s (17 + 24 * k) (40 + 24 * k))
+  pub identifiers : type_of s 0 ≡ 0x96 → k < bits s 9 12 + bits s 13 16 → get_or (list_in s) k (pos 0) ≡ pos (bits s (17 + 24 * k) (40 + 24 * k))
 
 -- ---- the rules: spare bits, and values not in use
 
@@ -167,18 +167,18 @@ abbrev pub any_of : List Bool → Bool
 any_of [] = false
 any_of (b ∷ bs) = b || any_of bs
 
-abbrev pub anySet : List ℕ → Bool
-anySet [] = false
-anySet (x ∷ xs) = not (eqb x 0) || anySet xs
+abbrev pub any_set : List ℕ → Bool
+any_set [] = false
+any_set (x ∷ xs) = not (eqb x 0) || any_set xs
 
 -- a value of a part is not in use
-abbrev unusedAt : List ℕ → ℕ → Bool
-unusedAt s before = byPlace false (λ i. hasFault 2 (rulesAt i) (valuesAt s before i)) (place_of (type_of s before))
+abbrev unused_at : List ℕ → ℕ → Bool
+unused_at s before = by_place false (λ i. has_fault 2 (rules_at i) (values_at s before i)) (place_of (type_of s before))
 
 abbrev pub AllRuled : List ℕ → ℕ → List Rule → Type 0
 AllRuled s before [] = Unit {0}
 AllRuled s before (x ∷ rules) =
-    (type_of s before ≡ x.code → (spareBitSet s before ≡ anySet x.spares) × (unusedAt s before ≡ any_of x.unused)) × AllRuled s before rules
+    (type_of s before ≡ x.code → (spare_bit_set s before ≡ any_set x.spares) × (unused_at s before ≡ any_of x.unused)) × AllRuled s before rules
 
 -- every printed type has its rules
 abbrev pub AllHaveRules : Type 0

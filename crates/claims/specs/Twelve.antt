@@ -3,7 +3,7 @@
 -- (document 02, Ticket 5), with its own claim. Definitions only; proofs/Twelve.antt proves the claims by computing them.
 use Rattle.std.specs.Prelude.{ℕ, ◌*◌, ◌/◌, ◌≡◌, true, false, List, [], ◌∷◌, ◌++◌, map, ℤ, pos, neg_ℤ, replicate}
 use Rattle.refusals.specs.declared.LineRefusal.TheVariants.{ValueTooLarge}
-use Rattle.refusals.specs.Numbers.{lineNumber, fieldNumber}
+use Rattle.refusals.specs.Numbers.{line_number, field_number}
 use Rattle.reports.specs.declared.Report.{Report}
 use Rattle.reports.specs.declared.Report.TheVariants as R
 use Rattle.reports.specs.declared.Height.{Height}
@@ -16,9 +16,9 @@ use Rattle.reports.specs.Altitude.{form_of}
 use Rattle.reports.specs.Kinds.{kind_of}
 use Rattle.reports.specs.declared.Written.{Written}
 use Rattle.reports.specs.declared.Written.TheVariants as M
-use Rattle.reports.specs.Layouts.{asWritten, written}
-use Rattle.reports.specs.Runs.{readRun}
-use Rattle.reports.specs.Values.{Counted, counts, countedOf}
+use Rattle.reports.specs.Layouts.{as_written, written}
+use Rattle.reports.specs.Runs.{read_run}
+use Rattle.reports.specs.Values.{Counted, counts, counted_of}
 use Rattle.lines.specs.declared.What.TheVariants as W
 use Rattle.lines.specs.declared.What.{What}
 use Rattle.lines.specs.declared.Outcome.{Outcome}
@@ -30,7 +30,7 @@ use Rattle.fields.specs.declared.Record.{Record}
 use Rattle.fields.specs.declared.Record.TheVariants.{Single}
 use Rattle.fields.specs.declared.Answer.{Answer}
 use Rattle.fields.specs.declared.Answer.TheVariants as A
-use Rattle.fields.specs.Reading.{readField, text_of}
+use Rattle.fields.specs.Reading.{read_field, text_of}
 
 -- ---- what a row says
 
@@ -70,20 +70,20 @@ pub record Worked : Type 0 where
 -- ---- what the written definitions answer
 
 abbrev pub said : What → Said
-said (W.Accepted r) = report (kind_of r) r (countedOf r)
-said (W.Refused q) = refused (lineNumber q)
+said (W.Accepted r) = report (kind_of r) r (counted_of r)
+said (W.Refused q) = refused (line_number q)
 said W.End = end
 
 abbrev call_of : Outcome → Call
 call_of o = call (said o.what) o.first o.after o.named
 
-abbrev messageOf : Answer → List ℤ → List ℕ → Reply
-messageOf (A.Accepted r) l t = message r l t
-messageOf (A.Refused q) l t = refusal (fieldNumber q) l t
+abbrev message_of : Answer → List ℤ → List ℕ → Reply
+message_of (A.Accepted r) l t = message r l t
+message_of (A.Refused q) l t = refusal (field_number q) l t
 
-abbrev answerTo : Form → Input → Reply
-answerTo form (line ws) = calls (map call_of (outcomes (readRun (form_of form)) ws))
-answerTo form (field s n w) = messageOf (readField s n w).answer (readField s n w).list (text_of s n w)
+abbrev answer_to : Form → Input → Reply
+answer_to form (line ws) = calls (map call_of (outcomes (read_run (form_of form)) ws))
+answer_to form (field s n w) = message_of (read_field s n w).answer (read_field s n w).list (text_of s n w)
 
 -- ---- the table
 
@@ -176,8 +176,8 @@ table =
 
 -- ---- the same words in the new form
 
-abbrev pub newTable : List Worked
-newTable =
+abbrev pub new_table : List Worked
+new_table =
     -- C2: -204,500 ft, since -3 is -2048 + 3 there
     worked (line (c2 3973 4102)) (one 7 (report Dabs (dabs (Altitude (neg_ℤ (pos 2045)))) values))
     -- C3, C2 ending 4096: the lowest altitude, -204,800 ft
@@ -194,25 +194,25 @@ newTable =
     ∷ []
 
 -- the words of C2 with this altitude, as the writer hands them out in the new form, or its refusal
-abbrev c2Written : ℤ → Written
-c2Written z = written (form_of F.TwosComplement) (dabs (Altitude z))
+abbrev c2_written : ℤ → Written
+c2_written z = written (form_of F.TwosComplement) (dabs (Altitude z))
 
 -- ---- the claims
 
 -- what is given in each row is answered as the row tells
 abbrev pub Twelve : Type 0
-Twelve = map (λ (r : Worked). answerTo F.SignMagnitude r.input) table ≡ map (λ (r : Worked). r.reply) table
+Twelve = map (λ (r : Worked). answer_to F.SignMagnitude r.input) table ≡ map (λ (r : Worked). r.reply) table
 
 -- and so in the new form
 abbrev pub InTheNewForm : Type 0
-InTheNewForm = map (λ (r : Worked). answerTo F.TwosComplement r.input) newTable ≡ map (λ (r : Worked). r.reply) newTable
+InTheNewForm = map (λ (r : Worked). answer_to F.TwosComplement r.input) new_table ≡ map (λ (r : Worked). r.reply) new_table
 
 -- each of those altitudes is written back as the words that it was read from; -2049 and 2048 are 11
 pub record WrittenInTheNewForm : Type 0 where
-  pub of-c2 : c2Written (neg_ℤ (pos 2045)) ≡ asWritten (c2 3973 4102)
-  pub lowest : c2Written (neg_ℤ (pos 2048)) ≡ asWritten (c2 3973 4096)
-  pub highest : c2Written (pos 2047) ≡ asWritten (c2 3973 4094)
-  pub minus_one : c2Written (neg_ℤ (pos 1)) ≡ asWritten (c2 3973 8191)
-  pub sea-level : c2Written (pos 0) ≡ asWritten (c2 3973 1)
-  pub too-low : c2Written (neg_ℤ (pos 2049)) ≡ M.Refused ValueTooLarge
-  pub too-high : c2Written (pos 2048) ≡ M.Refused ValueTooLarge
+  pub of_c2 : c2_written (neg_ℤ (pos 2045)) ≡ as_written (c2 3973 4102)
+  pub lowest : c2_written (neg_ℤ (pos 2048)) ≡ as_written (c2 3973 4096)
+  pub highest : c2_written (pos 2047) ≡ as_written (c2 3973 4094)
+  pub minus_one : c2_written (neg_ℤ (pos 1)) ≡ as_written (c2 3973 8191)
+  pub sea_level : c2_written (pos 0) ≡ as_written (c2 3973 1)
+  pub too_low : c2_written (neg_ℤ (pos 2049)) ≡ M.Refused ValueTooLarge
+  pub too_high : c2_written (pos 2048) ≡ M.Refused ValueTooLarge

@@ -3,7 +3,7 @@
 use Rattle.std.specs.Prelude.{ℕ, ◌≡◌, Bool, true, false, not, cond, List, [], ◌∷◌, eqb, ℤ, pos, neg_ℤ, nat_abs, ◌-ℤ◌, drop}
 use Rattle.refusals.specs.declared.LineRefusal.{LineRefusal}
 use Rattle.refusals.specs.declared.LineRefusal.TheVariants.{MinusZero, ValueTooLarge}
-use Rattle.refusals.specs.Numbers.{lineNumber}
+use Rattle.refusals.specs.Numbers.{line_number}
 use Rattle.words.specs.Tests.{all}
 use Rattle.words.specs.Word.{bit}
 use Rattle.reports.specs.declared.Height.{Height}
@@ -16,29 +16,29 @@ use Rattle.reports.specs.declared.RunAnswer.{RunAnswer}
 use Rattle.reports.specs.declared.RunAnswer.TheVariants as A
 use Rattle.reports.specs.declared.Written.TheVariants as M
 use Rattle.reports.specs.declared.altitude.Form.{Form}
-use Rattle.reports.specs.Altitude.{AltitudeForm, negative, signMagnitude, twosComplement, form_of}
+use Rattle.reports.specs.Altitude.{AltitudeForm, negative, sign_magnitude, twos_complement, form_of}
 use Rattle.reports.specs.Claims.{InRange}
-use Rattle.reports.specs.Forms.{isSeven}
+use Rattle.reports.specs.Forms.{is_seven}
 use Rattle.reports.specs.Kinds.{kind_of}
-use Rattle.reports.specs.Records.{reportOf}
+use Rattle.reports.specs.Records.{report_of}
 use Rattle.reports.specs.Layouts.{words_of, Fits, takes, written}
-use Rattle.reports.specs.Runs.{readRun}
-use Rattle.reports.specs.Values.{countedOf}
+use Rattle.reports.specs.Runs.{read_run}
+use Rattle.reports.specs.Values.{counted_of}
 use Rattle.lines.specs.declared.What.{What}
 use Rattle.lines.specs.declared.What.TheVariants as W
 use Rattle.lines.specs.declared.Outcome.{Outcome}
-use Rattle.lines.specs.Line.{runIn, outcomeOf, readAt}
-use Rattle.lines.specs.Bytes.{words_in, readBytes}
+use Rattle.lines.specs.Line.{run_in, outcome_of, read_at}
+use Rattle.lines.specs.Bytes.{words_in, read_bytes}
 use Rattle.lines.specs.declared.Wrote.{Wrote}
 use Rattle.lines.specs.Writing.{Writes}
 use Rattle.lines.specs.ByteWriting.{WritesBytes}
-use Rattle.index.specs.Entries.{fileOf, entryOf}
+use Rattle.index.specs.Entries.{file_of, entry_of}
 
 -- ---- a report with another altitude
 
 -- the record with this height
-abbrev pub dabsWith : Dabs → Height → Dabs
-dabsWith d h = record {
+abbrev pub dabs_with : Dabs → Height → Dabs
+dabs_with d h = record {
   test = d.test;
   primary = d.primary;
   spi = d.spi;
@@ -55,8 +55,8 @@ dabsWith d h = record {
   height = h;
 }
 
-abbrev pub atcrbsWith : Atcrbs → Height → Atcrbs
-atcrbsWith a h = record {
+abbrev pub atcrbs_with : Atcrbs → Height → Atcrbs
+atcrbs_with a h = record {
   test = a.test;
   mode3a = a.mode3a;
   spi = a.spi;
@@ -77,43 +77,43 @@ atcrbsWith a h = record {
 }
 
 -- an altitude as f makes it; any other height stays
-abbrev pub heightBy : (ℤ → ℤ) → Height → Height
-heightBy f (H.Altitude z) = H.Altitude (f z)
-heightBy f (H.Carried n) = H.Carried n
-heightBy f (H.Cd c n) = H.Cd c n
-heightBy f (H.Mtd c n) = H.Mtd c n
-heightBy f (H.Rdas c n) = H.Rdas c n
+abbrev pub height_by : (ℤ → ℤ) → Height → Height
+height_by f (H.Altitude z) = H.Altitude (f z)
+height_by f (H.Carried n) = H.Carried n
+height_by f (H.Cd c n) = H.Cd c n
+height_by f (H.Mtd c n) = H.Mtd c n
+height_by f (H.Rdas c n) = H.Rdas c n
 
 -- a report with its altitude as f makes it; a report without an altitude stays
-abbrev pub altitudeBy : (ℤ → ℤ) → Report → Report
-altitudeBy f (R.Search s) = R.Search s
-altitudeBy f (R.Strobe s) = R.Strobe s
-altitudeBy f (R.Map m) = R.Map m
-altitudeBy f (R.Status s) = R.Status s
-altitudeBy f (R.Rtqc s) = R.Rtqc s
-altitudeBy f (R.Dabs d) = R.Dabs (dabsWith d (heightBy f d.height))
-altitudeBy f (R.Atcrbs a) = R.Atcrbs (atcrbsWith a (heightBy f a.height))
-altitudeBy f (R.Mtd m) = R.Mtd m
-altitudeBy f (R.Rdas r) = R.Rdas r
+abbrev pub altitude_by : (ℤ → ℤ) → Report → Report
+altitude_by f (R.Search s) = R.Search s
+altitude_by f (R.Strobe s) = R.Strobe s
+altitude_by f (R.Map m) = R.Map m
+altitude_by f (R.Status s) = R.Status s
+altitude_by f (R.Rtqc s) = R.Rtqc s
+altitude_by f (R.Dabs d) = R.Dabs (dabs_with d (height_by f d.height))
+altitude_by f (R.Atcrbs a) = R.Atcrbs (atcrbs_with a (height_by f a.height))
+altitude_by f (R.Mtd m) = R.Mtd m
+altitude_by f (R.Rdas r) = R.Rdas r
 
 -- whether a report has an altitude of which a test holds
-abbrev pub ofHeight : (ℤ → Bool) → Height → Bool
-ofHeight test (H.Altitude z) = test z
-ofHeight test (H.Carried n) = false
-ofHeight test (H.Cd c n) = false
-ofHeight test (H.Mtd c n) = false
-ofHeight test (H.Rdas c n) = false
+abbrev pub of_height : (ℤ → Bool) → Height → Bool
+of_height test (H.Altitude z) = test z
+of_height test (H.Carried n) = false
+of_height test (H.Cd c n) = false
+of_height test (H.Mtd c n) = false
+of_height test (H.Rdas c n) = false
 
-abbrev pub ofAltitude : (ℤ → Bool) → Report → Bool
-ofAltitude test (R.Search s) = false
-ofAltitude test (R.Strobe s) = false
-ofAltitude test (R.Map m) = false
-ofAltitude test (R.Status s) = false
-ofAltitude test (R.Rtqc s) = false
-ofAltitude test (R.Dabs d) = ofHeight test d.height
-ofAltitude test (R.Atcrbs a) = ofHeight test a.height
-ofAltitude test (R.Mtd m) = false
-ofAltitude test (R.Rdas r) = false
+abbrev pub of_altitude : (ℤ → Bool) → Report → Bool
+of_altitude test (R.Search s) = false
+of_altitude test (R.Strobe s) = false
+of_altitude test (R.Map m) = false
+of_altitude test (R.Status s) = false
+of_altitude test (R.Rtqc s) = false
+of_altitude test (R.Dabs d) = of_height test d.height
+of_altitude test (R.Atcrbs a) = of_height test a.height
+of_altitude test (R.Mtd m) = false
+of_altitude test (R.Rdas r) = false
 
 -- ---- reading
 
@@ -122,101 +122,101 @@ abbrev pub turn : ℤ → ℤ
 turn v = cond (negative v) (neg_ℤ (pos 2048) -ℤ v) v
 
 abbrev pub turned : Report → Report
-turned r = altitudeBy turn r
+turned r = altitude_by turn r
 
 -- minus zero is -2048
 abbrev pub lowest : Report → Report
-lowest r = altitudeBy (λ z. neg_ℤ (pos 2048)) r
+lowest r = altitude_by (λ z. neg_ℤ (pos 2048)) r
 
-abbrev pub isMinusZero : LineRefusal → Bool
-isMinusZero q = eqb (lineNumber q) (lineNumber MinusZero)
+abbrev pub is_minus_zero : LineRefusal → Bool
+is_minus_zero q = eqb (line_number q) (line_number MinusZero)
 
 -- the answer to a run in the new form, from the one in document 01's
-abbrev pub answerAnew : List ℕ → RunAnswer → RunAnswer
-answerAnew ws (A.Accepted r) = A.Accepted (turned r)
-answerAnew ws (A.Refused q o) = cond (isMinusZero q) (A.Accepted (lowest (reportOf signMagnitude ws))) (A.Refused q o)
+abbrev pub answer_anew : List ℕ → RunAnswer → RunAnswer
+answer_anew ws (A.Accepted r) = A.Accepted (turned r)
+answer_anew ws (A.Refused q o) = cond (is_minus_zero q) (A.Accepted (lowest (report_of sign_magnitude ws))) (A.Refused q o)
 
 abbrev pub NewReading : Type 0
-NewReading = (ws : List ℕ) → readRun twosComplement ws ≡ answerAnew ws (readRun signMagnitude ws)
+NewReading = (ws : List ℕ) → read_run twos_complement ws ≡ answer_anew ws (read_run sign_magnitude ws)
 
 -- so minus zero is -2048: where document 01's form gives 9, the new one reads a report with that altitude
 abbrev pub MinusZeroIsLowest : Type 0
 MinusZeroIsLowest =
-    (ws : List ℕ) (o : ℕ) → readRun signMagnitude ws ≡ A.Refused MinusZero o
-    → (r : Report) × (readRun twosComplement ws ≡ A.Accepted r) × (ofAltitude (λ z. all (negative z ∷ eqb (nat_abs z) 2048 ∷ [])) r ≡ true)
+    (ws : List ℕ) (o : ℕ) → read_run sign_magnitude ws ≡ A.Refused MinusZero o
+    → (r : Report) × (read_run twos_complement ws ≡ A.Accepted r) × (of_altitude (λ z. all (negative z ∷ eqb (nat_abs z) 2048 ∷ [])) r ≡ true)
 
 -- bits 79-90 are an altitude whose first bit is one: seven words, bit 12 zero, bit 6 one and bit 79 one
-abbrev pub lowAltitude : List ℕ → Bool
-lowAltitude ws = all (isSeven ws ∷ not (bit ws 12) ∷ bit ws 6 ∷ bit ws 79 ∷ [])
+abbrev pub low_altitude : List ℕ → Bool
+low_altitude ws = all (is_seven ws ∷ not (bit ws 12) ∷ bit ws 6 ∷ bit ws 79 ∷ [])
 
 -- where they are not, the two readings are equal; and a report that has no altitude below zero is the same turned
 pub record EqualReadings : Type 0 where
-  pub by_bits : (ws : List ℕ) → lowAltitude ws ≡ false → readRun twosComplement ws ≡ readRun signMagnitude ws
-  pub by-record : (r : Report) → ofAltitude negative r ≡ false → turned r ≡ r
+  pub by_bits : (ws : List ℕ) → low_altitude ws ≡ false → read_run twos_complement ws ≡ read_run sign_magnitude ws
+  pub by_record : (r : Report) → of_altitude negative r ≡ false → turned r ≡ r
 
 -- the kind, the file number and the values of a report do not depend on its altitude
 pub record RestStays : Type 0 where
-  pub kind : (f : ℤ → ℤ) (r : Report) → kind_of (altitudeBy f r) ≡ kind_of r
-  pub file : (f : ℤ → ℤ) (r : Report) → fileOf (altitudeBy f r) ≡ fileOf r
-  pub values : (f : ℤ → ℤ) (r : Report) → countedOf (altitudeBy f r) ≡ countedOf r
+  pub kind : (f : ℤ → ℤ) (r : Report) → kind_of (altitude_by f r) ≡ kind_of r
+  pub file : (f : ℤ → ℤ) (r : Report) → file_of (altitude_by f r) ≡ file_of r
+  pub values : (f : ℤ → ℤ) (r : Report) → counted_of (altitude_by f r) ≡ counted_of r
 
 -- the same at a place of a line: what is found is the new answer to the run there, and the three places stay
-abbrev pub whatAnew : List ℕ → What → What
-whatAnew ws (W.Accepted r) = W.Accepted (turned r)
-whatAnew ws (W.Refused q) = cond (isMinusZero q) (W.Accepted (lowest (reportOf signMagnitude ws))) (W.Refused q)
-whatAnew ws W.End = W.End
+abbrev pub what_anew : List ℕ → What → What
+what_anew ws (W.Accepted r) = W.Accepted (turned r)
+what_anew ws (W.Refused q) = cond (is_minus_zero q) (W.Accepted (lowest (report_of sign_magnitude ws))) (W.Refused q)
+what_anew ws W.End = W.End
 
-abbrev pub outcomeAnew : List ℕ → Outcome → Outcome
-outcomeAnew ws o = outcomeOf (whatAnew ws o.what) o.first o.after o.named
+abbrev pub outcome_anew : List ℕ → Outcome → Outcome
+outcome_anew ws o = outcome_of (what_anew ws o.what) o.first o.after o.named
 
 -- the run at a place, or behind the idle words there
 abbrev pub run_from : List ℕ → ℕ → List ℕ
-run_from line place = runIn (drop place line)
+run_from line place = run_in (drop place line)
 
 abbrev pub NewOutcome : Type 0
-NewOutcome = (line : List ℕ) (place : ℕ) → readAt twosComplement line place ≡ outcomeAnew (run_from line place) (readAt signMagnitude line place)
+NewOutcome = (line : List ℕ) (place : ℕ) → read_at twos_complement line place ≡ outcome_anew (run_from line place) (read_at sign_magnitude line place)
 
 abbrev pub NewOutcomeOfBytes : Type 0
 NewOutcomeOfBytes =
     (bytes : List ℕ) (place : ℕ)
-    → readBytes twosComplement bytes place ≡ outcomeAnew (run_from (words_in bytes) place) (readBytes signMagnitude bytes place)
+    → read_bytes twos_complement bytes place ≡ outcome_anew (run_from (words_in bytes) place) (read_bytes sign_magnitude bytes place)
 
 -- 9 is never given in the new form
 abbrev pub NeverMinusZero : Type 0
-NeverMinusZero = (line : List ℕ) (place : ℕ) → (readAt twosComplement line place).what ≡ W.Refused MinusZero → ⊥
+NeverMinusZero = (line : List ℕ) (place : ℕ) → (read_at twos_complement line place).what ≡ W.Refused MinusZero → ⊥
 
 abbrev pub NeverMinusZeroInBytes : Type 0
-NeverMinusZeroInBytes = (bytes : List ℕ) (place : ℕ) → (readBytes twosComplement bytes place).what ≡ W.Refused MinusZero → ⊥
+NeverMinusZeroInBytes = (bytes : List ℕ) (place : ℕ) → (read_bytes twos_complement bytes place).what ≡ W.Refused MinusZero → ⊥
 
 -- whether minus zero was found
-abbrev pub isNine : What → Bool
-isNine (W.Accepted r) = false
-isNine (W.Refused q) = isMinusZero q
-isNine W.End = false
+abbrev pub is_nine : What → Bool
+is_nine (W.Accepted r) = false
+is_nine (W.Refused q) = is_minus_zero q
+is_nine W.End = false
 
 -- where it was not, the index is brought the same in both forms
 abbrev pub SameEntry : Type 0
 SameEntry =
-    (bytes : List ℕ) (place scan : ℕ) → isNine (readBytes signMagnitude bytes place).what ≡ false
-    → entryOf (readBytes twosComplement bytes place) scan ≡ entryOf (readBytes signMagnitude bytes place) scan
+    (bytes : List ℕ) (place scan : ℕ) → is_nine (read_bytes sign_magnitude bytes place).what ≡ false
+    → entry_of (read_bytes twos_complement bytes place) scan ≡ entry_of (read_bytes sign_magnitude bytes place) scan
 
 -- ---- writing
 
 -- 11 follows the form's range. An altitude outside it gets 11. One inside it is never the reason: what else stands in the report decides, in both
 -- forms alike
 pub record ElevenFollows : Type 0 where
-  pub outside : (form : Form) (r : Report) (z : ℤ) → ofAltitude (λ v. true) r ≡ true → (InRange form z → ⊥)
-      → written (form_of form) (altitudeBy (λ v. z) r) ≡ M.Refused ValueTooLarge
+  pub outside : (form : Form) (r : Report) (z : ℤ) → of_altitude (λ v. true) r ≡ true → (InRange form z → ⊥)
+      → written (form_of form) (altitude_by (λ v. z) r) ≡ M.Refused ValueTooLarge
   pub inside : (form : Form) (r : Report) (z : ℤ) → InRange form z
-      → takes (form_of form) (altitudeBy (λ v. z) r) ≡ takes signMagnitude (altitudeBy (λ v. pos 0) r)
+      → takes (form_of form) (altitude_by (λ v. z) r) ≡ takes sign_magnitude (altitude_by (λ v. pos 0) r)
 
 -- a report without an altitude below zero is written alike in both forms
 abbrev pub EqualWriting : Type 0
-EqualWriting = (r : Report) → ofAltitude negative r ≡ false → written twosComplement r ≡ written signMagnitude r
+EqualWriting = (r : Report) → of_altitude negative r ≡ false → written twos_complement r ≡ written sign_magnitude r
 
 -- and one that document 01's form takes has in the new form, with its altitude turned, the same words
 abbrev pub TurnedWords : Type 0
-TurnedWords = (r : Report) → Fits signMagnitude r → Fits twosComplement (turned r) × (words_of twosComplement (turned r) ≡ words_of signMagnitude r)
+TurnedWords = (r : Report) → Fits sign_magnitude r → Fits twos_complement (turned r) × (words_of twos_complement (turned r) ≡ words_of sign_magnitude r)
 
 -- two calls of a writer answer and leave the same, on a line of words and on bytes
 pub record WriteAlike (f : AltitudeForm) (r : Report) (g : AltitudeForm) (s : Report) : Type 0 where
@@ -225,5 +225,5 @@ pub record WriteAlike (f : AltitudeForm) (r : Report) (g : AltitudeForm) (s : Re
       → WritesBytes f bytes place r answer exit → WritesBytes g bytes place s answer exit
 
 pub record SameCalls : Type 0 where
-  pub equal : (r : Report) → ofAltitude negative r ≡ false → WriteAlike signMagnitude r twosComplement r
-  pub turned : (r : Report) → Fits signMagnitude r → WriteAlike signMagnitude r twosComplement (turned r)
+  pub equal : (r : Report) → of_altitude negative r ≡ false → WriteAlike sign_magnitude r twos_complement r
+  pub turned : (r : Report) → Fits sign_magnitude r → WriteAlike sign_magnitude r twos_complement (turned r)

@@ -7,18 +7,18 @@ use Rattle.fields.specs.declared.Field.TheVariants as F
 use Rattle.fields.specs.declared.Record.TheVariants.{Single}
 use Rattle.fields.specs.declared.Answer.{Answer}
 use Rattle.fields.specs.declared.Answer.TheVariants.{Accepted}
-use Rattle.fields.specs.Table.{table, rows, rowAt, placeFrom, place_of, byPlace, countIn, sizeIn}
-use Rattle.fields.specs.Reading.{readField, listed, listedBy, text_of}
-use Rattle.fields.specs.Writing.{numbersIn, bitsIn}
-use Rattle.fields.proofs.Claims.{fields-mean}
+use Rattle.fields.specs.Table.{table, rows, row_at, place_from, place_of, by_place, count_in, size_in}
+use Rattle.fields.specs.Reading.{read_field, listed, listed_as, text_of}
+use Rattle.fields.specs.Writing.{numbers_in, bits_in}
+use Rattle.fields.proofs.Claims.{fields_mean}
 use Rattle.field_items.specs.Items.{inner_of}
-use Rattle.field_host.specs.Reading.{entriesOf}
+use Rattle.field_host.specs.Reading.{entries_of}
 use Rattle.field_host.specs.Claims.{EntriesListed}
 
 module _ (n : ℕ) where
   -- of a record with so many bits
-  counted : (f : Field) → n ≡ bitsIn (Single f) → entriesOf (inner_of (Single f)) n ≡ byPlace 0 (λ i. listed i (numbersIn (Single f))) (place_of (inner_of (Single f)))
-  unfolding bitsIn sizeIn countIn listedBy rowAt placeFrom rows table
+  counted : (f : Field) → n ≡ bits_in (Single f) → entries_of (inner_of (Single f)) n ≡ by_place 0 (λ i. listed i (numbers_in (Single f))) (place_of (inner_of (Single f)))
+  unfolding bits_in size_in count_in listed_as row_at place_from rows table
   counted (F.TacticalUplink a b c d e) h = refl
   counted (F.ElmUplink a b c d f) h = refl
   counted (F.DownlinkRequest a b c d e) h = refl
@@ -41,8 +41,8 @@ module _ (n : ℕ) where
   counted (F.TestResponse a) h = refl
   counted (F.ControllerAlert a b c d e f g h i j) k = refl
 
-pub entries-listed : EntriesListed
-unfolding readField
-entries-listed s n w f b e =
-    let r : readField s n w ≡ record { answer = Accepted (Single f); list = (readField s n w).list } = ap (λ (a : Answer). record { answer = a; list = (readField s n w).list }) e in
-    counted n f ((fields-mean s n w (Single f) (readField s n w).list (text_of s n w) b).0 (r, refl)).1
+pub entries_listed : EntriesListed
+unfolding read_field
+entries_listed s n w f b e =
+    let r : read_field s n w ≡ record { answer = Accepted (Single f); list = (read_field s n w).list } = ap (λ (a : Answer). record { answer = a; list = (read_field s n w).list }) e in
+    counted n f ((fields_mean s n w (Single f) (read_field s n w).list (text_of s n w) b).0 (r, refl)).1

@@ -5,14 +5,14 @@ use Rattle.fields.specs.declared.Direction.{Direction}
 use Rattle.fields.specs.declared.Field.{Field}
 use Rattle.fields.specs.declared.Record.TheVariants.{Single}
 use Rattle.fields.specs.declared.Answer.TheVariants.{Accepted}
-use Rattle.fields.specs.Table.{place_of, byPlace}
+use Rattle.fields.specs.Table.{place_of, by_place}
 use Rattle.fields.specs.Reading.{answer_of, listed}
-use Rattle.fields.specs.Writing.{numbersIn}
+use Rattle.fields.specs.Writing.{numbers_in}
 use Rattle.field_items.specs.Items.{inner_of}
-use Rattle.field_host.specs.Reading.{entriesOf}
+use Rattle.field_host.specs.Reading.{entries_of}
 
 -- the entries that are counted from a field's bits are those of its record
 abbrev pub EntriesListed : Type 0
 EntriesListed =
     (s : List ℕ) (n : ℕ) (w : Direction) (f : Field) → Bytes s → answer_of s n w ≡ Accepted (Single f)
-    → entriesOf (inner_of (Single f)) n ≡ byPlace 0 (λ i. listed i (numbersIn (Single f))) (place_of (inner_of (Single f)))
+    → entries_of (inner_of (Single f)) n ≡ by_place 0 (λ i. listed i (numbers_in (Single f))) (place_of (inner_of (Single f)))

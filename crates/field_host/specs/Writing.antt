@@ -4,6 +4,6 @@ use Rattle.fields.specs.declared.Written.{Written}
 use Rattle.fields.specs.declared.Written.TheVariants.{Bits, Refused}
 
 -- the bits that were written, 0 where the field is refused
-abbrev pub bitsOf : Written → ℕ
-bitsOf (Bits n) = n
-bitsOf (Refused q) = 0
+abbrev pub bits_of : Written → ℕ
+bits_of (Bits n) = n
+bits_of (Refused q) = 0

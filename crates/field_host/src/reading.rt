@@ -3,8 +3,8 @@
 // Relies on field_reader for the answer, field_items for the parts; specs/Reading.antt says what each call answers.
 ghost use Rattle.std.specs.Prelude.{◌≡◌, ◌-◌, pos, length, get_or};
 ghost use Rattle.pairs.specs.Pairs.{value_of};
-ghost use Rattle.fields.specs.Reading.{answer_of, answerNumber, readField, text_of};
-ghost use Rattle.field_host.specs.Reading.{way_of, outerOf, innerType, type_of, itemIn, isThere, entriesOf};
+ghost use Rattle.fields.specs.Reading.{answer_of, answer_number, read_field, text_of};
+ghost use Rattle.field_host.specs.Reading.{way_of, outer_of, inner_type, type_of, item_in, is_there, entries_of};
 
 use field_items::items;
 use fields::{Answer, Direction, Record};
@@ -30,13 +30,13 @@ fn answer(bytes: &[u8], count: usize, from_sensor: u32) -> Answer
 
 #[unsafe(no_mangle)]
 pub extern "C" fn siamrung_field_refusal(bytes: &[u8], count: usize, from_sensor: u32) -> u32
-    ensures { result ≡ answerNumber (answer_of bytes.now count (way_of from_sensor)) }
+    ensures { result ≡ answer_number (answer_of bytes.now count (way_of from_sensor)) }
 {
     field_reader::reading::number(answer(bytes, count, from_sensor)) as u32
 }
 
 fn outer(r: Record) -> u32
-    ensures { result ≡ outerOf r }
+    ensures { result ≡ outer_of r }
 {
     match r {
         Record::Single(f) => items::type_of(f),
@@ -57,7 +57,7 @@ fn outer_type(a: Answer) -> u32
 }
 
 fn inner_type(a: Answer) -> u32
-    ensures { result ≡ innerType a }
+    ensures { result ≡ inner_type a }
 {
     match a {
         Answer::Accepted(r) => items::inner(r),
@@ -76,7 +76,7 @@ pub extern "C" fn siamrung_field_type(bytes: &[u8], count: usize, from_sensor: u
 // The type that the items speak of: of a relay that of the field inside; 0 where the field is refused.
 #[unsafe(no_mangle)]
 pub extern "C" fn siamrung_field_inner_type(bytes: &[u8], count: usize, from_sensor: u32) -> u32
-    ensures { result ≡ innerType (answer_of bytes.now count (way_of from_sensor)) }
+    ensures { result ≡ inner_type (answer_of bytes.now count (way_of from_sensor)) }
 {
     inner_type(answer(bytes, count, from_sensor))
 }
@@ -84,7 +84,7 @@ pub extern "C" fn siamrung_field_inner_type(bytes: &[u8], count: usize, from_sen
 // ---- its items
 
 fn item_in(a: Answer, item: u32) -> Found
-    ensures { result ≡ itemIn a item }
+    ensures { result ≡ item_in a item }
 {
     match a {
         Answer::Accepted(r) => items::item_of(r, item as u64),
@@ -94,7 +94,7 @@ fn item_in(a: Answer, item: u32) -> Found
 
 #[unsafe(no_mangle)]
 pub extern "C" fn siamrung_field_has(bytes: &[u8], count: usize, from_sensor: u32, item: u32) -> u32
-    ensures { result ≡ isThere (itemIn (answer_of bytes.now count (way_of from_sensor)) item) }
+    ensures { result ≡ is_there (item_in (answer_of bytes.now count (way_of from_sensor)) item) }
 {
     let found = item_in(answer(bytes, count, from_sensor), item);
     match found {
@@ -111,7 +111,7 @@ pub extern "C" fn siamrung_field_item(
     from_sensor: u32,
     item: u32,
 ) -> u64
-    ensures { result ≡ value_of (itemIn (answer_of bytes.now count (way_of from_sensor)) item) }
+    ensures { result ≡ value_of (item_in (answer_of bytes.now count (way_of from_sensor)) item) }
 {
     items::value(item_in(answer(bytes, count, from_sensor), item))
 }
@@ -126,7 +126,7 @@ fn behind(count: usize) -> usize
 }
 
 fn entries(code: u32, count: usize) -> usize
-    ensures { result ≡ entriesOf code count }
+    ensures { result ≡ entries_of code count }
 {
     if code == 0x9B {
         return behind(count) / 8;
@@ -142,7 +142,7 @@ fn entries(code: u32, count: usize) -> usize
 
 #[unsafe(no_mangle)]
 pub extern "C" fn siamrung_field_entries(bytes: &[u8], count: usize, from_sensor: u32) -> usize
-    ensures { result ≡ entriesOf (type_of (answer_of bytes.now count (way_of from_sensor))) count }
+    ensures { result ≡ entries_of (type_of (answer_of bytes.now count (way_of from_sensor))) count }
 {
     entries(outer_type(answer(bytes, count, from_sensor)), count)
 }
@@ -166,7 +166,7 @@ pub extern "C" fn siamrung_field_entry(
     from_sensor: u32,
     index: usize,
 ) -> i64
-    ensures { result ≡ get_or (readField bytes.now count (way_of from_sensor)).list index (pos 0) }
+    ensures { result ≡ get_or (read_field bytes.now count (way_of from_sensor)).list index (pos 0) }
 {
     let found = field_reader::reading::read(bytes, count, way(from_sensor));
     let list = found.list;

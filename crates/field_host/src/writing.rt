@@ -2,15 +2,15 @@
 // Relies on field_items for the record and the list that are given, field_writer for the writer; specs/Writing.antt says what a written field
 // answers.
 ghost use Rattle.std.specs.Prelude.{◌≡◌};
-ghost use Rattle.fields.specs.Writing.{written_of, left_of, writtenNumber};
-ghost use Rattle.field_items.specs.Given.{given, listGiven};
-ghost use Rattle.field_host.specs.Writing.{bitsOf};
+ghost use Rattle.fields.specs.Writing.{written_of, left_of, written_number};
+ghost use Rattle.field_items.specs.Given.{given, list_given};
+ghost use Rattle.field_host.specs.Writing.{bits_of};
 
 use field_items::given;
 use fields::Written;
 
 fn bits_of(w: Written) -> usize
-    ensures { result ≡ bitsOf w }
+    ensures { result ≡ bits_of w }
 {
     match w {
         Written::Bits(n) => n,
@@ -27,8 +27,8 @@ pub extern "C" fn siamrung_field_write(
     list: &[u8],
     text: &[u8],
 ) -> usize
-    ensures answer { result ≡ bitsOf (written_of (given code told.now list.now) (listGiven list.now) text.now bytes.old) }
-    ensures left { bytes.new ≡ left_of (given code told.now list.now) (listGiven list.now) text.now bytes.old }
+    ensures answer { result ≡ bits_of (written_of (given code told.now list.now) (list_given list.now) text.now bytes.old) }
+    ensures left { bytes.new ≡ left_of (given code told.now list.now) (list_given list.now) text.now bytes.old }
 {
     let r = given::record_of(code, told, list);
     let l = given::list_given(list);
@@ -44,7 +44,7 @@ pub extern "C" fn siamrung_field_write_refusal(
     list: &[u8],
     text: &[u8],
 ) -> u32
-    ensures { result ≡ writtenNumber (written_of (given code told.now list.now) (listGiven list.now) text.now bytes.now) }
+    ensures { result ≡ written_number (written_of (given code told.now list.now) (list_given list.now) text.now bytes.now) }
 {
     let r = given::record_of(code, told, list);
     let l = given::list_given(list);

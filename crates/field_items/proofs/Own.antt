@@ -10,44 +10,44 @@ use lib.ListN.{get_or}
 use borrow.Author.Tests.{le-leb}
 use Rattle.pairs.specs.declared.Found.{Found}
 use Rattle.pairs.specs.declared.Found.TheVariants.{Value, Missing}
-use Rattle.pairs.specs.Pairs.{Pair, findIn, isFound, value_of, gatheredFrom}
+use Rattle.pairs.specs.Pairs.{Pair, find_in, is_found, value_of, gathered_from}
 use Rattle.pairs.proofs.Laws.{each_at}
 use Rattle.fields.specs.declared.Place.TheVariants.{At}
 use Rattle.fields.specs.declared.Field.{Field}
 use Rattle.fields.specs.declared.Field.TheVariants as F
-use Rattle.fields.specs.Table.{table, rows, placeFrom, place_of}
-use Rattle.fields.specs.Records.{field_at, numbersOf}
+use Rattle.fields.specs.Table.{table, rows, place_from, place_of}
+use Rattle.fields.specs.Records.{field_at, numbers_of}
 use Rattle.fields.proofs.Rows.{both_left, both_right}
-use Rattle.field_items.specs.Items.{itemTable, itemsAt, pairsBy, fieldItems}
-use Rattle.field_items.specs.Given.{foundIn, fieldGiven}
+use Rattle.field_items.specs.Items.{item_table, items_at, pairs_by, items_of_field}
+use Rattle.field_items.specs.Given.{found_in, field_given}
 use Rattle.field_items.specs.Claims.{ItemsByName}
 
 -- the place of a field's type
-abbrev pub placeNo : Field → ℕ
-placeNo (F.TacticalUplink a b c d e) = 0
-placeNo (F.ElmUplink a b c d f) = 1
-placeNo (F.DownlinkRequest a b c d e) = 2
-placeNo (F.IdRequest a b) = 3
-placeNo (F.CapabilityRequest a b) = 4
-placeNo (F.Cancellation a b c d) = 5
-placeNo (F.Test a) = 6
-placeNo (F.AltimeterCorrection b) = 7
-placeNo (F.AtcFailure a) = 8
-placeNo (F.SensorFailure a c) = 9
-placeNo (F.DabsControlState a b c) = 10
-placeNo (F.AtcrbsControlState a b) = 11
-placeNo (F.RejectionNotice a b c) = 12
-placeNo (F.DeliveryNotice a b c) = 13
-placeNo (F.TacticalDownlink a b) = 14
-placeNo (F.ElmDownlink a c) = 15
-placeNo (F.Utility a c) = 16
-placeNo (F.Capability a b c d) = 17
-placeNo (F.IdCode a c) = 18
-placeNo (F.TestResponse a) = 19
-placeNo (F.ControllerAlert a b c d e f g h i j) = 20
+abbrev pub place_no : Field → ℕ
+place_no (F.TacticalUplink a b c d e) = 0
+place_no (F.ElmUplink a b c d f) = 1
+place_no (F.DownlinkRequest a b c d e) = 2
+place_no (F.IdRequest a b) = 3
+place_no (F.CapabilityRequest a b) = 4
+place_no (F.Cancellation a b c d) = 5
+place_no (F.Test a) = 6
+place_no (F.AltimeterCorrection b) = 7
+place_no (F.AtcFailure a) = 8
+place_no (F.SensorFailure a c) = 9
+place_no (F.DabsControlState a b c) = 10
+place_no (F.AtcrbsControlState a b) = 11
+place_no (F.RejectionNotice a b c) = 12
+place_no (F.DeliveryNotice a b c) = 13
+place_no (F.TacticalDownlink a b) = 14
+place_no (F.ElmDownlink a c) = 15
+place_no (F.Utility a c) = 16
+place_no (F.Capability a b c d) = 17
+place_no (F.IdCode a c) = 18
+place_no (F.TestResponse a) = 19
+place_no (F.ControllerAlert a b c d e f g h i j) = 20
 
-pub place-of : (f : Field) → place_of (get_or (numbersOf f) 0 0) ≡ At (placeNo f)
-unfolding placeFrom rows table
+pub place-of : (f : Field) → place_of (get_or (numbers_of f) 0 0) ≡ At (place_no f)
+unfolding place_from rows table
 place-of (F.TacticalUplink a b c d e) = refl
 place-of (F.ElmUplink a b c d f) = refl
 place-of (F.DownlinkRequest a b c d e) = refl
@@ -71,52 +71,52 @@ place-of (F.TestResponse a) = refl
 place-of (F.ControllerAlert a b c d e f g h i j) = refl
 
 -- a field has no sensor
-pub no-sensor : (f : Field) → findIn 237 (fieldItems f) ≡ Missing
-unfolding findIn pairsBy fieldItems placeFrom rows table itemTable itemsAt
-no-sensor (F.TacticalUplink a b c d e) = refl
-no-sensor (F.ElmUplink a b c d f) = refl
-no-sensor (F.DownlinkRequest a b c d e) = refl
-no-sensor (F.IdRequest a b) = refl
-no-sensor (F.CapabilityRequest a b) = refl
-no-sensor (F.Cancellation a b c d) = refl
-no-sensor (F.Test a) = refl
-no-sensor (F.AltimeterCorrection b) = refl
-no-sensor (F.AtcFailure a) = refl
-no-sensor (F.SensorFailure a c) = refl
-no-sensor (F.DabsControlState a b c) = refl
-no-sensor (F.AtcrbsControlState a b) = refl
-no-sensor (F.RejectionNotice a b c) = refl
-no-sensor (F.DeliveryNotice a b c) = refl
-no-sensor (F.TacticalDownlink a b) = refl
-no-sensor (F.ElmDownlink a c) = refl
-no-sensor (F.Utility a c) = refl
-no-sensor (F.Capability a b c d) = refl
-no-sensor (F.IdCode a c) = refl
-no-sensor (F.TestResponse a) = refl
-no-sensor (F.ControllerAlert a b c d e f g h i j) = refl
+pub no_sensor : (f : Field) → find_in 237 (items_of_field f) ≡ Missing
+unfolding find_in pairs_by items_of_field place_from rows table item_table items_at
+no_sensor (F.TacticalUplink a b c d e) = refl
+no_sensor (F.ElmUplink a b c d f) = refl
+no_sensor (F.DownlinkRequest a b c d e) = refl
+no_sensor (F.IdRequest a b) = refl
+no_sensor (F.CapabilityRequest a b) = refl
+no_sensor (F.Cancellation a b c d) = refl
+no_sensor (F.Test a) = refl
+no_sensor (F.AltimeterCorrection b) = refl
+no_sensor (F.AtcFailure a) = refl
+no_sensor (F.SensorFailure a c) = refl
+no_sensor (F.DabsControlState a b c) = refl
+no_sensor (F.AtcrbsControlState a b) = refl
+no_sensor (F.RejectionNotice a b c) = refl
+no_sensor (F.DeliveryNotice a b c) = refl
+no_sensor (F.TacticalDownlink a b) = refl
+no_sensor (F.ElmDownlink a c) = refl
+no_sensor (F.Utility a c) = refl
+no_sensor (F.Capability a b c d) = refl
+no_sensor (F.IdCode a c) = refl
+no_sensor (F.TestResponse a) = refl
+no_sensor (F.ControllerAlert a b c d e f g h i j) = refl
 
 -- what is gathered says of an item what the pairs say
-pub found_of : (ps : List Pair) (n : ℕ) → 201 ≤ n → n ≤ 237 → foundIn (gatheredFrom 201 ps) n ≡ findIn n ps
-unfolding foundIn gatheredFrom
+pub found_of : (ps : List Pair) (n : ℕ) → 201 ≤ n → n ≤ 237 → found_in (gathered_from 201 ps) n ≡ find_in n ps
+unfolding found_in gathered_from
 found_of ps n l h =
     let e : 201 + (n - 201) ≡ n = omega arith in
-    rw (le-leb 201 n l, each_at isFound 201 37 (n - 201) false ps (omega arith), each_at value_of 201 37 (n - 201) 0 ps (omega arith), e) (whole (findIn n ps))
+    rw (le-leb 201 n l, each_at is_found 201 37 (n - 201) false ps (omega arith), each_at value_of 201 37 (n - 201) 0 ps (omega arith), e) (whole (find_in n ps))
   where
-    whole : (x : Found) → cond (isFound x) (Value (value_of x)) Missing ≡ x
+    whole : (x : Found) → cond (is_found x) (Value (value_of x)) Missing ≡ x
     whole (Value v) = refl
     whole Missing = refl
 
 -- such an item, where it is not the sensor
-says : (f : Field) (ps : List Pair) → ((n : ℕ) → (n ≡ 237 → ⊥) → findIn n ps ≡ findIn n (fieldItems f)) → (n : ℕ) → T (leb 201 n && leb n 236)
-    → foundIn (gatheredFrom 201 ps) n ≡ findIn n (fieldItems f)
+says : (f : Field) (ps : List Pair) → ((n : ℕ) → (n ≡ 237 → ⊥) → find_in n ps ≡ find_in n (items_of_field f)) → (n : ℕ) → T (leb 201 n && leb n 236)
+    → found_in (gathered_from 201 ps) n ≡ find_in n (items_of_field f)
 says f ps h n t =
     let l = leb→le 201 n (both_left (leb 201 n) (leb n 236) t) in
     let m = leb→le n 236 (both_right (leb 201 n) (leb n 236) t) in
     found_of ps n l (omega arith) ∙ h n (λ e. omega arith)
 
 -- pairs that say of each item but the sensor what the field says make the field
-pub made : (f : Field) (ps : List Pair) → ((n : ℕ) → (n ≡ 237 → ⊥) → findIn n ps ≡ findIn n (fieldItems f)) → fieldGiven (gatheredFrom 201 ps) (placeNo f) ≡ f
-unfolding fieldGiven field_at findIn pairsBy fieldItems placeFrom rows table itemTable itemsAt
+pub made : (f : Field) (ps : List Pair) → ((n : ℕ) → (n ≡ 237 → ⊥) → find_in n ps ≡ find_in n (items_of_field f)) → field_given (gathered_from 201 ps) (place_no f) ≡ f
+unfolding field_given field_at find_in pairs_by items_of_field place_from rows table item_table items_at
 made (F.TacticalUplink a b c d e) ps q = rw (says (F.TacticalUplink a b c d e) ps q 201 tt, says (F.TacticalUplink a b c d e) ps q 202 tt, says (F.TacticalUplink a b c d e) ps q 203 tt, says (F.TacticalUplink a b c d e) ps q 204 tt, says (F.TacticalUplink a b c d e) ps q 205 tt) refl
 made (F.ElmUplink a b c d f) ps q = rw (says (F.ElmUplink a b c d f) ps q 201 tt, says (F.ElmUplink a b c d f) ps q 202 tt, says (F.ElmUplink a b c d f) ps q 203 tt, says (F.ElmUplink a b c d f) ps q 204 tt, says (F.ElmUplink a b c d f) ps q 206 tt) refl
 made (F.DownlinkRequest a b c d e) ps q = rw (says (F.DownlinkRequest a b c d e) ps q 201 tt, says (F.DownlinkRequest a b c d e) ps q 202 tt, says (F.DownlinkRequest a b c d e) ps q 203 tt, says (F.DownlinkRequest a b c d e) ps q 204 tt, says (F.DownlinkRequest a b c d e) ps q 207 tt) refl
@@ -141,7 +141,7 @@ made (F.ControllerAlert a b c d e f g h i j) ps q = rw (says (F.ControllerAlert 
 
 -- the items by name
 pub by_name : ItemsByName
-unfolding findIn pairsBy fieldItems placeFrom rows table itemTable itemsAt
+unfolding find_in pairs_by items_of_field place_from rows table item_table items_at
 by_name (F.TacticalUplink a b c d e) = refl
 by_name (F.ElmUplink a b c d e) = refl
 by_name (F.DownlinkRequest a b c d e) = refl

@@ -1,13 +1,13 @@
 -- What is claimed of the items of link data fields. Statements only; proofs/Claims.antt proves them.
 use Rattle.std.specs.Prelude.{ℕ, ◌%◌, ◌≡◌, List, [], ◌∷◌, ◌⊎◌, ℤ, length}
-use Rattle.pairs.specs.Pairs.{Pair, pairsIn, findIn}
+use Rattle.pairs.specs.Pairs.{Pair, pairs_in, find_in}
 use Rattle.refusals.specs.declared.FieldRefusal.TheVariants.{NotWritable}
 use Rattle.fields.specs.declared.Field.{Field}
 use Rattle.fields.specs.declared.Field.TheVariants as F
 use Rattle.fields.specs.declared.Record.{Record}
 use Rattle.fields.specs.declared.Written.TheVariants.{Refused}
 use Rattle.fields.specs.Writing.{written_of}
-use Rattle.field_items.specs.Items.{fieldItems, items_of, item_of, inner_of}
+use Rattle.field_items.specs.Items.{items_of_field, items_of, item_of, inner_of}
 use Rattle.field_items.specs.Items as I
 use Rattle.field_items.specs.Given.{unfit, given}
 
@@ -18,7 +18,7 @@ named (F.ElmUplink a b c d e) = (I.address, a) ∷ (I.number, b) ∷ (I.priority
 named (F.DownlinkRequest a b c d e) = (I.address, a) ∷ (I.number, b) ∷ (I.priority, c) ∷ (I.exp, d) ∷ (I.msrc, e) ∷ []
 named (F.IdRequest a b) = (I.address, a) ∷ (I.number, b) ∷ []
 named (F.CapabilityRequest a b) = (I.address, a) ∷ (I.number, b) ∷ []
-named (F.Cancellation a b c d) = (I.address, a) ∷ (I.number, b) ∷ (I.referenced, c) ∷ (I.referencedType, d) ∷ []
+named (F.Cancellation a b c d) = (I.address, a) ∷ (I.number, b) ∷ (I.referenced, c) ∷ (I.referenced_type, d) ∷ []
 named (F.Test a) = (I.pattern, a) ∷ []
 named (F.AltimeterCorrection a) = (I.n, a) ∷ []
 named (F.AtcFailure a) = (I.state, a) ∷ []
@@ -37,13 +37,13 @@ named (F.ControllerAlert a b c d e f g h i j) = (I.acid1, a) ∷ (I.acid2, b) �
 
 -- the table gives each record these
 abbrev pub ItemsByName : Type 0
-ItemsByName = (f : Field) → fieldItems f ≡ named f
+ItemsByName = (f : Field) → items_of_field f ≡ named f
 
 -- bytes that are the items of a record, each once, in any order
 pub record Holds (s : List ℕ) (r : Record) : Type 0 where
   pub whole : length s % 16 ≡ 0
-  pub many : length (pairsIn s) ≡ length (items_of r)
-  pub each : (n : ℕ) → findIn n (pairsIn s) ≡ item_of r n
+  pub many : length (pairs_in s) ≡ length (items_of r)
+  pub each : (n : ℕ) → find_in n (pairs_in s) ≡ item_of r n
 
 -- a record's own items, given back with its type, are the record: every record's, a relay's too
 abbrev pub OwnItems : Type 0

@@ -2,13 +2,13 @@
 -- are ours, and none is ever used for another item. Definitions only.
 use Rattle.std.specs.Prelude.{ℕ, ◌+◌, cond, List, [], ◌∷◌, ◌++◌, eqb, get_or, take, replicate}
 use Rattle.pairs.specs.declared.Found.{Found}
-use Rattle.pairs.specs.Pairs.{Pair, findIn}
+use Rattle.pairs.specs.Pairs.{Pair, find_in}
 use Rattle.fields.specs.declared.Field.{Field}
 use Rattle.fields.specs.declared.Record.{Record}
 use Rattle.fields.specs.declared.Record.TheVariants.{Single, Relay}
-use Rattle.fields.specs.Table.{place_of, byPlace}
-use Rattle.fields.specs.Records.{numbersOf}
-use Rattle.fields.specs.Writing.{numbersIn}
+use Rattle.fields.specs.Table.{place_of, by_place}
+use Rattle.fields.specs.Records.{numbers_of}
+use Rattle.fields.specs.Writing.{numbers_in}
 
 -- ---- the numbers
 
@@ -36,8 +36,8 @@ msrc = 207
 abbrev pub referenced : ℕ
 referenced = 208
 
-abbrev pub referencedType : ℕ
-referencedType = 209
+abbrev pub referenced_type : ℕ
+referenced_type = 209
 
 abbrev pub pattern : ℕ
 pattern = 210
@@ -130,8 +130,8 @@ abbrev parts : List ℕ → List ℕ
 parts ks = take 11 (0 ∷ ks ++ replicate 10 0)
 
 -- in the order of the table of types
-unfoldable pub itemTable : List (List ℕ)
-itemTable =
+unfoldable pub item_table : List (List ℕ)
+item_table =
     -- 21 tactical
     parts (address ∷ number ∷ priority ∷ exp ∷ text ∷ [])
     -- 22 ELM; part 5 is spare
@@ -143,7 +143,7 @@ itemTable =
     -- 02
     ∷ parts (address ∷ number ∷ [])
     -- 25 cancellation
-    ∷ parts (address ∷ number ∷ referenced ∷ referencedType ∷ [])
+    ∷ parts (address ∷ number ∷ referenced ∷ referenced_type ∷ [])
     -- 61 test
     ∷ parts (pattern ∷ [])
     -- 9B altimeter; part 1 is spare
@@ -178,8 +178,8 @@ itemTable =
     ∷ parts []
     ∷ []
 
-unfoldable pub itemsAt : ℕ → List ℕ
-itemsAt i = get_or itemTable i []
+unfoldable pub items_at : ℕ → List ℕ
+items_at i = get_or item_table i []
 
 -- how many of these are items
 unfoldable pub tally_of : List ℕ → ℕ
@@ -189,23 +189,23 @@ tally_of (k ∷ ks) = cond (eqb k 0) 0 1 + tally_of ks
 -- ---- the items of a record, with their values
 
 -- those of parts with these items and values
-unfoldable pub pairsBy : List ℕ → List ℕ → List Pair
-pairsBy [] vs = []
-pairsBy (k ∷ ks) [] = []
-pairsBy (k ∷ ks) (v ∷ vs) = cond (eqb k 0) (pairsBy ks vs) ((k, v) ∷ pairsBy ks vs)
+unfoldable pub pairs_by : List ℕ → List ℕ → List Pair
+pairs_by [] vs = []
+pairs_by (k ∷ ks) [] = []
+pairs_by (k ∷ ks) (v ∷ vs) = cond (eqb k 0) (pairs_by ks vs) ((k, v) ∷ pairs_by ks vs)
 
 -- a part's item is what stands at its place; every field's type has one
-unfoldable pub fieldItems : Field → List Pair
-fieldItems f = byPlace [] (λ i. pairsBy (itemsAt i) (numbersOf f)) (place_of (get_or (numbersOf f) 0 0))
+unfoldable pub items_of_field : Field → List Pair
+items_of_field f = by_place [] (λ i. pairs_by (items_at i) (numbers_of f)) (place_of (get_or (numbers_of f) 0 0))
 
 abbrev pub items_of : Record → List Pair
-items_of (Single f) = fieldItems f
-items_of (Relay x f) = (sensor, x) ∷ fieldItems f
+items_of (Single f) = items_of_field f
+items_of (Relay x f) = (sensor, x) ∷ items_of_field f
 
 -- the value of an item, where the record has it
 abbrev pub item_of : Record → ℕ → Found
-item_of r k = findIn k (items_of r)
+item_of r k = find_in k (items_of r)
 
 -- the type that the items speak of: of a relay that of the field inside
 abbrev pub inner_of : Record → ℕ
-inner_of r = get_or (numbersIn r) 0 0
+inner_of r = get_or (numbers_in r) 0 0

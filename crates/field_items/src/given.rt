@@ -4,9 +4,9 @@
 // that the writer refuses with 30.
 // Relies on fields for the records, pairs for what is given, items for the parts; specs/Given.antt says what each function gives.
 ghost use Rattle.std.specs.Prelude.{◌≡◌, ◌<◌, true, cond, eqb};
-ghost use Rattle.pairs.specs.Pairs.{pairsIn, value_of};
-ghost use Rattle.field_items.specs.Items.{pairsBy, fieldItems, items_of};
-ghost use Rattle.field_items.specs.Given.{foundIn, fieldGiven, recordGiven, sameFound, covers, fits, unfit, checkedBy, checkedAt, given, signed_of, listGiven};
+ghost use Rattle.pairs.specs.Pairs.{pairs_in, value_of};
+ghost use Rattle.field_items.specs.Items.{pairs_by, items_of_field, items_of};
+ghost use Rattle.field_items.specs.Given.{found_in, field_given, record_given, same_found, covers, fits, unfit, checked_by, checked_at, given, signed_of, list_given};
 
 use crate::items;
 use fields::{Field, Place, Record, records, table};
@@ -19,7 +19,7 @@ const FIRST: u64 = 201;
 
 // What is gathered of an item; nothing of a number that is none.
 fn found(gathered: Gathered, item: u64) -> Found
-    ensures { result ≡ foundIn gathered item }
+    ensures { result ≡ found_in gathered item }
 {
     let there = gathered.there;
     let values = gathered.values;
@@ -38,7 +38,7 @@ fn found(gathered: Gathered, item: u64) -> Found
 }
 
 fn value(gathered: Gathered, item: u64) -> u64
-    ensures { result ≡ value_of (foundIn gathered item) }
+    ensures { result ≡ value_of (found_in gathered item) }
 {
     items::value(found(gathered, item))
 }
@@ -46,7 +46,7 @@ fn value(gathered: Gathered, item: u64) -> u64
 // The field of the type at place i, of what is gathered of its items.
 fn field_given(gathered: Gathered, i: usize) -> Field
     requires { i < 22 }
-    ensures { result ≡ fieldGiven gathered i }
+    ensures { result ≡ field_given gathered i }
 {
     let k = items::items_at(i);
     records::field_at(
@@ -67,7 +67,7 @@ fn field_given(gathered: Gathered, i: usize) -> Field
 // A sensor that is given makes a relay of it.
 fn record_given(gathered: Gathered, i: usize) -> Record
     requires { i < 22 }
-    ensures { result ≡ recordGiven gathered i }
+    ensures { result ≡ record_given gathered i }
 {
     let f = field_given(gathered, i);
     let s = found(gathered, items::SENSOR);
@@ -84,7 +84,7 @@ fn record_given(gathered: Gathered, i: usize) -> Record
 
 // An item is gathered, with this value.
 fn tells(gathered: Gathered, item: u64, value: u64) -> bool
-    ensures { result ≡ sameFound (foundIn gathered item) (Found.Value value) }
+    ensures { result ≡ same_found (found_in gathered item) (Found.Value value) }
 {
     let f = found(gathered, item);
     match f {
@@ -95,7 +95,7 @@ fn tells(gathered: Gathered, item: u64, value: u64) -> bool
 
 // A part is no item, or is gathered with this value.
 fn tells_part(gathered: Gathered, item: u64, value: u64) -> bool
-    ensures { result ≡ cond (eqb item 0) true (sameFound (foundIn gathered item) (Found.Value value)) }
+    ensures { result ≡ cond (eqb item 0) true (same_found (found_in gathered item) (Found.Value value)) }
 {
     if item == 0 {
         true
@@ -106,7 +106,7 @@ fn tells_part(gathered: Gathered, item: u64, value: u64) -> bool
 
 // All of these parts that are items are gathered, with these values.
 fn tells_parts(gathered: Gathered, items: [u64; 11], v: [u64; 11]) -> bool
-    ensures { result ≡ covers gathered (pairsBy items v) }
+    ensures { result ≡ covers gathered (pairs_by items v) }
 {
     let mut i: usize = 0;
     while i < 11 {
@@ -120,7 +120,7 @@ fn tells_parts(gathered: Gathered, items: [u64; 11], v: [u64; 11]) -> bool
 }
 
 fn tells_field(gathered: Gathered, f: Field) -> bool
-    ensures { result ≡ covers gathered (fieldItems f) }
+    ensures { result ≡ covers gathered (items_of_field f) }
 {
     let v = records::numbers(f);
     let Place::At(i) = table::find(v[0]) else {
@@ -167,7 +167,7 @@ fn unfit() -> Record
 
 fn checked_by(code: u32, count: usize, gathered: Gathered, i: usize) -> Record
     requires { i < 22 }
-    ensures { result ≡ checkedBy code count gathered i }
+    ensures { result ≡ checked_by code count gathered i }
 {
     let r = record_given(gathered, i);
     if fits(code, count, gathered, r) {
@@ -178,7 +178,7 @@ fn checked_by(code: u32, count: usize, gathered: Gathered, i: usize) -> Record
 
 fn checked(given: &[u8], code: u32, i: usize) -> Record
     requires { i < 22 }
-    ensures { result ≡ checkedAt code (pairsIn given.now) i }
+    ensures { result ≡ checked_at code (pairs_in given.now) i }
 {
     let count = pairs::count(given);
     checked_by(code, count, pairs::gather(given, FIRST), i)
@@ -218,7 +218,7 @@ fn signed(x: u64) -> i32
 
 // Thirty numbers, from the first byte on.
 pub fn list_given(list: &[u8]) -> [i32; 30]
-    ensures { result ≡ listGiven list.now }
+    ensures { result ≡ list_given list.now }
 {
     let mut v = [0i32; 30];
     let mut k: usize = 0;

@@ -2,9 +2,9 @@
 // One table says for each type which item each of its parts is; no function goes by type.
 // Relies on fields for a record's parts and a type's place; specs/Items.antt says what the table holds.
 ghost use Rattle.std.specs.Prelude.{◌≡◌, ◌<◌, ◌≤◌, cond, eqb, length, get_or};
-ghost use Rattle.pairs.specs.Pairs.{findIn, value_of};
-ghost use Rattle.fields.specs.Records.{numbersOf};
-ghost use Rattle.field_items.specs.Items.{itemsAt, tally_of, pairsBy, fieldItems, items_of, item_of, inner_of};
+ghost use Rattle.pairs.specs.Pairs.{find_in, value_of};
+ghost use Rattle.fields.specs.Records.{numbers_of};
+ghost use Rattle.field_items.specs.Items.{items_at, tally_of, pairs_by, items_of_field, items_of, item_of, inner_of};
 
 use fields::{Field, Place, Record, records, table};
 use pairs::Found;
@@ -14,7 +14,7 @@ pub const SENSOR: u64 = 237;
 // What the parts of the type at place i are, in the order of the table of types; 0 is no item.
 pub(crate) fn items_at(i: usize) -> [u64; 11]
     requires { i < 22 }
-    ensures { result ≡ itemsAt i }
+    ensures { result ≡ items_at i }
 {
     match i {
         // 21
@@ -66,7 +66,7 @@ pub(crate) fn items_at(i: usize) -> [u64; 11]
 
 // Among parts with these items and values, the value of this one.
 fn search(items: [u64; 11], v: [u64; 11], item: u64) -> Found
-    ensures { result ≡ findIn item (pairsBy items v) }
+    ensures { result ≡ find_in item (pairs_by items v) }
 {
     if item == 0 {
         return Found::Missing;
@@ -102,7 +102,7 @@ fn tally(items: [u64; 11]) -> usize
 
 // The type of a field that is no relay.
 pub fn type_of(f: Field) -> u32
-    ensures { result ≡ get_or (numbersOf f) 0 0 }
+    ensures { result ≡ get_or (numbers_of f) 0 0 }
 {
     let v = records::numbers(f);
     v[0] as u32
@@ -119,7 +119,7 @@ pub fn inner(r: Record) -> u32
 }
 
 fn field_item(f: Field, item: u64) -> Found
-    ensures { result ≡ findIn item (fieldItems f) }
+    ensures { result ≡ find_in item (items_of_field f) }
 {
     let v = records::numbers(f);
     let Place::At(i) = table::find(v[0]) else {
@@ -129,7 +129,7 @@ fn field_item(f: Field, item: u64) -> Found
 }
 
 fn field_count(f: Field) -> usize
-    ensures { (result ≡ length (fieldItems f)) × (result ≤ 11) }
+    ensures { (result ≡ length (items_of_field f)) × (result ≤ 11) }
 {
     let v = records::numbers(f);
     let Place::At(i) = table::find(v[0]) else {

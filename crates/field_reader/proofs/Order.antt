@@ -15,47 +15,47 @@ use Rattle.fields.specs.declared.Record.TheVariants.{Single, Relay}
 use Rattle.fields.specs.declared.Answer.{Answer}
 use Rattle.fields.specs.declared.Answer.TheVariants.{Accepted}
 use Rattle.fields.specs.Table.{place_of}
-use Rattle.fields.specs.Reading.{type_of, typeNotCarried, unknownType, wrongDirection, wrongBitCount, spareBitSet, valueNotInUse, countRows, fieldRows, recordIn, opens, answer_of}
-use Rattle.fields.proofs.Rows.{found_within, found-code, carried}
+use Rattle.fields.specs.Reading.{type_of, type_not_carried, unknown_type, wrong_direction, wrong_bit_count, spare_bit_set, value_not_in_use, count_rows, field_rows, record_in, opens, answer_of}
+use Rattle.fields.proofs.Rows.{found_within, found_code, carried}
 use Rattle.field_reader.specs.declared.Passed.{Passed}
 use Rattle.field_reader.specs.declared.Passed.TheVariants as Q
 use Rattle.field_reader.specs.declared.Plain.{Plain}
 use Rattle.field_reader.specs.declared.Plain.TheVariants as P
-use Rattle.field_reader.specs.Steps.{passed, outerOf, unlessRefused, asPlain, plain_of, unknownOf, judgedBy, rowRead, handed, answered, relayed, opened_of}
+use Rattle.field_reader.specs.Steps.{passed, outer_of, unless_refused, as_plain, plain_of, unknown_of, judged_by, row_read, handed, answered, relayed, opened_of}
 
 -- the count and the bytes first, then the field
-pub outer-first : (s : List ℕ) (n : ℕ) (w : Direction) → answer_of s n w ≡ unlessRefused (opened_of s n w) (outerOf s n)
-unfolding answer_of outerOf opened_of
-outer-first s n w = each_of Passed Answer (unlessRefused (opened_of s n w)) (each passed (countRows s n)) Q.Clear
+pub outer_first : (s : List ℕ) (n : ℕ) (w : Direction) → answer_of s n w ≡ unless_refused (opened_of s n w) (outer_of s n)
+unfolding answer_of outer_of opened_of
+outer_first s n w = each_of Passed Answer (unless_refused (opened_of s n w)) (each passed (count_rows s n)) Q.Clear
 
 module _ (s : List ℕ) (n a : ℕ) (w : Direction) where
   -- the field before its record is made
-  field-first : (k : Field → Record) → first_of (fieldRows s n a w) (Accepted (k (recordIn s a))) ≡ handed k (plain_of s n a w)
+  field_first : (k : Field → Record) → first_of (field_rows s n a w) (Accepted (k (record_in s a))) ≡ handed k (plain_of s n a w)
   unfolding plain_of
-  field-first k = each_of Plain Answer (handed k) (each asPlain (fieldRows s n a w)) (P.Read (recordIn s a))
+  field_first k = each_of Plain Answer (handed k) (each as_plain (field_rows s n a w)) (P.Read (record_in s a))
 
   -- a type with no row is 23 or 24
-  pub unplaced : place_of (type_of s a) ≡ Nowhere → plain_of s n a w ≡ P.Refused (unknownOf (type_of s a))
-  unfolding plain_of unknownType
-  unplaced e = rw e (go (typeNotCarried (type_of s a)) _)
+  pub unplaced : place_of (type_of s a) ≡ Nowhere → plain_of s n a w ≡ P.Refused (unknown_of (type_of s a))
+  unfolding plain_of unknown_type
+  unplaced e = rw e (go (type_not_carried (type_of s a)) _)
     where
       go : (u : Bool) (rest : Plain) → cond (not u) (P.Refused UnknownType) (cond u (P.Refused TypeNotCarried) rest) ≡ P.Refused (cond u TypeNotCarried UnknownType)
       go true rest = refl
       go false rest = refl
 
   -- one with a row is neither
-  pub placed : (i : ℕ) → place_of (type_of s a) ≡ At i → plain_of s n a w ≡ rowRead s n a w i
-  unfolding plain_of unknownType wrongDirection wrongBitCount spareBitSet valueNotInUse rowRead judgedBy
+  pub placed : (i : ℕ) → place_of (type_of s a) ≡ At i → plain_of s n a w ≡ row_read s n a w i
+  unfolding plain_of unknown_type wrong_direction wrong_bit_count spare_bit_set value_not_in_use row_read judged_by
   placed i e =
-      let c = found-code (type_of s a) i e in
-      let u : typeNotCarried (type_of s a) ≡ false = rw (← c) (carried i (found_within (type_of s a) i e)) in
+      let c = found_code (type_of s a) i e in
+      let u : type_not_carried (type_of s a) ≡ false = rw (← c) (carried i (found_within (type_of s a) i e)) in
       rw (e, u, ← c) refl
 
 -- a relay's inner field, or the field itself
-pub opened-relay : (s : List ℕ) (n : ℕ) (w : Direction) → opens s n w ≡ true → opened_of s n w ≡ relayed (bits s 9 16) (plain_of s n 16 w)
+pub opened_relay : (s : List ℕ) (n : ℕ) (w : Direction) → opens s n w ≡ true → opened_of s n w ≡ relayed (bits s 9 16) (plain_of s n 16 w)
 unfolding opened_of
-opened-relay s n w e = rw e (field-first s n 16 w (Relay (bits s 9 16)))
+opened_relay s n w e = rw e (field_first s n 16 w (Relay (bits s 9 16)))
 
-pub opened-field : (s : List ℕ) (n : ℕ) (w : Direction) → opens s n w ≡ false → opened_of s n w ≡ answered (plain_of s n 0 w)
+pub opened_field : (s : List ℕ) (n : ℕ) (w : Direction) → opens s n w ≡ false → opened_of s n w ≡ answered (plain_of s n 0 w)
 unfolding opened_of
-opened-field s n w e = rw e (field-first s n 0 w Single)
+opened_field s n w e = rw e (field_first s n 0 w Single)

@@ -7,36 +7,36 @@ use native.Mathlib.Decide.{dec_lt}
 use native.Mathlib.Omega.{arith}
 use lib.ListN.{length, take, drop, get_or, replicate, length-drop}
 use lib.Seq.{take_all, get_or-take, ext_get_or}
-use Rattle.bits.specs.Bits.{bitsOf}
+use Rattle.bits.specs.Bits.{bits_of}
 use Rattle.fields.specs.Table.{values_of}
-use Rattle.fields.proofs.Rows.{values-fit, fit_at}
-use Rattle.fields.proofs.Rounds.{valuesOf-length}
+use Rattle.fields.proofs.Rows.{values_fit, fit_at}
+use Rattle.fields.proofs.Rounds.{values_of-length}
 
 -- a part up to the end is all that is left
-pub rest-whole : (s : List ℕ) (k : ℕ) → take (length s - k) (drop k s) ≡ drop k s
-rest-whole s k = take_all (length s - k) (drop k s) (rw length-drop (omega arith))
+pub rest_whole : (s : List ℕ) (k : ℕ) → take (length s - k) (drop k s) ≡ drop k s
+rest_whole s k = take_all (length s - k) (drop k s) (rw length-drop (omega arith))
 
-values-take : (s : List ℕ) (a : ℕ) (ws : List ℕ) (i : ℕ) → take i (values_of s a ws) ≡ values_of s a (take i ws)
+values_take : (s : List ℕ) (a : ℕ) (ws : List ℕ) (i : ℕ) → take i (values_of s a ws) ≡ values_of s a (take i ws)
 unfolding values_of
-values-take s a [] zero = refl
-values-take s a [] (suc i) = refl
-values-take s a (w ∷ ws) zero = refl
-values-take s a (w ∷ ws) (suc i) = ap (λ (l : List ℕ). bitsOf s a w ∷ l) (values-take s (a + w) ws i)
+values_take s a [] zero = refl
+values_take s a [] (suc i) = refl
+values_take s a (w ∷ ws) zero = refl
+values_take s a (w ∷ ws) (suc i) = ap (λ (l : List ℕ). bits_of s a w ∷ l) (values_take s (a + w) ws i)
 
 -- a part of no bits is 0
-values-none : (s : List ℕ) (a : ℕ) (ws : List ℕ) (k : ℕ) → get_or ws k 0 ≡ 0 → get_or (values_of s a ws) k 0 ≡ 0
-values-none s a ws k e = let h = rw e at (fit_at ws (values_of s a ws) (values-fit s a ws) k) in omega arith
+values_none : (s : List ℕ) (a : ℕ) (ws : List ℕ) (k : ℕ) → get_or ws k 0 ≡ 0 → get_or (values_of s a ws) k 0 ≡ 0
+values_none s a ws k e = let h = rw e at (fit_at ws (values_of s a ws) (values_fit s a ws) k) in omega arith
 
 -- the first i values, and zeros where no more parts have bits
 pub values-are : (s : List ℕ) (a : ℕ) (ws vs : List ℕ) (i : ℕ) → length vs ≡ length ws → take i vs ≡ values_of s a (take i ws)
     → ((k : ℕ) → i ≤ k → get_or vs k 0 ≡ 0) → ((k : ℕ) → i ≤ k → get_or ws k 0 ≡ 0) → vs ≡ values_of s a ws
-values-are s a ws vs i n t z y = ext_get_or 0 vs (values_of s a ws) (n ∙ sym (valuesOf-length s a ws)) (λ k l. at k (dec_lt k i))
+values-are s a ws vs i n t z y = ext_get_or 0 vs (values_of s a ws) (n ∙ sym (values_of-length s a ws)) (λ k l. at k (dec_lt k i))
   where
     at : (k : ℕ) → Dec (k < i) → get_or vs k 0 ≡ get_or (values_of s a ws) k 0
-    at k (yes l) = sym (get_or-take i vs k 0 l) ∙ ap (λ (x : List ℕ). get_or x k 0) (t ∙ sym (values-take s a ws i)) ∙ get_or-take i (values_of s a ws) k 0 l
-    at k (no l) = z k (omega arith) ∙ sym (values-none s a ws k (y k (omega arith)))
+    at k (yes l) = sym (get_or-take i vs k 0 l) ∙ ap (λ (x : List ℕ). get_or x k 0) (t ∙ sym (values_take s a ws i)) ∙ get_or-take i (values_of s a ws) k 0 l
+    at k (no l) = z k (omega arith) ∙ sym (values_none s a ws k (y k (omega arith)))
 
-pub zeros-at : (n k : ℕ) → ◌≡◌ {A = ℕ} (get_or (replicate n 0) k 0) 0
-zeros-at zero k = refl
-zeros-at (suc n) zero = refl
-zeros-at (suc n) (suc k) = zeros-at n k
+pub zeros_at : (n k : ℕ) → ◌≡◌ {A = ℕ} (get_or (replicate n 0) k 0) 0
+zeros_at zero k = refl
+zeros_at (suc n) zero = refl
+zeros_at (suc n) (suc k) = zeros_at n k

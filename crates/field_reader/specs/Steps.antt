@@ -12,11 +12,11 @@ use Rattle.fields.specs.declared.Record.{Record}
 use Rattle.fields.specs.declared.Record.TheVariants.{Single, Relay}
 use Rattle.fields.specs.declared.Answer.{Answer}
 use Rattle.fields.specs.declared.Answer.TheVariants.{Accepted, Refused}
-use Rattle.fields.specs.Table.{rowAt, rulesAt, hasFault}
+use Rattle.fields.specs.Table.{row_at, rules_at, has_fault}
 use Rattle.fields.specs.Records.{field_of}
-use Rattle.fields.specs.Lists.{anyUnused}
-use Rattle.fields.specs.Reading.{sameWay, valuesAt, typeNotCarried, notRelayed, sized, blocksBy, start_of, countRows, fieldRows, recordIn, recordOf}
-use Rattle.fields.specs.Writing.{fieldIn}
+use Rattle.fields.specs.Lists.{any_unused}
+use Rattle.fields.specs.Reading.{same_way_as, values_at, type_not_carried, not_relayed, sized, blocks_by, start_of, count_rows, field_rows, record_in, record_of}
+use Rattle.fields.specs.Writing.{field_in}
 use Rattle.field_reader.specs.declared.Passed.{Passed}
 use Rattle.field_reader.specs.declared.Passed.TheVariants as Q
 use Rattle.field_reader.specs.declared.Plain.{Plain}
@@ -28,45 +28,45 @@ abbrev pub passed : Answer → Passed
 passed (Accepted r) = Q.Clear
 passed (Refused r) = Q.Refused r
 
-unfoldable pub outerOf : List ℕ → ℕ → Passed
-outerOf s n = first_of (each passed (countRows s n)) Q.Clear
+unfoldable pub outer_of : List ℕ → ℕ → Passed
+outer_of s n = first_of (each passed (count_rows s n)) Q.Clear
 
 -- the answer, where x is that to a field whose count and bytes nothing is said against
-abbrev pub unlessRefused : Answer → Passed → Answer
-unlessRefused x Q.Clear = x
-unlessRefused x (Q.Refused r) = Refused r
+abbrev pub unless_refused : Answer → Passed → Answer
+unless_refused x Q.Clear = x
+unless_refused x (Q.Refused r) = Refused r
 
 -- ---- a field, or that inside a relay
 
-abbrev pub asPlain : Answer → Plain
-asPlain (Accepted r) = P.Read (fieldIn r)
-asPlain (Refused r) = P.Refused r
+abbrev pub as_plain : Answer → Plain
+as_plain (Accepted r) = P.Read (field_in r)
+as_plain (Refused r) = P.Refused r
 
 unfoldable pub plain_of : List ℕ → ℕ → ℕ → Direction → Plain
-plain_of s n a w = first_of (each asPlain (fieldRows s n a w)) (P.Read (recordIn s a))
+plain_of s n a w = first_of (each as_plain (field_rows s n a w)) (P.Read (record_in s a))
 
 -- a type that has no row in the table
-abbrev pub unknownOf : ℕ → FieldRefusal
-unknownOf t = cond (typeNotCarried t) TypeNotCarried UnknownType
+abbrev pub unknown_of : ℕ → FieldRefusal
+unknown_of t = cond (type_not_carried t) TypeNotCarried UnknownType
 
 -- one whose row stands at place i, from 27 on
-unfoldable pub judgedBy : List ℕ → ℕ → ℕ → table.Row → List ℕ → Plain
-judgedBy s a i r vs =
+unfoldable pub judged_by : List ℕ → ℕ → ℕ → table.Row → List ℕ → Plain
+judged_by s a i r vs =
     first_of
-    (row (hasFault 1 (rulesAt i) vs) (P.Refused SpareBitSet)
-    ∷ row (hasFault 2 (rulesAt i) vs || anyUnused (blocksBy s a r vs)) (P.Refused ValueNotInUse)
+    (row (has_fault 1 (rules_at i) vs) (P.Refused SpareBitSet)
+    ∷ row (has_fault 2 (rules_at i) vs || any_unused (blocks_by s a r vs)) (P.Refused ValueNotInUse)
     ∷ [])
     (P.Read (field_of i vs))
 
 -- and from 25 on
-unfoldable pub rowRead : List ℕ → ℕ → ℕ → Direction → ℕ → Plain
-rowRead s n a w i =
+unfoldable pub row_read : List ℕ → ℕ → ℕ → Direction → ℕ → Plain
+row_read s n a w i =
     first_of
-    (row (not (sameWay (rowAt i).way w)) (P.Refused WrongDirection)
-    ∷ row (notRelayed (rowAt i).code a) (P.Refused NotRelayed)
+    (row (not (same_way_as (row_at i).way w)) (P.Refused WrongDirection)
+    ∷ row (not_relayed (row_at i).code a) (P.Refused NotRelayed)
     ∷ row (not (sized s n a i)) (P.Refused WrongBitCount)
     ∷ [])
-    (judgedBy s a i (rowAt i) (valuesAt s a i))
+    (judged_by s a i (row_at i) (values_at s a i))
 
 -- ---- its record
 
@@ -83,4 +83,4 @@ relayed sensor = handed (Relay sensor)
 
 -- a field whose count and bytes nothing is said against
 unfoldable pub opened_of : List ℕ → ℕ → Direction → Answer
-opened_of s n w = first_of (fieldRows s n (start_of s n w) w) (Accepted (recordOf s n w))
+opened_of s n w = first_of (field_rows s n (start_of s n w) w) (Accepted (record_of s n w))

@@ -1,9 +1,9 @@
 // The entries of a list that is read, and their numbers: altimeter blocks of 8 bits with a sign, addresses and identifiers of 24.
 // Relies on `bits`; specs/Lists.antt of `fields` and of this crate say what each function means.
 ghost use Rattle.std.specs.Prelude.{◌≡◌, ◌+◌, ◌*◌, ◌<◌, ◌≤◌, ◌^◌, replicate};
-ghost use Rattle.bits.specs.Bits.{bitsOf};
+ghost use Rattle.bits.specs.Bits.{bits_of};
 ghost use Rattle.fields.specs.Table.{values_of};
-ghost use Rattle.fields.specs.Lists.{signed, block_of, blockUnused, entryOf, anyUnused, entriesIn};
+ghost use Rattle.fields.specs.Lists.{signed, block_of, block_unused, entry_of, any_unused, entries_in};
 ghost use Rattle.field_reader.specs.Lists.{entry_at};
 
 fn signed_of(minus: bool, n: u64) -> i32
@@ -23,7 +23,7 @@ fn block_of(x: u64) -> i32
 
 // Hundreds above 9, or minus zero.
 fn block_unused(x: u64) -> bool
-    ensures { result ≡ blockUnused x }
+    ensures { result ≡ block_unused x }
 {
     if 9 < x % 16 {
         return true;
@@ -34,7 +34,7 @@ fn block_unused(x: u64) -> bool
 // The n bits behind the first `at`. A block is a byte of its own, and there may be sixteen of them, so it is not read as a bit field.
 fn piece(b: &[u8], at: usize, n: usize) -> u64
     requires { n ≤ 24 }
-    ensures { result ≡ bitsOf b.now at n }
+    ensures { result ≡ bits_of b.now at n }
 {
     let i = at / 8;
     if n == 8 {
@@ -50,7 +50,7 @@ fn piece(b: &[u8], at: usize, n: usize) -> u64
 // One of n blocks, of which the first stands behind `before` bits, is not in use.
 pub fn any_unused(b: &[u8], before: usize, n: usize) -> bool
     requires { (before ≤ 4096) × (n ≤ 64) }
-    ensures { result ≡ anyUnused (values_of b.now before (replicate n 8)) }
+    ensures { result ≡ any_unused (values_of b.now before (replicate n 8)) }
 {
     let mut k: usize = 0;
     while k < n {
@@ -65,7 +65,7 @@ pub fn any_unused(b: &[u8], before: usize, n: usize) -> bool
 // The number of an entry of `step` bits.
 fn entry_of(step: usize, x: u64) -> i32
     requires { (step ≤ 24) × (x < 2 ^ step) }
-    ensures { result ≡ entryOf step x }
+    ensures { result ≡ entry_of step x }
 {
     if step == 8 {
         return block_of(x);
@@ -87,7 +87,7 @@ fn entry_at(b: &[u8], before: usize, step: usize, n: usize, k: usize) -> i32
 // Thirty numbers: those of n entries, and zeros.
 pub fn entries(b: &[u8], before: usize, step: usize, n: usize) -> [i32; 30]
     requires { (before ≤ 4096) × (step ≤ 24) }
-    ensures { result ≡ entriesIn step 30 (values_of b.now before (replicate n step)) }
+    ensures { result ≡ entries_in step 30 (values_of b.now before (replicate n step)) }
 {
     let mut v = [0i32; 30];
     let mut k: usize = 0;

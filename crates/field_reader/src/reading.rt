@@ -3,17 +3,17 @@
 // Relies on `bits` and, of `fields`, on the table, the parts and the records. specs/Reading.antt of `fields` says what is answered, specs/Steps.antt
 // the same by steps.
 ghost use Rattle.std.specs.Prelude.{◌≡◌, ◌≤◌, ◌<◌, ◌&&◌, eqb, leb};
-ghost use Rattle.bits.specs.Bits.{bitsOf};
-ghost use Rattle.fields.specs.Table.{place_of, rulesAt, Quiet, RowSmall};
-ghost use Rattle.fields.specs.Reading.{fromSensor, sameWay, type_of, typeNotCarried, notRelayed, sizedBy, blockCount, answer_of, listIn, list_of, readField, textIn, textPlace, text_of, answerNumber};
-ghost use Rattle.field_reader.specs.Steps.{unknownOf, judgedBy, rowRead, plain_of, answered, relayed, opened_of, outerOf};
+ghost use Rattle.bits.specs.Bits.{bits_of};
+ghost use Rattle.fields.specs.Table.{place_of, rules_at, Quiet, RowSmall};
+ghost use Rattle.fields.specs.Reading.{from_sensor, same_way_as, type_of, type_not_carried, not_relayed, sized_by, block_count, answer_of, list_in, list_of, read_field, text_in, text_place, text_of, answer_number};
+ghost use Rattle.field_reader.specs.Steps.{unknown_of, judged_by, row_read, plain_of, answered, relayed, opened_of, outer_of};
 
 use crate::{Passed, Plain, lists, parts};
 use fields::{Answer, Direction, Found, Place, Record, Row, records, table};
 use refusals::FieldRefusal;
 
 fn same_way(a: Direction, b: Direction) -> bool
-    ensures { result ≡ sameWay a b }
+    ensures { result ≡ same_way_as a b }
 {
     let b_from = table::from_sensor(b);
     match a {
@@ -24,7 +24,7 @@ fn same_way(a: Direction, b: Direction) -> bool
 
 // A type of Table 5-1 that is not carried.
 fn type_not_carried(code: u64) -> bool
-    ensures { result ≡ typeNotCarried code }
+    ensures { result ≡ type_not_carried code }
 {
     if code == 0x83 {
         return false;
@@ -46,7 +46,7 @@ fn type_not_carried(code: u64) -> bool
 
 // Why a type that has no row is refused.
 fn unknown(code: u64) -> FieldRefusal
-    ensures { result ≡ unknownOf code }
+    ensures { result ≡ unknown_of code }
 {
     if type_not_carried(code) {
         return FieldRefusal::TypeNotCarried;
@@ -56,7 +56,7 @@ fn unknown(code: u64) -> FieldRefusal
 
 // Inside a relay, which no relay and no test response stands in.
 fn not_relayed(code: u64, before: usize) -> bool
-    ensures { result ≡ notRelayed code before }
+    ensures { result ≡ not_relayed code before }
 {
     if before != 16 {
         return false;
@@ -70,7 +70,7 @@ fn not_relayed(code: u64, before: usize) -> bool
 // The count is the layout's.
 fn is_sized(count: usize, before: usize, row: Row, v: [u64; 11]) -> bool
     requires { RowSmall row v × (before ≤ 16) }
-    ensures { result ≡ sizedBy count before row v }
+    ensures { result ≡ sized_by count before row v }
 {
     if row.code == 0x03 {
         return false;
@@ -81,7 +81,7 @@ fn is_sized(count: usize, before: usize, row: Row, v: [u64; 11]) -> bool
 // How many altimeter blocks a field has.
 fn block_count(row: Row, v: [u64; 11]) -> usize
     requires { RowSmall row v }
-    ensures { result ≡ blockCount row v }
+    ensures { result ≡ block_count row v }
 {
     if row.step == 8 {
         return fields::parts::count_in(row, v);
@@ -91,8 +91,8 @@ fn block_count(row: Row, v: [u64; 11]) -> usize
 
 // A field of the row's type: 27 and 28, or its record.
 fn judged(b: &[u8], before: usize, i: usize, row: Row, widths: &[u8; 11], v: [u64; 11]) -> Plain
-    requires { RowSmall row v × (before ≤ 16) × (i < 22) × Quiet widths.now (rulesAt i) v }
-    ensures { result ≡ judgedBy b.now before i row v }
+    requires { RowSmall row v × (before ≤ 16) × (i < 22) × Quiet widths.now (rules_at i) v }
+    ensures { result ≡ judged_by b.now before i row v }
 {
     let rules = table::rules_at(i);
     let found = fields::parts::faults(widths, &rules, &v);
@@ -113,7 +113,7 @@ fn judged(b: &[u8], before: usize, i: usize, row: Row, widths: &[u8; 11], v: [u6
 // A field whose type is `code` and stands at place i: 25 to 28, or its record.
 fn row_read(b: &[u8], count: usize, before: usize, way: Direction, code: u64, i: usize) -> Plain
     requires { (before ≤ 16) × (i < 22) × (code ≡ type_of b.now before) }
-    ensures { result ≡ rowRead b.now count before way i }
+    ensures { result ≡ row_read b.now count before way i }
 {
     let row = table::row_at(i);
     let its = row.way;
@@ -169,7 +169,7 @@ fn answer(p: Plain) -> Answer
 
 // A relay: its inner field is opened first, and the refusal of that handed up.
 fn relay(b: &[u8], count: usize, way: Direction) -> Answer
-    ensures { result ≡ relayed (bitsOf b.now 8 8) (plain_of b.now count 16 way) }
+    ensures { result ≡ relayed (bits_of b.now 8 8) (plain_of b.now count 16 way) }
 {
     let inner = plain(b, count, 16, way, type_at(b, 16));
     let Plain::Read(f) = inner else {
@@ -183,7 +183,7 @@ fn relay(b: &[u8], count: usize, way: Direction) -> Answer
 
 // A relay of at least 24 bits that comes from the sensor.
 fn opens(code: u64, count: usize, way: Direction) -> bool
-    ensures { result ≡ (eqb code 0x03 && (fromSensor way && leb 24 count)) }
+    ensures { result ≡ (eqb code 0x03 && (from_sensor way && leb 24 count)) }
 {
     if code != 0x03 {
         return false;
@@ -207,7 +207,7 @@ fn opened(b: &[u8], count: usize, way: Direction) -> Answer
 
 // What the count and the bytes alone tell: 20, 21, 22, or nothing.
 fn outer(b: &[u8], count: usize) -> Passed
-    ensures { result ≡ outerOf b.now count }
+    ensures { result ≡ outer_of b.now count }
 {
     if count < 8 {
         return Passed::Refused(FieldRefusal::CountOutOfRange);
@@ -237,7 +237,7 @@ pub fn judge(b: &[u8], count: usize, way: Direction) -> Answer
 
 // The list of a field that is no relay.
 fn list_in(b: &[u8]) -> [i32; 30]
-    ensures { result ≡ listIn b.now }
+    ensures { result ≡ list_in b.now }
 {
     let code = type_at(b, 0);
     let Place::At(i) = table::find(code) else {
@@ -270,7 +270,7 @@ fn list_of(b: &[u8], a: Answer) -> [i32; 30]
 
 // Reads a field: its record and list, or why it is refused.
 pub fn read(b: &[u8], count: usize, way: Direction) -> Found
-    ensures { result ≡ readField b.now count way }
+    ensures { result ≡ read_field b.now count way }
 {
     let a = judge(b, count, way);
     let l = list_of(b, a);
@@ -280,7 +280,7 @@ pub fn read(b: &[u8], count: usize, way: Direction) -> Found
 // Where the text of a field that begins behind the first `before` bits stands; the end where there is none.
 fn text_in(b: &[u8], before: usize) -> usize
     requires { before ≤ 16 }
-    ensures { result ≡ textIn b.now before }
+    ensures { result ≡ text_in b.now before }
 {
     let Place::At(i) = place_at(b, before) else {
         return b.len();
@@ -293,7 +293,7 @@ fn text_in(b: &[u8], before: usize) -> usize
 }
 
 fn text_place(b: &[u8], a: Answer) -> usize
-    ensures { result ≡ textPlace b.now a }
+    ensures { result ≡ text_place b.now a }
 {
     match a {
         Answer::Accepted(r) => match r {
@@ -321,7 +321,7 @@ pub fn text(b: &[u8], count: usize, way: Direction) -> &[u8]
 
 // The document's number of a refusal; 0 where there is none.
 pub fn number(a: Answer) -> u8
-    ensures { result ≡ answerNumber a }
+    ensures { result ≡ answer_number a }
 {
     match a {
         Answer::Accepted(_) => 0,

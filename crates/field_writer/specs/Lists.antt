@@ -1,7 +1,7 @@
 -- One number of a list that is written. Definitions only.
 use Rattle.std.specs.Prelude.{ℕ, Bool, cond, eqb, ltb, ℤ, nat_abs}
-use Rattle.fields.specs.Lists.{entryFits}
+use Rattle.fields.specs.Lists.{entry_fits}
 
 -- number k of a list of n: an entry, or zero from the count on
-unfoldable pub entryOk : ℕ → ℕ → ℕ → ℤ → Bool
-entryOk step n k z = cond (ltb k n) (entryFits step z) (eqb (nat_abs z) 0)
+unfoldable pub entry_ok : ℕ → ℕ → ℕ → ℤ → Bool
+entry_ok step n k z = cond (ltb k n) (entry_fits step z) (eqb (nat_abs z) 0)

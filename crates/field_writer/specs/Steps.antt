@@ -6,14 +6,14 @@ use Rattle.refusals.specs.declared.FieldRefusal.TheVariants.{NotWritable, NoRoom
 use Rattle.fields.specs.declared.Record.{Record}
 use Rattle.fields.specs.declared.Written.{Written}
 use Rattle.fields.specs.declared.Written.TheVariants.{Bits, Refused}
-use Rattle.fields.specs.Writing.{takesAt, bits_at, putField, leftBy}
+use Rattle.fields.specs.Writing.{takes_at, bits_at, put_field, left_as}
 
 -- 30 and 31, for so many bytes of text and so many lent bytes
 abbrev pub rows_at : ℕ → Record → List ℤ → ℕ → ℕ → List (Row Written)
-rows_at i r l t room = row (not (takesAt i r l t)) (Refused NotWritable) ∷ row (ltb room ((bits_at i r + 7) / 8)) (Refused NoRoom) ∷ []
+rows_at i r l t room = row (not (takes_at i r l t)) (Refused NotWritable) ∷ row (ltb room ((bits_at i r + 7) / 8)) (Refused NoRoom) ∷ []
 
-unfoldable pub writtenAt : ℕ → Record → List ℤ → ℕ → ℕ → Written
-writtenAt i r l t room = first_of (rows_at i r l t room) (Bits (bits_at i r))
+unfoldable pub written_at : ℕ → Record → List ℤ → ℕ → ℕ → Written
+written_at i r l t room = first_of (rows_at i r l t room) (Bits (bits_at i r))
 
 unfoldable pub left_at : ℕ → Record → List ℤ → List ℕ → List ℕ → List ℕ
-left_at i r l t s = leftBy (writtenAt i r l (length t) (length s)) s (putField i r l t s)
+left_at i r l t s = left_as (written_at i r l (length t) (length s)) s (put_field i r l t s)

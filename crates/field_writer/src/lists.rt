@@ -2,9 +2,9 @@
 // identifiers of 24.
 // Relies on `bits`; specs/Lists.antt of `fields` and of this crate say what each function means.
 ghost use Rattle.std.specs.Prelude.{◌≡◌, ◌≤◌, nat_abs, replicate};
-ghost use Rattle.fields.specs.Lists.{negative, entryBits, entryFits, listFits, entriesBits};
+ghost use Rattle.fields.specs.Lists.{negative, entry_bits, entry_fits, list_fits, entries_bits};
 ghost use Rattle.fields.specs.Writing.{put_all};
-ghost use Rattle.field_writer.specs.Lists.{entryOk};
+ghost use Rattle.field_writer.specs.Lists.{entry_ok};
 
 fn is_negative(z: i32) -> bool
     ensures { result ≡ negative z }
@@ -25,7 +25,7 @@ fn magnitude(z: i32) -> u64
 
 // A number that an entry of `step` bits can hold.
 fn entry_fits(step: usize, z: i32) -> bool
-    ensures { result ≡ entryFits step z }
+    ensures { result ≡ entry_fits step z }
 {
     let m = magnitude(z);
     if step == 8 {
@@ -39,7 +39,7 @@ fn entry_fits(step: usize, z: i32) -> bool
 
 // Number k of a list of n: an entry, or zero from the count on.
 fn entry_ok(step: usize, n: usize, k: usize, z: i32) -> bool
-    ensures { result ≡ entryOk step n k z }
+    ensures { result ≡ entry_ok step n k z }
 {
     if k < n {
         return entry_fits(step, z);
@@ -49,7 +49,7 @@ fn entry_ok(step: usize, n: usize, k: usize, z: i32) -> bool
 
 // The first n numbers fit their entries, and the others are zero.
 pub fn list_fits(step: usize, n: usize, list: [i32; 30]) -> bool
-    ensures { result ≡ listFits step n list }
+    ensures { result ≡ list_fits step n list }
 {
     let mut k: usize = 0;
     while k < 30 {
@@ -65,7 +65,7 @@ pub fn list_fits(step: usize, n: usize, list: [i32; 30]) -> bool
 
 // The bits of a number.
 fn entry_bits(step: usize, z: i32) -> u64
-    ensures { result ≡ entryBits step z }
+    ensures { result ≡ entry_bits step z }
 {
     let m = magnitude(z);
     if step == 8 {
@@ -80,7 +80,7 @@ fn entry_bits(step: usize, z: i32) -> u64
 // Writes n entries of `step` bits behind the first `before` bits.
 pub fn put_entries(s: &mut [u8], before: usize, step: usize, n: usize, list: [i32; 30])
     requires { (before ≤ 4096) × (step ≤ 80) × (n ≤ 30) }
-    ensures { s.new ≡ put_all s.old before (replicate n step) (entriesBits step n list) }
+    ensures { s.new ≡ put_all s.old before (replicate n step) (entries_bits step n list) }
 {
     let mut k: usize = 0;
     while k < n {

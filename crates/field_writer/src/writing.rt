@@ -2,10 +2,10 @@
 // Relies on `bits` and, of `fields`, on the table, the parts and the records. specs/Writing.antt of `fields` says what is answered and what the
 // bytes then hold, specs/Steps.antt the same by the place of the record's type in the table.
 ghost use Rattle.std.specs.Prelude.{◌≡◌, ℕ, ◌+◌, ◌*◌, ◌≤◌, ◌<◌, true, length, get_or, replicate};
-ghost use Rattle.fields.specs.Table.{place_of, rowAt, RowSmall};
-ghost use Rattle.fields.specs.Reading.{listedBy};
-ghost use Rattle.fields.specs.Writing.{fieldIn, numbersIn, head_bits, headWidths, headValues, fitAll, textLengthBy, headFits, relaysAt, takesAt, bits_at, put_all, putField, written_of, left_of, writtenNumber};
-ghost use Rattle.field_writer.specs.Steps.{writtenAt, left_at};
+ghost use Rattle.fields.specs.Table.{place_of, row_at, RowSmall};
+ghost use Rattle.fields.specs.Reading.{listed_as};
+ghost use Rattle.fields.specs.Writing.{field_in, numbers_in, head_bits, head_widths, head_values, fit_all, text_length_by, head_fits, relays_at, takes_at, bits_at, put_all, put_field, written_of, left_of, written_number};
+ghost use Rattle.field_writer.specs.Steps.{written_at, left_at};
 
 use crate::lists;
 use fields::{Field, Place, Record, Row, Written, parts, records, table};
@@ -13,7 +13,7 @@ use refusals::FieldRefusal;
 
 // The field inside a relay, or the field.
 fn field_in(given: Record) -> Field
-    ensures { result ≡ fieldIn given }
+    ensures { result ≡ field_in given }
 {
     match given {
         Record::Single(f) => f,
@@ -37,7 +37,7 @@ fn head_bits(given: Record) -> usize
 // A relay's sensor has 8 bits, and what it holds may be relayed.
 fn head_fits(i: usize, given: Record) -> bool
     requires { i < 22 }
-    ensures { result ≡ headFits i given }
+    ensures { result ≡ head_fits i given }
 {
     match given {
         Record::Single(_) => true,
@@ -47,7 +47,7 @@ fn head_fits(i: usize, given: Record) -> bool
 
 fn relays(i: usize, sensor: u64) -> bool
     requires { i < 22 }
-    ensures { result ≡ relaysAt i sensor }
+    ensures { result ≡ relays_at i sensor }
 {
     let row = table::row_at(i);
     let way = row.way;
@@ -63,7 +63,7 @@ fn relays(i: usize, sensor: u64) -> bool
 // No value is too large for its part.
 fn fit_all(widths: [u8; 11], v: [u64; 11]) -> bool
     requires { (k : ℕ) → get_or widths k 0 ≤ 63 }
-    ensures { result ≡ fitAll widths v }
+    ensures { result ≡ fit_all widths v }
 {
     let mut i: usize = 0;
     while i < 11 {
@@ -80,7 +80,7 @@ fn fit_all(widths: [u8; 11], v: [u64; 11]) -> bool
 // How many bytes of text go with a record.
 fn text_length(row: Row, v: [u64; 11]) -> usize
     requires { RowSmall row v }
-    ensures { result ≡ textLengthBy row v }
+    ensures { result ≡ text_length_by row v }
 {
     if row.step == 80 {
         return 10 * parts::count_in(row, v);
@@ -91,7 +91,7 @@ fn text_length(row: Row, v: [u64; 11]) -> usize
 // How many entries a list has: an ELM's steps are text and no entries.
 fn listed_in(row: Row, v: [u64; 11]) -> usize
     requires { RowSmall row v }
-    ensures { result ≡ listedBy row v }
+    ensures { result ≡ listed_as row v }
 {
     if row.step == 80 {
         return 0;
@@ -102,7 +102,7 @@ fn listed_in(row: Row, v: [u64; 11]) -> usize
 // The writer takes a record of the type at place i, its list, and so many bytes of text.
 fn takes(i: usize, given: Record, list: [i32; 30], len: usize) -> bool
     requires { i < 22 }
-    ensures { result ≡ takesAt i given list len }
+    ensures { result ≡ takes_at i given list len }
 {
     let row = table::row_at(i);
     let step = row.step;
@@ -127,7 +127,7 @@ fn takes(i: usize, given: Record, list: [i32; 30], len: usize) -> bool
 
 // How many bits a record has.
 fn bits_at(i: usize, given: Record) -> usize
-    requires { (i < 22) × RowSmall (rowAt i) (numbersIn given) }
+    requires { (i < 22) × RowSmall (row_at i) (numbers_in given) }
     ensures { (result ≡ bits_at i given) × (result ≤ 4096) }
 {
     let row = table::row_at(i);
@@ -138,7 +138,7 @@ fn bits_at(i: usize, given: Record) -> usize
 
 // A relay's type and its sensor.
 fn put_head(s: &mut [u8], given: Record)
-    ensures { s.new ≡ put_all s.old 0 (headWidths given) (headValues given) }
+    ensures { s.new ≡ put_all s.old 0 (head_widths given) (head_values given) }
 {
     match given {
         Record::Single(_) => {}
@@ -184,8 +184,8 @@ fn put_text(s: &mut [u8], before: usize, text: &[u8])
 
 // Writes a record that is taken, its list and its text, and zeros to the end of the started byte.
 fn put_field(s: &mut [u8], i: usize, given: Record, list: [i32; 30], text: &[u8])
-    requires { (i < 22) × (takesAt i given list (length text.now) ≡ true) }
-    ensures { s.new ≡ putField i given list text.now s.old }
+    requires { (i < 22) × (takes_at i given list (length text.now) ≡ true) }
+    ensures { s.new ≡ put_field i given list text.now s.old }
 {
     let row = table::row_at(i);
     let base = row.base;
@@ -204,7 +204,7 @@ fn put_field(s: &mut [u8], i: usize, given: Record, list: [i32; 30], text: &[u8]
 // What writing a record of the type at place i answers, with so many bytes of text, into so many bytes.
 fn answer_at(i: usize, given: Record, list: [i32; 30], len: usize, room: usize) -> Written
     requires { i < 22 }
-    ensures { result ≡ writtenAt i given list len room }
+    ensures { result ≡ written_at i given list len room }
 {
     if !takes(i, given, list, len) {
         return Written::Refused(FieldRefusal::NotWritable);
@@ -218,7 +218,7 @@ fn answer_at(i: usize, given: Record, list: [i32; 30], len: usize, room: usize) 
 
 fn write_at(s: &mut [u8], i: usize, given: Record, list: [i32; 30], text: &[u8]) -> Written
     requires { i < 22 }
-    ensures answer { result ≡ writtenAt i given list (length text.now) (length s.old) }
+    ensures answer { result ≡ written_at i given list (length text.now) (length s.old) }
     ensures left { s.new ≡ left_at i given list text.now s.old }
 {
     let w = answer_at(i, given, list, text.len(), s.len());
@@ -231,7 +231,7 @@ fn write_at(s: &mut [u8], i: usize, given: Record, list: [i32; 30], text: &[u8])
 
 // Where a record's type stands in the table.
 fn place_in(given: Record) -> Place
-    ensures { result ≡ place_of (get_or (numbersIn given) 0 0) }
+    ensures { result ≡ place_of (get_or (numbers_in given) 0 0) }
 {
     let v = records::numbers(field_in(given));
     table::find(v[0])
@@ -260,7 +260,7 @@ pub fn answer(s: &[u8], given: Record, list: [i32; 30], text: &[u8]) -> Written
 
 // The document's number of a refusal; 0 where there is none.
 pub fn number(w: Written) -> u8
-    ensures { result ≡ writtenNumber w }
+    ensures { result ≡ written_number w }
 {
     match w {
         Written::Bits(_) => 0,

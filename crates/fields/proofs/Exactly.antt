@@ -5,24 +5,24 @@ use Rattle.fields.specs.declared.Answer.{Answer}
 use Rattle.fields.specs.declared.Answer.TheVariants.{Accepted, Refused}
 use Rattle.fields.specs.declared.Written.{Written}
 use Rattle.fields.specs.declared.Written.TheVariants as W
-use Rattle.fields.specs.Reading.{readRows, recordOf, answer_of}
-use Rattle.fields.specs.Writing.{bitsIn, writerRows, written_of, left_of, leftBy, put_in}
+use Rattle.fields.specs.Reading.{read_rows, record_of, answer_of}
+use Rattle.fields.specs.Writing.{bits_in, writer_rows, written_of, left_of, left_as, put_in}
 use Rattle.fields.specs.Claims.{RefusedExactly, AcceptedExactly, WriterRefuses, WrittenExactly, RefusedUntouched}
 
 -- ---- the reader
 
-abbrev isAccepted : Answer → Bool
-isAccepted (Accepted x) = true
-isAccepted (Refused r) = false
+abbrev is_accepted : Answer → Bool
+is_accepted (Accepted x) = true
+is_accepted (Refused r) = false
 
-pub refused-exactly : RefusedExactly
+pub refused_exactly : RefusedExactly
 unfolding answer_of
-refused-exactly s n w r = law.refused-exactly Answer isAccepted (readRows s n w) (Accepted (recordOf s n w)) (Refused r) refl refl
+refused_exactly s n w r = law.refused_exactly Answer is_accepted (read_rows s n w) (Accepted (record_of s n w)) (Refused r) refl refl
 
-pub accepted-exactly : AcceptedExactly
+pub accepted_exactly : AcceptedExactly
 unfolding answer_of
-accepted-exactly s n w x =
-    let k = law.accepted-exactly Answer isAccepted (readRows s n w) (Accepted (recordOf s n w)) (Accepted x) (refl, (refl, (refl, (refl, (refl, (refl, (refl, (refl, (refl, (refl, tt)))))))))) refl in
+accepted_exactly s n w x =
+    let k = law.accepted_exactly Answer is_accepted (read_rows s n w) (Accepted (record_of s n w)) (Accepted x) (refl, (refl, (refl, (refl, (refl, (refl, (refl, (refl, (refl, (refl, tt)))))))))) refl in
     (λ e. let m = k.0 e in let same = m.1 in (m.0, (cc)), λ h. k.1 (h.0, ap Accepted h.1))
 
 -- ---- the writer
@@ -31,16 +31,16 @@ abbrev pub is_written : Written → Bool
 is_written (W.Bits n) = true
 is_written (W.Refused r) = false
 
-pub writer-refuses : WriterRefuses
+pub writer_refuses : WriterRefuses
 unfolding written_of
-writer-refuses r l t s q = law.refused-exactly Written is_written (writerRows r l t s) (W.Bits (bitsIn r)) (W.Refused q) refl refl
+writer_refuses r l t s q = law.refused_exactly Written is_written (writer_rows r l t s) (W.Bits (bits_in r)) (W.Refused q) refl refl
 
-pub written-exactly : WrittenExactly
+pub written_exactly : WrittenExactly
 unfolding written_of
-written-exactly r l t s n =
-    let k = law.accepted-exactly Written is_written (writerRows r l t s) (W.Bits (bitsIn r)) (W.Bits n) (refl, (refl, tt)) refl in
+written_exactly r l t s n =
+    let k = law.accepted_exactly Written is_written (writer_rows r l t s) (W.Bits (bits_in r)) (W.Bits n) (refl, (refl, tt)) refl in
     (λ e. let m = k.0 e in let same = m.1 in (m.0, (cc)), λ h. k.1 (h.0, ap W.Bits h.1))
 
-pub refused-untouched : RefusedUntouched
+pub refused_untouched : RefusedUntouched
 unfolding left_of
-refused-untouched r l t s x e = ap (λ (w : Written). leftBy w s (put_in r l t s)) e
+refused_untouched r l t s x e = ap (λ (w : Written). left_as w s (put_in r l t s)) e

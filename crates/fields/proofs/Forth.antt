@@ -6,34 +6,34 @@ use lib.ListN.{length-replicate}
 use lib.Seq.{drop-length}
 use borrow.Author.Tests.{eqb-false, not-true, not-false}
 use Rattle.rows.specs.Claims.{NoneHolds}
-use Rattle.bits.specs.Bits.{bitsOf, putBits, Bytes}
-use Rattle.fields.specs.Lists.{negative, block_of, block_bits, blockUnused, entryOf, entryBits, entryFits, anyUnused, entriesIn, listFits, entriesBits}
+use Rattle.bits.specs.Bits.{bits_of, put_bits, Bytes}
+use Rattle.fields.specs.Lists.{negative, block_of, block_bits, block_unused, entry_of, entry_bits, entry_fits, any_unused, entries_in, list_fits, entries_bits}
 use Rattle.fields.specs.declared.Direction.{Direction}
 use Rattle.fields.specs.declared.Direction.TheVariants.{ToSensor, FromSensor}
 use Rattle.fields.specs.declared.Place.{Place}
 use Rattle.fields.specs.declared.Place.TheVariants.{At, Nowhere}
-use Rattle.fields.specs.Table.{place_of, rowAt, rulesAt, widthsAt, values_of, hasFault, countIn, sizeIn}
-use Rattle.fields.specs.Reading.{fromSensor, sameWay, type_of, valuesAt, opens, start_of, recordOf, notRelayed, listed, listedBy, listIn, list_of, textIn, blockCount, blocksIn, wrongByteCount, bitAfterCount, unknownType, typeNotCarried, wrongDirection, wrongBitCount, spareBitSet, valueNotInUse, sizedBy, fieldRows, readRows}
+use Rattle.fields.specs.Table.{place_of, row_at, rules_at, widths_at, values_of, has_fault, count_in, size_in}
+use Rattle.fields.specs.Reading.{from_sensor, same_way_as, type_of, values_at, opens, start_of, record_of, not_relayed, listed, listed_as, list_in, list_of, text_in, block_count, blocks_in, wrong_byte_count, bit_after_count, unknown_type, type_not_carried, wrong_direction, wrong_bit_count, spare_bit_set, value_not_in_use, sized_by, field_rows, read_rows}
 use Rattle.fields.specs.declared.Record.{Record}
 use Rattle.fields.specs.declared.Answer.TheVariants.{Accepted}
-use Rattle.fields.specs.Records.{field_of, numbersOf}
-use Rattle.fields.proofs.Puts.{both_true, both_false, putAll-join}
-use Rattle.fields.proofs.Back.{values-back, first-eight, parts-write}
-use Rattle.fields.proofs.Facts.{below-relay, listed-most, entry_listed, none-listed, text-whole}
-use Rattle.fields.proofs.Taking.{head-sum, parts-sum, widths-length, widths-sum, sum_same}
-use Rattle.bits.proofs.Laws.{bitsOf-lt}
-use Rattle.fields.specs.Writing.{fieldIn, numbersIn, textLengthBy, takesAt, bits_at, widthsIn, valuesIn, put_all, putField, sum_of, head_bits, headWidths, headValues, headFits, relaysAt, fitAll, fillOf}
-use Rattle.fields.proofs.Rows.{Fit, found_within, found-code, values-fit}
-use Rattle.fields.proofs.Rounds.{Entry, valuesOf-join, valuesOf-snoc, valuesOf-length, values-bytes, sum-join}
+use Rattle.fields.specs.Records.{field_of, numbers_of}
+use Rattle.fields.proofs.Puts.{both_true, both_false, put_all_join}
+use Rattle.fields.proofs.Back.{values_back, first_eight, parts_write}
+use Rattle.fields.proofs.Facts.{below_relay, listed_most, entry_listed, none_listed, text_whole}
+use Rattle.fields.proofs.Taking.{head-sum, parts_sum, widths_length, widths_sum, sum_same}
+use Rattle.bits.proofs.Laws.{bits_of-lt}
+use Rattle.fields.specs.Writing.{field_in, numbers_in, text_length_by, takes_at, bits_at, widths_in, values_in, put_all, put_field, sum_of, head_bits, head_widths, head_values, head_fits, relays_at, fit_all, fill_of}
+use Rattle.fields.proofs.Rows.{Fit, found_within, found_code, values_fit}
+use Rattle.fields.proofs.Rounds.{Entry, values_of_join, values_of_snoc, values_of-length, values_bytes, sum_join}
 
 -- ---- a block that is in use
 
-in_use : (x : ℕ) → blockUnused x ≡ false → (x % 16 ≤ 9) × (x ≡ 128 → ⊥)
+in_use : (x : ℕ) → block_unused x ≡ false → (x % 16 ≤ 9) × (x ≡ 128 → ⊥)
 in_use x h = let o = both_false (ltb 9 (x % 16)) (eqb x 128) h in (ltb-false 9 (x % 16) o.0, eqb-false x 128 o.1)
 
 -- hundreds and thousands of a sum
-parts-of : (q d : ℕ) → d ≤ 9 → ((q * 10 + d) / 10 ≡ q) × ((q * 10 + d) % 10 ≡ d)
-parts-of q d h = (omega arith, omega arith)
+parts_of : (q d : ℕ) → d ≤ 9 → ((q * 10 + d) / 10 ≡ q) × ((q * 10 + d) % 10 ≡ d)
+parts_of q d h = (omega arith, omega arith)
 
 minus : (m : ℕ) → 0 < m → (nat_abs (neg_ℤ (pos m)) ≡ m) × (negative (neg_ℤ (pos m)) ≡ true)
 minus zero h = absurd (omega arith)
@@ -45,12 +45,12 @@ compose x y q d c e f = omega arith
 eighths : (x : ℕ) → x / 16 / 8 ≡ x / 128
 eighths x = omega arith
 
-whole-block : (x : ℕ) → x ≡ x / 128 * 128 + x / 16 % 8 * 16 + x % 16
-whole-block x =
+whole_block : (x : ℕ) → x ≡ x / 128 * 128 + x / 16 % 8 * 16 + x % 16
+whole_block x =
     compose x (x / 16) (x / 16 % 8) (x % 16) (x / 128) (sym (div-add-mod' x 16)) (sym (div-add-mod' (x / 16) 8) ∙ ap (λ (k : ℕ). k * 8 + x / 16 % 8) (eighths x))
 
-block-forth : (x : ℕ) → x < 256 → blockUnused x ≡ false → (nat_abs (block_of x) < 80) × (block_bits (block_of x) ≡ x)
-block-forth x l h = go (ℕ_discrete (x / 128) 1)
+block_forth : (x : ℕ) → x < 256 → block_unused x ≡ false → (nat_abs (block_of x) < 80) × (block_bits (block_of x) ≡ x)
+block_forth x l h = go (ℕ_discrete (x / 128) 1)
   where
     u : (x % 16 ≤ 9) × (x ≡ 128 → ⊥)
     u = in_use x h
@@ -62,7 +62,7 @@ block-forth x l h = go (ℕ_discrete (x / 128) 1)
     v = q * 10 + x % 16
 
     p : (v / 10 ≡ q) × (v % 10 ≡ x % 16)
-    p = parts-of q (x % 16) u.0
+    p = parts_of q (x % 16) u.0
 
     small : v < 80
     small = let a = u.0 in omega arith
@@ -80,301 +80,301 @@ block-forth x l h = go (ℕ_discrete (x / 128) 1)
     go : Dec (x / 128 ≡ 1) → (nat_abs (block_of x) < 80) × (block_bits (block_of x) ≡ x)
     go (yes e) =
         let a = u.0 in
-        let s : x ≡ 128 + q * 16 + x % 16 = whole-block x ∙ ap (λ (k : ℕ). k * 128 + q * 16 + x % 16) e in
+        let s : x ≡ 128 + q * 16 + x % 16 = whole_block x ∙ ap (λ (k : ℕ). k * 128 + q * 16 + x % 16) e in
         let some : 0 < v = positive q (x % 16) (λ z. u.1 (s ∙ z)) in
         let m = minus v some in
         rw (eq-eqb (x / 128) 1 e, m.0, m.1, p.0, p.1) (small, sym s)
     go (no e) =
         let a = u.0 in
-        let s : x ≡ 0 + q * 16 + x % 16 = whole-block x ∙ ap (λ (k : ℕ). k * 128 + q * 16 + x % 16) (below (x / 128) e (omega arith)) in
+        let s : x ≡ 0 + q * 16 + x % 16 = whole_block x ∙ ap (λ (k : ℕ). k * 128 + q * 16 + x % 16) (below (x / 128) e (omega arith)) in
         rw (ne_eqb (x / 128) 1 e, p.0, p.1) (small, sym s)
 
 -- ---- entries
 
 -- entries that fit their bits and, if they are blocks, are in use
 abbrev InUse : ℕ → List ℕ → Type 0
-InUse step xs = Fit (replicate (length xs) step) xs × ((step ≡ 8) → anyUnused xs ≡ false)
+InUse step xs = Fit (replicate (length xs) step) xs × ((step ≡ 8) → any_unused xs ≡ false)
 
-entry-forth : (step x : ℕ) → Entry step → x < 2 ^ step → (step ≡ 8 → blockUnused x ≡ false) → (entryFits step (entryOf step x) ≡ true) × (entryBits step (entryOf step x) ≡ x)
-unfolding entryOf entryFits entryBits
-entry-forth step x (inl e) l u =
-    let b = block-forth x (subst (λ (k : ℕ). x < 2 ^ k) e l) (u e) in
+entry_forth : (step x : ℕ) → Entry step → x < 2 ^ step → (step ≡ 8 → block_unused x ≡ false) → (entry_fits step (entry_of step x) ≡ true) × (entry_bits step (entry_of step x) ≡ x)
+unfolding entry_of entry_fits entry_bits
+entry_forth step x (inl e) l u =
+    let b = block_forth x (subst (λ (k : ℕ). x < 2 ^ k) e l) (u e) in
     rw e (lt-ltb _ 80 b.0, b.1)
-entry-forth step x (inr e) l u = rw e (lt-ltb x 16777216 (subst (λ (k : ℕ). x < 2 ^ k) e l), refl)
+entry_forth step x (inr e) l u = rw e (lt-ltb x 16777216 (subst (λ (k : ℕ). x < 2 ^ k) e l), refl)
 
-list-forth : (step room : ℕ) (xs : List ℕ) → (0 < length xs → Entry step) → length xs ≤ room → InUse step xs
-    → (listFits step (length xs) (entriesIn step room xs) ≡ true) × (entriesBits step (length xs) (entriesIn step room xs) ≡ xs)
-unfolding listFits entriesIn entriesBits anyUnused
-list-forth step zero [] e r f = (refl, refl)
-list-forth step zero (x ∷ xs) e r f = absurd (omega arith)
-list-forth step (suc room) [] e r f = ((list-forth step room [] e zero-le f).0, refl)
-list-forth step (suc room) (x ∷ xs) e r f =
-    let y = entry-forth step x (e (omega arith)) f.0.0 (λ q. (both_false (blockUnused x) (anyUnused xs) (f.1 q)).0) in
-    let m = list-forth step room xs (λ h. e (omega arith)) (omega arith) (f.0.1, λ q. (both_false (blockUnused x) (anyUnused xs) (f.1 q)).1) in
+list_forth : (step room : ℕ) (xs : List ℕ) → (0 < length xs → Entry step) → length xs ≤ room → InUse step xs
+    → (list_fits step (length xs) (entries_in step room xs) ≡ true) × (entries_bits step (length xs) (entries_in step room xs) ≡ xs)
+unfolding list_fits entries_in entries_bits any_unused
+list_forth step zero [] e r f = (refl, refl)
+list_forth step zero (x ∷ xs) e r f = absurd (omega arith)
+list_forth step (suc room) [] e r f = ((list_forth step room [] e zero-le f).0, refl)
+list_forth step (suc room) (x ∷ xs) e r f =
+    let y = entry_forth step x (e (omega arith)) f.0.0 (λ q. (both_false (block_unused x) (any_unused xs) (f.1 q)).0) in
+    let m = list_forth step room xs (λ h. e (omega arith)) (omega arith) (f.0.1, λ q. (both_false (block_unused x) (any_unused xs) (f.1 q)).1) in
     (rw y.0 m.0, rw (y.1, m.1) refl)
 
-pub entries-length : (step room : ℕ) (xs : List ℕ) → length (entriesIn step room xs) ≡ room
-unfolding entriesIn
-entries-length step zero xs = refl
-entries-length step (suc room) [] = ap suc (entries-length step room [])
-entries-length step (suc room) (x ∷ xs) = ap suc (entries-length step room xs)
+pub entries_length : (step room : ℕ) (xs : List ℕ) → length (entries_in step room xs) ≡ room
+unfolding entries_in
+entries_length step zero xs = refl
+entries_length step (suc room) [] = ap suc (entries_length step room [])
+entries_length step (suc room) (x ∷ xs) = ap suc (entries_length step room xs)
 
-fitAll-of : (ws vs : List ℕ) → Fit ws vs → fitAll ws vs ≡ true
-unfolding fitAll
-fitAll-of [] [] f = refl
-fitAll-of [] (v ∷ vs) f = absurd f
-fitAll-of (w ∷ ws) [] f = absurd f
-fitAll-of (w ∷ ws) (v ∷ vs) f = rw (lt-ltb v (2 ^ w) f.0) (fitAll-of ws vs f.1)
+fit_all_of : (ws vs : List ℕ) → Fit ws vs → fit_all ws vs ≡ true
+unfolding fit_all
+fit_all_of [] [] f = refl
+fit_all_of [] (v ∷ vs) f = absurd f
+fit_all_of (w ∷ ws) [] f = absurd f
+fit_all_of (w ∷ ws) (v ∷ vs) f = rw (lt-ltb v (2 ^ w) f.0) (fit_all_of ws vs f.1)
 
-pub drop-bytes : (s : List ℕ) (j : ℕ) → Bytes s → Bytes (drop j s)
-drop-bytes [] zero b = tt
-drop-bytes [] (suc j) b = tt
-drop-bytes (x ∷ s) zero b = b
-drop-bytes (x ∷ s) (suc j) b = drop-bytes s j b.1
+pub drop_bytes : (s : List ℕ) (j : ℕ) → Bytes s → Bytes (drop j s)
+drop_bytes [] zero b = tt
+drop_bytes [] (suc j) b = tt
+drop_bytes (x ∷ s) zero b = b
+drop_bytes (x ∷ s) (suc j) b = drop_bytes s j b.1
 
-way-from : (v w : Direction) → sameWay v w ≡ true → fromSensor w ≡ true → fromSensor v ≡ true
-unfolding sameWay fromSensor
-way-from ToSensor ToSensor h q = q
-way-from ToSensor FromSensor h q = absurd (let z : ◌≡◌ {A = ℕ} 0 1 = cc in omega arith)
-way-from FromSensor w h q = refl
+way_from : (v w : Direction) → same_way_as v w ≡ true → from_sensor w ≡ true → from_sensor v ≡ true
+unfolding same_way_as from_sensor
+way_from ToSensor ToSensor h q = q
+way_from ToSensor FromSensor h q = absurd (let z : ◌≡◌ {A = ℕ} 0 1 = cc in omega arith)
+way_from FromSensor w h q = refl
 
-pub way_same : (v w : Direction) → sameWay v w ≡ true → w ≡ v
-unfolding sameWay fromSensor
+pub way_same : (v w : Direction) → same_way_as v w ≡ true → w ≡ v
+unfolding same_way_as from_sensor
 way_same ToSensor ToSensor h = refl
 way_same ToSensor FromSensor h = absurd (let z : ◌≡◌ {A = ℕ} 0 1 = cc in omega arith)
 way_same FromSensor ToSensor h = absurd (let z : ◌≡◌ {A = ℕ} 0 1 = cc in omega arith)
 way_same FromSensor FromSensor h = refl
 
-opens-told : (s : List ℕ) (n : ℕ) (w : Direction) → opens s n w ≡ true → (bitsOf s 0 8 ≡ 3) × (fromSensor w ≡ true)
+opens_told : (s : List ℕ) (n : ℕ) (w : Direction) → opens s n w ≡ true → (bits_of s 0 8 ≡ 3) × (from_sensor w ≡ true)
 unfolding opens
-opens-told s n w h =
-    let q = both_true (eqb (bitsOf s 0 8) 3) (fromSensor w && leb 24 n) h in
-    (eqb-true _ _ q.0, (both_true (fromSensor w) (leb 24 n) q.1).0)
+opens_told s n w h =
+    let q = both_true (eqb (bits_of s 0 8) 3) (from_sensor w && leb 24 n) h in
+    (eqb-true _ _ q.0, (both_true (from_sensor w) (leb 24 n) q.1).0)
 
-relayed-told : (t : ℕ) → notRelayed t 16 ≡ false → eqb t 0x62 ≡ false
-unfolding notRelayed
-relayed-told t h = (both_false (eqb t 0x03) (eqb t 0x62) h).1
+relayed_told : (t : ℕ) → not_relayed t 16 ≡ false → eqb t 0x62 ≡ false
+unfolding not_relayed
+relayed_told t h = (both_false (eqb t 0x03) (eqb t 0x62) h).1
 
-relays-true : (s : List ℕ) (i : ℕ) → fromSensor (rowAt i).way ≡ true → eqb (rowAt i).code 0x62 ≡ false → relaysAt i (bitsOf s 8 8) ≡ true
-unfolding relaysAt
-relays-true s i f c = rw (lt-ltb (bitsOf s 8 8) 256 (bitsOf-lt s 8 8), f, c) refl
+relays_true : (s : List ℕ) (i : ℕ) → from_sensor (row_at i).way ≡ true → eqb (row_at i).code 0x62 ≡ false → relays_at i (bits_of s 8 8) ≡ true
+unfolding relays_at
+relays_true s i f c = rw (lt-ltb (bits_of s 8 8) 256 (bits_of-lt s 8 8), f, c) refl
 
 -- ---- a field that is accepted
 
-module _ (s : List ℕ) (n : ℕ) (w : Direction) (bytes : Bytes s) (none : NoneHolds (readRows s n w)) where
+module _ (s : List ℕ) (n : ℕ) (w : Direction) (bytes : Bytes s) (none : NoneHolds (read_rows s n w)) where
   abbrev a : ℕ
   a = start_of s n w
 
-  length-is : length s ≡ (n + 7) / 8
-  unfolding wrongByteCount
-  length-is = eqb-true _ _ (not-false _ none.1.0)
+  length_is : length s ≡ (n + 7) / 8
+  unfolding wrong_byte_count
+  length_is = eqb-true _ _ (not-false _ none.1.0)
 
-  no_more : bitsOf s n (fillOf n) ≡ 0
-  unfolding bitAfterCount
+  no_more : bits_of s n (fill_of n) ≡ 0
+  unfolding bit_after_count
   no_more = eqb-true _ _ (not-false _ none.1.1.0)
 
-  abbrev field : NoneHolds (fieldRows s n a w)
+  abbrev field : NoneHolds (field_rows s n a w)
   field = none.1.1.1
 
   -- the type has a row
   pub place : (i : ℕ) × (place_of (type_of s a) ≡ At i)
-  unfolding unknownType
+  unfolding unknown_type
   place = go (place_of (type_of s a)) refl
     where
       go : (p : Place) → place_of (type_of s a) ≡ p → (i : ℕ) × (place_of (type_of s a) ≡ At i)
       go (At i) e = (i, e)
-      go Nowhere e = absurd (let q : not (typeNotCarried (type_of s a)) ≡ false = rw e at field.0 in let y = field.1.0 in let g = not-false (typeNotCarried (type_of s a)) q in let z : ◌≡◌ {A = ℕ} 0 1 = cc in omega arith)
+      go Nowhere e = absurd (let q : not (type_not_carried (type_of s a)) ≡ false = rw e at field.0 in let y = field.1.0 in let g = not-false (type_not_carried (type_of s a)) q in let z : ◌≡◌ {A = ℕ} 0 1 = cc in omega arith)
 
   module _ (i : ℕ) (here : place_of (type_of s a) ≡ At i) where
     abbrev vals : List ℕ
-    vals = valuesAt s a i
+    vals = values_at s a i
 
     abbrev r : Record
-    r = recordOf s n w
+    r = record_of s n w
 
     in22 : i < 22
     in22 = found_within (type_of s a) i here
 
-    code_is : (rowAt i).code ≡ type_of s a
-    code_is = found-code (type_of s a) i here
+    code_is : (row_at i).code ≡ type_of s a
+    code_is = found_code (type_of s a) i here
 
-    pub way-is : sameWay (rowAt i).way w ≡ true
-    unfolding wrongDirection
+    pub way-is : same_way_as (row_at i).way w ≡ true
+    unfolding wrong_direction
     way-is = not-false _ (rw here at field.1.1.0)
 
-    sized-is : (eqb (rowAt i).code 0x03 ≡ false) × (n ≡ a + sizeIn (rowAt i) vals)
-    unfolding wrongBitCount sizedBy
+    sized-is : (eqb (row_at i).code 0x03 ≡ false) × (n ≡ a + size_in (row_at i) vals)
+    unfolding wrong_bit_count sized_by
     sized-is =
-        let q = both_true (not (eqb (rowAt i).code 0x03)) (eqb n (a + sizeIn (rowAt i) vals)) (not-false _ (rw here at field.1.1.1.1.0)) in
-        (not-true _ q.0, eqb-true n (a + sizeIn (rowAt i) vals) q.1)
+        let q = both_true (not (eqb (row_at i).code 0x03)) (eqb n (a + size_in (row_at i) vals)) (not-false _ (rw here at field.1.1.1.1.0)) in
+        (not-true _ q.0, eqb-true n (a + size_in (row_at i) vals) q.1)
 
-    spare-is : hasFault 1 (rulesAt i) vals ≡ false
-    unfolding spareBitSet
-    spare-is = rw here at field.1.1.1.1.1.0
+    spare_is : has_fault 1 (rules_at i) vals ≡ false
+    unfolding spare_bit_set
+    spare_is = rw here at field.1.1.1.1.1.0
 
-    used-is : (hasFault 2 (rulesAt i) vals ≡ false) × (anyUnused (blocksIn s a i) ≡ false)
-    unfolding valueNotInUse
-    used-is =
-        both_false (hasFault 2 (rulesAt i) vals) (anyUnused (blocksIn s a i)) (rw here at field.1.1.1.1.1.1.0)
+    used_is : (has_fault 2 (rules_at i) vals ≡ false) × (any_unused (blocks_in s a i) ≡ false)
+    unfolding value_not_in_use
+    used_is =
+        both_false (has_fault 2 (rules_at i) vals) (any_unused (blocks_in s a i)) (rw here at field.1.1.1.1.1.1.0)
 
     low : i < 21
-    low = below-relay i in22 sized-is.0
+    low = below_relay i in22 sized-is.0
 
-    back : numbersOf (field_of i vals) ≡ vals
-    back = values-back s a i low (sym code_is) spare-is
+    back : numbers_of (field_of i vals) ≡ vals
+    back = values_back s a i low (sym code_is) spare_is
 
     -- what stands before the field
-    pub head-is : (fieldIn r ≡ field_of i vals) × (head_bits r ≡ a) × (headFits i r ≡ true) × (values_of s 0 (headWidths r) ≡ headValues r) × (list_of s (Accepted r) ≡ entriesIn (rowAt i).step 30 (values_of s (a + (rowAt i).base) (replicate (listed i vals) (rowAt i).step)))
-    unfolding headFits values_of entriesIn listIn
-    head-is = go (opens s n w) refl
+    pub head_is : (field_in r ≡ field_of i vals) × (head_bits r ≡ a) × (head_fits i r ≡ true) × (values_of s 0 (head_widths r) ≡ head_values r) × (list_of s (Accepted r) ≡ entries_in (row_at i).step 30 (values_of s (a + (row_at i).base) (replicate (listed i vals) (row_at i).step)))
+    unfolding head_fits values_of entries_in list_in
+    head_is = go (opens s n w) refl
       where
-        go : (b : Bool) → opens s n w ≡ b → (fieldIn r ≡ field_of i vals) × (head_bits r ≡ a) × (headFits i r ≡ true) × (values_of s 0 (headWidths r) ≡ headValues r) × (list_of s (Accepted r) ≡ entriesIn (rowAt i).step 30 (values_of s (a + (rowAt i).base) (replicate (listed i vals) (rowAt i).step)))
+        go : (b : Bool) → opens s n w ≡ b → (field_in r ≡ field_of i vals) × (head_bits r ≡ a) × (head_fits i r ≡ true) × (values_of s 0 (head_widths r) ≡ head_values r) × (list_of s (Accepted r) ≡ entries_in (row_at i).step 30 (values_of s (a + (row_at i).base) (replicate (listed i vals) (row_at i).step)))
         go true e =
             let h : place_of (type_of s 16) ≡ At i = rw e at here in
-            let o = opens-told s n w e in
-            let f = way-from (rowAt i).way w way-is o.1 in
-            let g : notRelayed (type_of s 16) 16 ≡ false = rw e at field.1.1.1.0 in
-            let c : (rowAt i).code ≡ type_of s 16 = rw e at code_is in
-            let k = relays-true s i f (rw c (relayed-told (type_of s 16) g)) in
-            let z = none-listed i (valuesAt s 16 i) in22 (valuesOf-length s 16 (widthsAt i) ∙ widths-length i in22) f in
+            let o = opens_told s n w e in
+            let f = way_from (row_at i).way w way-is o.1 in
+            let g : not_relayed (type_of s 16) 16 ≡ false = rw e at field.1.1.1.0 in
+            let c : (row_at i).code ≡ type_of s 16 = rw e at code_is in
+            let k = relays_true s i f (rw c (relayed_told (type_of s 16) g)) in
+            let z = none_listed i (values_at s 16 i) in22 (values_of-length s 16 (widths_at i) ∙ widths_length i in22) f in
             rw e (rw h refl, refl, k, rw o.0 refl, rw z refl)
         go false e =
             let h : place_of (type_of s 0) ≡ At i = rw e at here in
             rw e (rw h refl, refl, refl, refl, rw (h, zero-add) refl)
 
-    numbers : numbersIn r ≡ vals
-    numbers = ap numbersOf head-is.0 ∙ back
+    numbers : numbers_in r ≡ vals
+    numbers = ap numbers_of head_is.0 ∙ back
 
-    pub place_is : place_of (get_or (numbersIn r) 0 0) ≡ At i
-    place_is = ap (λ (x : List ℕ). place_of (get_or x 0 0)) numbers ∙ ap place_of (first-eight s a i low) ∙ here
+    pub place_is : place_of (get_or (numbers_in r) 0 0) ≡ At i
+    place_is = ap (λ (x : List ℕ). place_of (get_or x 0 0)) numbers ∙ ap place_of (first_eight s a i low) ∙ here
 
     abbrev row : ℕ
-    row = (rowAt i).step
+    row = (row_at i).step
 
     abbrev m : ℕ
     m = listed i vals
 
     abbrev xs : List ℕ
-    xs = values_of s (a + (rowAt i).base) (replicate m row)
+    xs = values_of s (a + (row_at i).base) (replicate m row)
 
     abbrev t : List ℕ
-    t = drop (textIn s a) s
+    t = drop (text_in s a) s
 
     abbrev l : List ℤ
     l = list_of s (Accepted r)
 
-    fits : Fit (widthsAt i) vals
-    fits = values-fit s a (widthsAt i)
+    fits : Fit (widths_at i) vals
+    fits = values_fit s a (widths_at i)
 
-    xs-length : length xs ≡ m
-    xs-length = valuesOf-length s (a + (rowAt i).base) (replicate m row) ∙ length-replicate m row
+    xs_length : length xs ≡ m
+    xs_length = values_of-length s (a + (row_at i).base) (replicate m row) ∙ length-replicate m row
 
-    blocks : row ≡ 8 → anyUnused xs ≡ false
-    unfolding listedBy blockCount
+    blocks : row ≡ 8 → any_unused xs ≡ false
+    unfolding listed_as block_count
     blocks e =
-        let q : m ≡ countIn (rowAt i) vals = ap (λ (b : Bool). cond b 0 (countIn (rowAt i) vals)) (ne_eqb row 80 (λ u. omega arith)) in
-        let b : anyUnused (values_of s (a + (rowAt i).base) (replicate (countIn (rowAt i) vals) 8)) ≡ false = rw (eq-eqb row 8 e) at used-is.1 in
-        ap (λ (c : ℕ). anyUnused (values_of s (a + (rowAt i).base) (replicate c row))) q ∙ ap (λ (k : ℕ). anyUnused (values_of s (a + (rowAt i).base) (replicate (countIn (rowAt i) vals) k))) e ∙ b
+        let q : m ≡ count_in (row_at i) vals = ap (λ (b : Bool). cond b 0 (count_in (row_at i) vals)) (ne_eqb row 80 (λ u. omega arith)) in
+        let b : any_unused (values_of s (a + (row_at i).base) (replicate (count_in (row_at i) vals) 8)) ≡ false = rw (eq-eqb row 8 e) at used_is.1 in
+        ap (λ (c : ℕ). any_unused (values_of s (a + (row_at i).base) (replicate c row))) q ∙ ap (λ (k : ℕ). any_unused (values_of s (a + (row_at i).base) (replicate (count_in (row_at i) vals) k))) e ∙ b
 
-    list-both : (listFits row m l ≡ true) × (entriesBits row m l ≡ xs)
-    list-both =
-        let f = list-forth row 30 xs (λ h. entry_listed i vals in22 (valuesOf-length s a (widthsAt i) ∙ widths-length i in22) (omega (arith, xs-length))) (omega (arith, xs-length, listed-most i vals in22 fits)) (rw xs-length (values-fit s (a + (rowAt i).base) (replicate m row)), blocks) in
-        rw head-is.4 (rw xs-length at f)
+    list_both : (list_fits row m l ≡ true) × (entries_bits row m l ≡ xs)
+    list_both =
+        let f = list_forth row 30 xs (λ h. entry_listed i vals in22 (values_of-length s a (widths_at i) ∙ widths_length i in22) (omega (arith, xs_length))) (omega (arith, xs_length, listed_most i vals in22 fits)) (rw xs_length (values_fit s (a + (row_at i).base) (replicate m row)), blocks) in
+        rw head_is.4 (rw xs_length at f)
 
     -- ---- the text
 
-    sizes : length s ≡ (a + ((rowAt i).base + row * countIn (rowAt i) vals) + 7) / 8
-    unfolding sizeIn
-    sizes = length-is ∙ ap (λ (x : ℕ). (x + 7) / 8) sized-is.1
+    sizes : length s ≡ (a + ((row_at i).base + row * count_in (row_at i) vals) + 7) / 8
+    unfolding size_in
+    sizes = length_is ∙ ap (λ (x : ℕ). (x + 7) / 8) sized-is.1
 
-    whole-start : a % 8 ≡ 0
-    whole-start = go (opens s n w)
+    whole_start : a % 8 ≡ 0
+    whole_start = go (opens s n w)
       where
         go : (b : Bool) → cond b 16 0 % 8 ≡ 0
         go true = refl
         go false = refl
 
-    text-both : (length t ≡ textLengthBy (rowAt i) vals) × (values_of s (a + (rowAt i).base + row * m) (replicate (length t) 8) ≡ t)
-    unfolding textIn textLengthBy listedBy values_of
-    text-both = go (ℕ_discrete row 80)
+    text_both : (length t ≡ text_length_by (row_at i) vals) × (values_of s (a + (row_at i).base + row * m) (replicate (length t) 8) ≡ t)
+    unfolding text_in text_length_by listed_as values_of
+    text_both = go (ℕ_discrete row 80)
       where
-        go : Dec (row ≡ 80) → (length t ≡ textLengthBy (rowAt i) vals) × (values_of s (a + (rowAt i).base + row * m) (replicate (length t) 8) ≡ t)
+        go : Dec (row ≡ 80) → (length t ≡ text_length_by (row_at i) vals) × (values_of s (a + (row_at i).base + row * m) (replicate (length t) 8) ≡ t)
         go (yes e) =
-            let j = (a + (rowAt i).base) / 8 in
-            let g = text-whole i in22 e in
-            let ws = whole-start in
-            let at : a + (rowAt i).base ≡ j * 8 = omega arith in
-            let b : textIn s a ≡ j = rw (here, eq-eqb row 80 e) refl in
-            let c : length s ≡ (a + ((rowAt i).base + 80 * countIn (rowAt i) vals) + 7) / 8 = sizes ∙ ap (λ (k : ℕ). (a + ((rowAt i).base + k * countIn (rowAt i) vals) + 7) / 8) e in
-            let d : length (drop j s) ≡ 10 * countIn (rowAt i) vals = omega (arith, length-drop j s) in
-            let z : m ≡ 0 = ap (λ (x : Bool). cond x 0 (countIn (rowAt i) vals)) (eq-eqb row 80 e) in
-            let p : a + (rowAt i).base + row * m ≡ j * 8 = ap (λ (x : ℕ). a + (rowAt i).base + row * x) z ∙ ap (λ (x : ℕ). a + (rowAt i).base + x) (mul-zero row) ∙ add-zero _ ∙ at in (
-              ap (λ (x : ℕ). length (drop x s)) b ∙ d ∙ sym (ap (λ (x : Bool). cond x (10 * countIn (rowAt i) vals) 0) (eq-eqb row 80 e)),
-              ap (λ (x : ℕ). values_of s (a + (rowAt i).base + row * m) (replicate (length (drop x s)) 8)) b
+            let j = (a + (row_at i).base) / 8 in
+            let g = text_whole i in22 e in
+            let ws = whole_start in
+            let at : a + (row_at i).base ≡ j * 8 = omega arith in
+            let b : text_in s a ≡ j = rw (here, eq-eqb row 80 e) refl in
+            let c : length s ≡ (a + ((row_at i).base + 80 * count_in (row_at i) vals) + 7) / 8 = sizes ∙ ap (λ (k : ℕ). (a + ((row_at i).base + k * count_in (row_at i) vals) + 7) / 8) e in
+            let d : length (drop j s) ≡ 10 * count_in (row_at i) vals = omega (arith, length-drop j s) in
+            let z : m ≡ 0 = ap (λ (x : Bool). cond x 0 (count_in (row_at i) vals)) (eq-eqb row 80 e) in
+            let p : a + (row_at i).base + row * m ≡ j * 8 = ap (λ (x : ℕ). a + (row_at i).base + row * x) z ∙ ap (λ (x : ℕ). a + (row_at i).base + x) (mul-zero row) ∙ add-zero _ ∙ at in (
+              ap (λ (x : ℕ). length (drop x s)) b ∙ d ∙ sym (ap (λ (x : Bool). cond x (10 * count_in (row_at i) vals) 0) (eq-eqb row 80 e)),
+              ap (λ (x : ℕ). values_of s (a + (row_at i).base + row * m) (replicate (length (drop x s)) 8)) b
                   ∙ ap (λ (x : ℕ). values_of s x (replicate (length (drop j s)) 8)) p
-                  ∙ values-bytes s j (length (drop j s)) bytes (omega (arith, length-drop j s))
+                  ∙ values_bytes s j (length (drop j s)) bytes (omega (arith, length-drop j s))
                   ∙ take_all (length (drop j s)) (drop j s) (omega arith)
                   ∙ ap (λ (x : ℕ). drop x s) (sym b),
             )
         go (no e) =
-            let b : textIn s a ≡ length s = rw (here, ne_eqb row 80 e) refl in
+            let b : text_in s a ≡ length s = rw (here, ne_eqb row 80 e) refl in
             let d : t ≡ [] = ap (λ (x : ℕ). drop x s) b ∙ drop-length s in
-            (ap length d ∙ sym (ap (λ (x : Bool). cond x (10 * countIn (rowAt i) vals) 0) (ne_eqb row 80 e)), ap (λ (u : List ℕ). values_of s (a + (rowAt i).base + row * m) (replicate (length u) 8)) d ∙ sym d)
+            (ap length d ∙ sym (ap (λ (x : Bool). cond x (10 * count_in (row_at i) vals) 0) (ne_eqb row 80 e)), ap (λ (u : List ℕ). values_of s (a + (row_at i).base + row * m) (replicate (length u) 8)) d ∙ sym d)
 
     -- ---- the writer takes them, and gives the same bits and bytes
 
-    pub takes-is : takesAt i r l (length t) ≡ true
-    unfolding takesAt
-    takes-is =
-        rw (head-is.2, numbers, fitAll-of (widthsAt i) vals fits, used-is.0, list-both.0, eq-eqb (length t) (textLengthBy (rowAt i) vals) text-both.0) refl
+    pub takes_is : takes_at i r l (length t) ≡ true
+    unfolding takes_at
+    takes_is =
+        rw (head_is.2, numbers, fit_all_of (widths_at i) vals fits, used_is.0, list_both.0, eq-eqb (length t) (text_length_by (row_at i) vals) text_both.0) refl
 
     pub bits_is : bits_at i r ≡ n
-    bits_is = rw (head-is.1, numbers) (sym sized-is.1)
+    bits_is = rw (head_is.1, numbers) (sym sized-is.1)
 
-    abbrev widths-all : List ℕ
-    widths-all = headWidths r ++ (widthsAt i ++ (replicate m row ++ replicate (length t) 8))
+    abbrev widths_all : List ℕ
+    widths_all = head_widths r ++ (widths_at i ++ (replicate m row ++ replicate (length t) 8))
 
-    abbrev vals-all : List ℕ
-    vals-all = headValues r ++ (vals ++ (xs ++ t))
+    abbrev vals_all : List ℕ
+    vals_all = head_values r ++ (vals ++ (xs ++ t))
 
-    widths-all-is : widthsIn i r t ≡ widths-all
-    widths-all-is = ap (λ (v : List ℕ). headWidths r ++ (widthsAt i ++ (replicate (listed i v) row ++ replicate (length t) 8))) numbers
+    widths_all_is : widths_in i r t ≡ widths_all
+    widths_all_is = ap (λ (v : List ℕ). head_widths r ++ (widths_at i ++ (replicate (listed i v) row ++ replicate (length t) 8))) numbers
 
-    vals-all-is : valuesIn i r l t ≡ vals-all
-    vals-all-is =
-        ap (λ (v : List ℕ). headValues r ++ (v ++ (entriesBits row (listed i v) l ++ t))) numbers
-        ∙ ap (λ (e : List ℕ). headValues r ++ (vals ++ (e ++ t))) list-both.1
+    vals_all_is : values_in i r l t ≡ vals_all
+    vals_all_is =
+        ap (λ (v : List ℕ). head_values r ++ (v ++ (entries_bits row (listed i v) l ++ t))) numbers
+        ∙ ap (λ (e : List ℕ). head_values r ++ (vals ++ (e ++ t))) list_both.1
 
-    read_all : values_of s 0 widths-all ≡ vals-all
+    read_all : values_of s 0 widths_all ≡ vals_all
     read_all =
         let rest2 = replicate m row ++ replicate (length t) 8 in
-        valuesOf-join s 0 (headWidths r) (widthsAt i ++ rest2)
-        ∙ ap (λ (x : List ℕ). x ++ values_of s (0 + sum_of (headWidths r)) (widthsAt i ++ rest2)) head-is.3
-        ∙ ap (λ (x : ℕ). headValues r ++ values_of s x (widthsAt i ++ rest2)) (let q : 0 + sum_of (headWidths r) ≡ a = omega (arith, head-sum r, head-is.1) in q)
-        ∙ ap (λ (x : List ℕ). headValues r ++ x) (valuesOf-join s a (widthsAt i) rest2)
-        ∙ ap (λ (x : ℕ). headValues r ++ (vals ++ values_of s (a + x) rest2)) (widths-sum i in22)
-        ∙ ap (λ (x : List ℕ). headValues r ++ (vals ++ x)) (valuesOf-join s (a + (rowAt i).base) (replicate m row) (replicate (length t) 8))
-        ∙ ap (λ (x : ℕ). headValues r ++ (vals ++ (xs ++ values_of s (a + (rowAt i).base + x) (replicate (length t) 8)))) (sum_same m row)
-        ∙ ap (λ (x : List ℕ). headValues r ++ (vals ++ (xs ++ x))) text-both.1
+        values_of_join s 0 (head_widths r) (widths_at i ++ rest2)
+        ∙ ap (λ (x : List ℕ). x ++ values_of s (0 + sum_of (head_widths r)) (widths_at i ++ rest2)) head_is.3
+        ∙ ap (λ (x : ℕ). head_values r ++ values_of s x (widths_at i ++ rest2)) (let q : 0 + sum_of (head_widths r) ≡ a = omega (arith, head-sum r, head_is.1) in q)
+        ∙ ap (λ (x : List ℕ). head_values r ++ x) (values_of_join s a (widths_at i) rest2)
+        ∙ ap (λ (x : ℕ). head_values r ++ (vals ++ values_of s (a + x) rest2)) (widths_sum i in22)
+        ∙ ap (λ (x : List ℕ). head_values r ++ (vals ++ x)) (values_of_join s (a + (row_at i).base) (replicate m row) (replicate (length t) 8))
+        ∙ ap (λ (x : ℕ). head_values r ++ (vals ++ (xs ++ values_of s (a + (row_at i).base + x) (replicate (length t) 8)))) (sum_same m row)
+        ∙ ap (λ (x : List ℕ). head_values r ++ (vals ++ (xs ++ x))) text_both.1
 
-    sum-all : sum_of widths-all ≡ n
-    sum-all = parts-sum i r vals t in22 text-both.0 ∙ omega (arith, head-is.1, sized-is.1)
+    sum_all : sum_of widths_all ≡ n
+    sum_all = parts_sum i r vals t in22 text_both.0 ∙ omega (arith, head_is.1, sized-is.1)
 
-    pub bytes-is : putField i r l t (replicate ((bits_at i r + 7) / 8) 0) ≡ s
-    unfolding putField put_all
-    bytes-is =
-        let k = fillOf n in
+    pub bytes_is : put_field i r l t (replicate ((bits_at i r + 7) / 8) 0) ≡ s
+    unfolding put_field put_all
+    bytes_is =
+        let k = fill_of n in
         let z = replicate {A = ℕ} (length s) 0 in
-        let e : (bits_at i r + 7) / 8 ≡ length s = ap (λ (x : ℕ). (x + 7) / 8) bits_is ∙ sym length-is in
-        let fill : 0 + sum_of widths-all ≡ n = omega (arith, sum-all) in
-        let whole : sum_of (widths-all ++ (k ∷ [])) ≡ length s * 8 = sum-join widths-all (k ∷ []) ∙ omega (arith, sum-all, length-is) in
-        let v : values_of s 0 (widths-all ++ (k ∷ [])) ≡ vals-all ++ (0 ∷ []) =
-        valuesOf-snoc s 0 widths-all k ∙ ap (λ (x : List ℕ). x ++ (bitsOf s (0 + sum_of widths-all) k ∷ [])) read_all ∙ ap (λ (x : ℕ). vals-all ++ (bitsOf s x k ∷ [])) fill ∙ ap (λ (x : ℕ). vals-all ++ (x ∷ [])) no_more in
-        ap (λ (x : ℕ). putBits (put_all (replicate ((bits_at i r + 7) / 8) 0) 0 (widthsIn i r t) (valuesIn i r l t)) x (fillOf x) 0) bits_is
-        ∙ ap (λ (x : ℕ). putBits (put_all (replicate x 0) 0 (widthsIn i r t) (valuesIn i r l t)) n k 0) e
-        ∙ ap (λ (x : List ℕ). putBits (put_all z 0 x (valuesIn i r l t)) n k 0) widths-all-is
-        ∙ ap (λ (x : List ℕ). putBits (put_all z 0 widths-all x) n k 0) vals-all-is
-        ∙ ap (λ (x : ℕ). putBits (put_all z 0 widths-all vals-all) x k 0) (sym fill)
-        ∙ sym (putAll-join z 0 widths-all vals-all (k ∷ []) (0 ∷ []) (sym (valuesOf-length s 0 widths-all) ∙ ap length read_all))
-        ∙ ap (λ (x : List ℕ). put_all z 0 (widths-all ++ (k ∷ [])) x) (sym v)
-        ∙ parts-write s (widths-all ++ (k ∷ [])) bytes whole
+        let e : (bits_at i r + 7) / 8 ≡ length s = ap (λ (x : ℕ). (x + 7) / 8) bits_is ∙ sym length_is in
+        let fill : 0 + sum_of widths_all ≡ n = omega (arith, sum_all) in
+        let whole : sum_of (widths_all ++ (k ∷ [])) ≡ length s * 8 = sum_join widths_all (k ∷ []) ∙ omega (arith, sum_all, length_is) in
+        let v : values_of s 0 (widths_all ++ (k ∷ [])) ≡ vals_all ++ (0 ∷ []) =
+        values_of_snoc s 0 widths_all k ∙ ap (λ (x : List ℕ). x ++ (bits_of s (0 + sum_of widths_all) k ∷ [])) read_all ∙ ap (λ (x : ℕ). vals_all ++ (bits_of s x k ∷ [])) fill ∙ ap (λ (x : ℕ). vals_all ++ (x ∷ [])) no_more in
+        ap (λ (x : ℕ). put_bits (put_all (replicate ((bits_at i r + 7) / 8) 0) 0 (widths_in i r t) (values_in i r l t)) x (fill_of x) 0) bits_is
+        ∙ ap (λ (x : ℕ). put_bits (put_all (replicate x 0) 0 (widths_in i r t) (values_in i r l t)) n k 0) e
+        ∙ ap (λ (x : List ℕ). put_bits (put_all z 0 x (values_in i r l t)) n k 0) widths_all_is
+        ∙ ap (λ (x : List ℕ). put_bits (put_all z 0 widths_all x) n k 0) vals_all_is
+        ∙ ap (λ (x : ℕ). put_bits (put_all z 0 widths_all vals_all) x k 0) (sym fill)
+        ∙ sym (put_all_join z 0 widths_all vals_all (k ∷ []) (0 ∷ []) (sym (values_of-length s 0 widths_all) ∙ ap length read_all))
+        ∙ ap (λ (x : List ℕ). put_all z 0 (widths_all ++ (k ∷ [])) x) (sym v)
+        ∙ parts_write s (widths_all ++ (k ∷ [])) bytes whole

@@ -3,46 +3,46 @@
 use Rattle.std.proofs.Common.{◌≡◌, ℕ, zero, suc, ◌+◌, ◌-◌, ◌%◌, ◌^◌, ◌<◌, ◌≤◌, Bool, true, false, cond, not, ◌&&◌, ◌||◌, T, eqb, leb, List, [], ◌∷◌, length, get_or, sym, refl, zero-le, lt_of_lt_of_le, le_of_suc-le-suc, not-suc-le-zero, arith, eqb→eq, leb→le, pow_mono, eq-eqb, ne_eqb, eqb-true}
 use native.Mathlib.Decide.{ℕ_discrete}
 use lib.ListN.{get_or-eq_default}
-use Rattle.bits.proofs.Laws.{bitsOf-lt}
+use Rattle.bits.proofs.Laws.{bits_of-lt}
 use Rattle.fields.specs.declared.Row.{Row}
 use Rattle.fields.specs.declared.table.Known.{Known}
 use Rattle.fields.specs.declared.Place.TheVariants.{At, Nowhere}
 use Rattle.fields.specs.declared.Field.TheVariants.{ControllerAlert}
-use Rattle.fields.specs.Table.{table, rows, no_row, rowAt, widths, widthsAt, rules, rulesAt, placeFrom, values_of, hasFault, Quiet, countIn, RowSmall}
-use Rattle.fields.specs.Records.{fieldsBy, field_at}
-use Rattle.fields.specs.Reading.{blockCount, typeNotCarried}
+use Rattle.fields.specs.Table.{table, rows, no_row, row_at, widths, widths_at, rules, rules_at, place_from, values_of, has_fault, Quiet, count_in, RowSmall}
+use Rattle.fields.specs.Records.{fields_by, field_at}
+use Rattle.fields.specs.Reading.{block_count, type_not_carried}
 
 -- the number c is none of the codes of these rows, as the last arm of a `match` has it: T, and then a code after the other
 abbrev Avoids : Type 0 → ℕ → List Row → Type 0
 Avoids T c [] = T
 Avoids T c (r ∷ rs) = Avoids (T × (c ≡ r.code → ⊥)) c rs
 
-avoided : (T : Type 0) (c : ℕ) (rs : List Row) (i : ℕ) → Avoids T c rs → T × (placeFrom c rs i ≡ Nowhere)
-unfolding placeFrom
+avoided : (T : Type 0) (c : ℕ) (rs : List Row) (i : ℕ) → Avoids T c rs → T × (place_from c rs i ≡ Nowhere)
+unfolding place_from
 avoided T c [] i t = (t, refl)
 avoided T c (r ∷ rs) i t =
     let h = avoided (T × (c ≡ r.code → ⊥)) c rs (i + 1) t in
     (h.0.0, rw (ne_eqb _ _ (λ e. h.0.1 (sym e))) h.1)
 
 -- what is no row's code has no place
-pub placeFrom-none : (c : ℕ) (rs : List Row) → Avoids (Unit {0}) c rs → placeFrom c rs 0 ≡ Nowhere
-placeFrom-none c rs t = (avoided (Unit {0}) c rs 0 t).1
+pub place_from_none : (c : ℕ) (rs : List Row) → Avoids (Unit {0}) c rs → place_from c rs 0 ≡ Nowhere
+place_from_none c rs t = (avoided (Unit {0}) c rs 0 t).1
 
 -- the number i is none of the first n, as the last arm of a `match` has it
 abbrev NotBelow : ℕ → ℕ → Type 0
 NotBelow i zero = Unit {0}
 NotBelow i (suc n) = NotBelow i n × (i ≡ n → ⊥)
 
-pub not-below : (i n : ℕ) → NotBelow i n → n ≤ i
-not-below i zero t = zero-le
-not-below i (suc n) t = next (not-below i n t.0) t.1
+pub not_below : (i n : ℕ) → NotBelow i n → n ≤ i
+not_below i zero t = zero-le
+not_below i (suc n) t = next (not_below i n t.0) t.1
   where
     next : n ≤ i → (i ≡ n → ⊥) → suc n ≤ i
     next h ne = omega arith
 
 -- of the first n + 1 numbers it is then the last
-pub last-is : (i n : ℕ) → i < suc n → NotBelow i n → i ≡ n
-last-is i n h t = last (not-below i n t)
+pub last_is : (i n : ℕ) → i < suc n → NotBelow i n → i ≡ n
+last_is i n h t = last (not_below i n t)
   where
     last : n ≤ i → i ≡ n
     last l = omega arith
@@ -61,31 +61,31 @@ smaller (r ∷ rs) = small r ∷ smaller rs
 unfoldable pub known : List Known
 known = smaller rows
 
-smaller-at : (rs : List Row) (i : ℕ) (d : Known) → i < length rs → unpacked (get_or (smaller rs) i d) ≡ get_or rs i no_row
-smaller-at [] i d h = absurd (not-suc-le-zero h)
-smaller-at (r ∷ rs) zero d h = refl
-smaller-at (r ∷ rs) (suc i) d h = smaller-at rs i d (le_of_suc-le-suc h)
+smaller_at : (rs : List Row) (i : ℕ) (d : Known) → i < length rs → unpacked (get_or (smaller rs) i d) ≡ get_or rs i no_row
+smaller_at [] i d h = absurd (not-suc-le-zero h)
+smaller_at (r ∷ rs) zero d h = refl
+smaller_at (r ∷ rs) (suc i) d h = smaller_at rs i d (le_of_suc-le-suc h)
 
-pub unpacked-at : (i : ℕ) (d : Known) → i < 22 → unpacked (get_or known i d) ≡ rowAt i
-unfolding known rowAt rows table
-unpacked-at i d h = smaller-at rows i d h
+pub unpacked_at : (i : ℕ) (d : Known) → i < 22 → unpacked (get_or known i d) ≡ row_at i
+unfolding known row_at rows table
+unpacked_at i d h = smaller_at rows i d h
 
 -- the last type stands at every place from 20 on
-pub fieldAt-last : (at a b c d e f g h i j : ℕ) → 20 ≤ at → field_at at a b c d e f g h i j ≡ ControllerAlert a b c d e f g h i j
+pub field_at-last : (at a b c d e f g h i j : ℕ) → 20 ≤ at → field_at at a b c d e f g h i j ≡ ControllerAlert a b c d e f g h i j
 unfolding field_at
-fieldAt-last at a b c d e f g h i j l = get_or-eq_default (fieldsBy a b c d e f g h i j) (ControllerAlert a b c d e f g h i j) l
+field_at-last at a b c d e f g h i j l = get_or-eq_default (fields_by a b c d e f g h i j) (ControllerAlert a b c d e f g h i j) l
 
 -- a place that is found stands in the table, and holds the code
-found_in : (c : ℕ) (rs : List Row) (a i : ℕ) → placeFrom c rs a ≡ At i → i < a + length rs
-unfolding placeFrom
+found_in : (c : ℕ) (rs : List Row) (a i : ℕ) → place_from c rs a ≡ At i → i < a + length rs
+unfolding place_from
 found_in c [] a i e = let z : ◌≡◌ {A = ℕ} 0 1 = cc in omega arith
 found_in c (r ∷ rs) a i e = go (eqb r.code c) (found_in c rs (a + 1) i) e
   where
-    go : (t : Bool) → (placeFrom c rs (a + 1) ≡ At i → i < a + 1 + length rs) → cond t (At a) (placeFrom c rs (a + 1)) ≡ At i → i < a + suc (length rs)
+    go : (t : Bool) → (place_from c rs (a + 1) ≡ At i → i < a + 1 + length rs) → cond t (At a) (place_from c rs (a + 1)) ≡ At i → i < a + suc (length rs)
     go true h q = let z : a ≡ i = cc in omega arith
     go false h q = omega (arith, h q)
 
-pub found_within : (c i : ℕ) → placeFrom c rows 0 ≡ At i → i < 22
+pub found_within : (c i : ℕ) → place_from c rows 0 ≡ At i → i < 22
 unfolding rows table
 found_within c i e = found_in c rows 0 i e
 
@@ -121,14 +121,14 @@ narrow_at [] t k = zero-le
 narrow_at (w ∷ ws) t zero = leb→le w 63 (both_left (leb w 63) (narrow ws) t)
 narrow_at (w ∷ ws) t (suc k) = narrow_at ws (both_right (leb w 63) (narrow ws) t) k
 
-pub widths-narrow : (i : ℕ) → i < 22 → (k : ℕ) → get_or (widthsAt i) k 0 ≤ 63
-unfolding table widths widthsAt
-widths-narrow i h = narrow_at (widthsAt i) (below_at (λ (j : ℕ). narrow (widthsAt j)) 22 tt i h)
+pub widths_narrow : (i : ℕ) → i < 22 → (k : ℕ) → get_or (widths_at i) k 0 ≤ 63
+unfolding table widths widths_at
+widths_narrow i h = narrow_at (widths_at i) (below_at (λ (j : ℕ). narrow (widths_at j)) 22 tt i h)
 
 -- the first part is the type
-pub first_width : (i : ℕ) → i < 22 → get_or (widthsAt i) 0 0 ≡ 8
-unfolding table widths widthsAt
-first_width i h = eqb→eq _ 8 (below_at (λ (j : ℕ). eqb (get_or (widthsAt j) 0 0) 8) 22 tt i h)
+pub first_width : (i : ℕ) → i < 22 → get_or (widths_at i) 0 0 ≡ 8
+unfolding table widths widths_at
+first_width i h = eqb→eq _ 8 (below_at (λ (j : ℕ). eqb (get_or (widths_at j) 0 0) 8) 22 tt i h)
 
 -- widths that are no more once one is none
 abbrev ended : List ℕ → Bool
@@ -145,35 +145,35 @@ ended_at (w ∷ ws) t zero = eqb→eq w 0 (both_left (eqb w 0) (ended ws) t)
 ended_at (w ∷ ws) t (suc m) = ended_at ws (both_right (eqb w 0) (ended ws) t) m
 
 -- from the first that is none on
-end-from : (w : ℕ) (ws : List ℕ) → w ≡ 0 → T (tapers (w ∷ ws)) → T (ended (w ∷ ws))
-end-from w ws e t = go (eqb w 0) (eq-eqb w 0 e) (both_left (not (eqb w 0) || ended ws) (tapers ws) t)
+end_from : (w : ℕ) (ws : List ℕ) → w ≡ 0 → T (tapers (w ∷ ws)) → T (ended (w ∷ ws))
+end_from w ws e t = go (eqb w 0) (eq-eqb w 0 e) (both_left (not (eqb w 0) || ended ws) (tapers ws) t)
   where
     go : (b : Bool) → b ≡ true → T (not b || ended ws) → T (b && ended ws)
     go true q t = t
     go false q t = absurd (let z : ◌≡◌ {A = ℕ} 0 1 = cc in omega arith)
 
-tapers-at : (ws : List ℕ) → T (tapers ws) → (k m : ℕ) → k ≤ m → get_or ws k 0 ≡ 0 → get_or ws m 0 ≡ 0
-tapers-at [] t k m h e = refl
-tapers-at (w ∷ ws) t zero zero h e = e
-tapers-at (w ∷ ws) t zero (suc m) h e = ended_at (w ∷ ws) (end-from w ws e t) (suc m)
-tapers-at (w ∷ ws) t (suc k) zero h e = absurd (not-suc-le-zero h)
-tapers-at (w ∷ ws) t (suc k) (suc m) h e = tapers-at ws (both_right (not (eqb w 0) || ended ws) (tapers ws) t) k m (le_of_suc-le-suc h) e
+tapers_at : (ws : List ℕ) → T (tapers ws) → (k m : ℕ) → k ≤ m → get_or ws k 0 ≡ 0 → get_or ws m 0 ≡ 0
+tapers_at [] t k m h e = refl
+tapers_at (w ∷ ws) t zero zero h e = e
+tapers_at (w ∷ ws) t zero (suc m) h e = ended_at (w ∷ ws) (end_from w ws e t) (suc m)
+tapers_at (w ∷ ws) t (suc k) zero h e = absurd (not-suc-le-zero h)
+tapers_at (w ∷ ws) t (suc k) (suc m) h e = tapers_at ws (both_right (not (eqb w 0) || ended ws) (tapers ws) t) k m (le_of_suc-le-suc h) e
 
-pub widths-taper : (i : ℕ) → i < 22 → (k m : ℕ) → k ≤ m → get_or (widthsAt i) k 0 ≡ 0 → get_or (widthsAt i) m 0 ≡ 0
-unfolding table widths widthsAt
-widths-taper i h = tapers-at (widthsAt i) (below_at (λ (j : ℕ). tapers (widthsAt j)) 22 tt i h)
+pub widths_taper : (i : ℕ) → i < 22 → (k m : ℕ) → k ≤ m → get_or (widths_at i) k 0 ≡ 0 → get_or (widths_at i) m 0 ≡ 0
+unfolding table widths widths_at
+widths_taper i h = tapers_at (widths_at i) (below_at (λ (j : ℕ). tapers (widths_at j)) 22 tt i h)
 
 -- ---- the numbers of a row are small
 
-abbrev countedOk : Row → List ℕ → Bool
-countedOk r ws = leb (get_or ws r.first 0) 4 && (leb (get_or ws r.second 0) 4 && leb (get_or ws r.third 0) 4)
+abbrev counted_ok : Row → List ℕ → Bool
+counted_ok r ws = leb (get_or ws r.first 0) 4 && (leb (get_or ws r.second 0) 4 && leb (get_or ws r.third 0) 4)
 
 abbrev row_ok : Row → List ℕ → Bool
-row_ok r ws = (leb r.base 96 && (leb r.step 80 && leb r.more 1)) && countedOk r ws
+row_ok r ws = (leb r.base 96 && (leb r.step 80 && leb r.more 1)) && counted_ok r ws
 
-row-ok : (i : ℕ) → i < 22 → T (row_ok (rowAt i) (widthsAt i))
-unfolding table rows rowAt widths widthsAt
-row-ok i h = below_at (λ (j : ℕ). row_ok (rowAt j) (widthsAt j)) 22 tt i h
+row-ok : (i : ℕ) → i < 22 → T (row_ok (row_at i) (widths_at i))
+unfolding table rows row_at widths widths_at
+row-ok i h = below_at (λ (j : ℕ). row_ok (row_at j) (widths_at j)) 22 tt i h
 
 -- as many values as widths, each within its width
 abbrev pub Fit : List ℕ → List ℕ → Type 0
@@ -182,10 +182,10 @@ Fit [] (v ∷ vs) = ⊥
 Fit (w ∷ ws) [] = ⊥
 Fit (w ∷ ws) (v ∷ vs) = (v < 2 ^ w) × Fit ws vs
 
-pub values-fit : (s : List ℕ) (a : ℕ) (ws : List ℕ) → Fit ws (values_of s a ws)
+pub values_fit : (s : List ℕ) (a : ℕ) (ws : List ℕ) → Fit ws (values_of s a ws)
 unfolding values_of
-values-fit s a [] = tt
-values-fit s a (w ∷ ws) = (bitsOf-lt s a w, values-fit s (a + w) ws)
+values_fit s a [] = tt
+values_fit s a (w ∷ ws) = (bits_of-lt s a w, values_fit s (a + w) ws)
 
 pub fit_at : (ws vs : List ℕ) → Fit ws vs → (k : ℕ) → get_or vs k 0 < 2 ^ get_or ws k 0
 fit_at [] [] f k = omega arith
@@ -201,47 +201,47 @@ spared [] (r ∷ rs) = false
 spared (w ∷ ws) [] = false
 spared (w ∷ ws) (r ∷ rs) = (not (eqb w 0) || eqb r 1) && spared ws rs
 
-quiet_all : (ws rs vs : List ℕ) → T (ended ws) → T (spared ws rs) → Fit ws vs → (hasFault 1 rs vs ≡ false) × (hasFault 2 rs vs ≡ false)
-unfolding hasFault
+quiet_all : (ws rs vs : List ℕ) → T (ended ws) → T (spared ws rs) → Fit ws vs → (has_fault 1 rs vs ≡ false) × (has_fault 2 rs vs ≡ false)
+unfolding has_fault
 quiet_all [] [] vs t p f = (refl, refl)
 quiet_all [] (r ∷ rs) vs t p f = absurd p
 quiet_all (w ∷ ws) [] vs t p f = absurd p
 quiet_all (w ∷ ws) (r ∷ rs) [] t p f = absurd f
 quiet_all (w ∷ ws) (r ∷ rs) (v ∷ vs) t p f =
     let w0 : w ≡ 0 = eqb→eq w 0 (both_left (eqb w 0) (ended ws) t) in
-    let r1 : r ≡ 1 = eqb→eq r 1 (rule-is (eqb w 0) (eq-eqb w 0 w0) (both_left (not (eqb w 0) || eqb r 1) (spared ws rs) p)) in
+    let r1 : r ≡ 1 = eqb→eq r 1 (rule_is (eqb w 0) (eq-eqb w 0 w0) (both_left (not (eqb w 0) || eqb r 1) (spared ws rs) p)) in
     let h = rw w0 at f.0 in
     let v0 : v ≡ 0 = omega arith in
     rw (r1, v0) (quiet_all ws rs vs (both_right (eqb w 0) (ended ws) t) (both_right (not (eqb w 0) || eqb r 1) (spared ws rs) p) f.1)
   where
-    rule-is : (b : Bool) → b ≡ true → T (not b || eqb r 1) → T (eqb r 1)
-    rule-is true q t = t
-    rule-is false q t = absurd (let z : ◌≡◌ {A = ℕ} 0 1 = cc in omega arith)
+    rule_is : (b : Bool) → b ≡ true → T (not b || eqb r 1) → T (eqb r 1)
+    rule_is true q t = t
+    rule_is false q t = absurd (let z : ◌≡◌ {A = ℕ} 0 1 = cc in omega arith)
 
 quiet_at : (ws rs vs : List ℕ) → T (tapers ws) → T (spared ws rs) → Fit ws vs → Quiet ws rs vs
-unfolding hasFault
+unfolding has_fault
 quiet_at [] [] [] t p f zero e = (refl, refl)
 quiet_at [] [] [] t p f (suc k) e = (refl, refl)
 quiet_at [] [] (v ∷ vs) t p f k e = absurd f
 quiet_at [] (r ∷ rs) vs t p f k e = absurd p
 quiet_at (w ∷ ws) [] vs t p f k e = absurd p
 quiet_at (w ∷ ws) (r ∷ rs) [] t p f k e = absurd f
-quiet_at (w ∷ ws) (r ∷ rs) (v ∷ vs) t p f zero e = quiet_all (w ∷ ws) (r ∷ rs) (v ∷ vs) (end-from w ws e t) p f
+quiet_at (w ∷ ws) (r ∷ rs) (v ∷ vs) t p f zero e = quiet_all (w ∷ ws) (r ∷ rs) (v ∷ vs) (end_from w ws e t) p f
 quiet_at (w ∷ ws) (r ∷ rs) (v ∷ vs) t p f (suc k) e =
     quiet_at ws rs vs (both_right (not (eqb w 0) || ended ws) (tapers ws) t) (both_right (not (eqb w 0) || eqb r 1) (spared ws rs) p) f.1 k e
 
-pub rest-quiet : (i : ℕ) (vs : List ℕ) → i < 22 → Fit (widthsAt i) vs → Quiet (widthsAt i) (rulesAt i) vs
-unfolding table widths widthsAt rules rulesAt
-rest-quiet i vs h f =
-    quiet_at (widthsAt i) (rulesAt i) vs (below_at (λ (j : ℕ). tapers (widthsAt j)) 22 tt i h) (below_at (λ (j : ℕ). spared (widthsAt j) (rulesAt j)) 22 tt i h) f
+pub rest_quiet : (i : ℕ) (vs : List ℕ) → i < 22 → Fit (widths_at i) vs → Quiet (widths_at i) (rules_at i) vs
+unfolding table widths widths_at rules rules_at
+rest_quiet i vs h f =
+    quiet_at (widths_at i) (rules_at i) vs (below_at (λ (j : ℕ). tapers (widths_at j)) 22 tt i h) (below_at (λ (j : ℕ). spared (widths_at j) (rules_at j)) 22 tt i h) f
 
-pub row_small : (i : ℕ) (vs : List ℕ) → i < 22 → Fit (widthsAt i) vs → RowSmall (rowAt i) vs
+pub row_small : (i : ℕ) (vs : List ℕ) → i < 22 → Fit (widths_at i) vs → RowSmall (row_at i) vs
 row_small i vs h f =
-    let r = rowAt i in
-    let ws = widthsAt i in
+    let r = row_at i in
+    let ws = widths_at i in
     let t = row-ok i h in
-    let p = both_left (leb r.base 96 && (leb r.step 80 && leb r.more 1)) (countedOk r ws) t in
-    let q = both_right (leb r.base 96 && (leb r.step 80 && leb r.more 1)) (countedOk r ws) t in
+    let p = both_left (leb r.base 96 && (leb r.step 80 && leb r.more 1)) (counted_ok r ws) t in
+    let q = both_right (leb r.base 96 && (leb r.step 80 && leb r.more 1)) (counted_ok r ws) t in
     let p2 = both_right (leb r.base 96) (leb r.step 80 && leb r.more 1) p in
     let q2 = both_right (leb (get_or ws r.first 0) 4) (leb (get_or ws r.second 0) 4 && leb (get_or ws r.third 0) 4) q in
     record {
@@ -253,50 +253,50 @@ row_small i vs h f =
       third = small r.third (leb→le _ _ (both_right (leb (get_or ws r.second 0) 4) (leb (get_or ws r.third 0) 4) q2));
     }
   where
-    small : (k : ℕ) → get_or (widthsAt i) k 0 ≤ 4 → get_or vs k 0 < 16
-    small k l = lt_of_lt_of_le (fit_at (widthsAt i) vs f k) (pow_mono l)
+    small : (k : ℕ) → get_or (widths_at i) k 0 ≤ 4 → get_or vs k 0 < 16
+    small k l = lt_of_lt_of_le (fit_at (widths_at i) vs f k) (pow_mono l)
 
 -- 46 steps at most
-pub count_small : (r : Row) (vs : List ℕ) → RowSmall r vs → countIn r vs ≤ 46
-unfolding countIn
+pub count_small : (r : Row) (vs : List ℕ) → RowSmall r vs → count_in r vs ≤ 46
+unfolding count_in
 count_small r vs s = omega arith
 
 -- so modulo 2^64 it is itself
-pub count-whole : (r : Row) (vs : List ℕ) → RowSmall r vs → countIn r vs % 2 ^ 64 ≡ countIn r vs
-count-whole r vs s = let h = count_small r vs s in omega arith
+pub count_whole : (r : Row) (vs : List ℕ) → RowSmall r vs → count_in r vs % 2 ^ 64 ≡ count_in r vs
+count_whole r vs s = let h = count_small r vs s in omega arith
 
-pub block-count-small : (r : Row) (vs : List ℕ) → RowSmall r vs → blockCount r vs ≤ 64
-unfolding blockCount
-block-count-small r vs s = go (eqb r.step 8)
+pub block_count_small : (r : Row) (vs : List ℕ) → RowSmall r vs → block_count r vs ≤ 64
+unfolding block_count
+block_count_small r vs s = go (eqb r.step 8)
   where
-    go : (b : Bool) → cond b (countIn r vs) 0 ≤ 64
+    go : (b : Bool) → cond b (count_in r vs) 0 ≤ 64
     go true = omega (arith, count_small r vs s)
     go false = zero-le
 
-pub row-base : (i : ℕ) → i < 22 → (rowAt i).base ≤ 96
-row-base i h =
-    let r = rowAt i in
+pub row_base : (i : ℕ) → i < 22 → (row_at i).base ≤ 96
+row_base i h =
+    let r = row_at i in
     leb→le _ _
     (both_left (leb r.base 96) (leb r.step 80 && leb r.more 1)
-    (both_left (leb r.base 96 && (leb r.step 80 && leb r.more 1)) (countedOk r (widthsAt i)) (row-ok i h)))
+    (both_left (leb r.base 96 && (leb r.step 80 && leb r.more 1)) (counted_ok r (widths_at i)) (row-ok i h)))
 
 -- entries have at most 24 bits; an ELM's steps have 80
-pub row_step : (i : ℕ) → i < 22 → ((rowAt i).step ≡ 80 → ⊥) → (rowAt i).step ≤ 24
-unfolding table rows rowAt
-row_step i h ne = go (eqb (rowAt i).step 80) (ne_eqb _ _ ne) (below_at (λ (j : ℕ). eqb (rowAt j).step 80 || leb (rowAt j).step 24) 22 tt i h)
+pub row_step : (i : ℕ) → i < 22 → ((row_at i).step ≡ 80 → ⊥) → (row_at i).step ≤ 24
+unfolding table rows row_at
+row_step i h ne = go (eqb (row_at i).step 80) (ne_eqb _ _ ne) (below_at (λ (j : ℕ). eqb (row_at j).step 80 || leb (row_at j).step 24) 22 tt i h)
   where
-    go : (b : Bool) → b ≡ false → T (b || leb (rowAt i).step 24) → (rowAt i).step ≤ 24
+    go : (b : Bool) → b ≡ false → T (b || leb (row_at i).step 24) → (row_at i).step ≤ 24
     go true e t = absurd (let z : ◌≡◌ {A = ℕ} 0 1 = cc in omega arith)
     go false e t = leb→le _ _ t
 
 -- the row that is found holds the code
-found-code-from : (c : ℕ) (rs : List Row) (a i : ℕ) (d : Row) → placeFrom c rs a ≡ At i → (a ≤ i) × ((get_or rs (i - a) d).code ≡ c)
-unfolding placeFrom
-found-code-from c [] a i d e = absurd (let z : ◌≡◌ {A = ℕ} 0 1 = cc in omega arith)
-found-code-from c (r ∷ rs) a i d e = go (eqb r.code c) refl (found-code-from c rs (a + 1) i d) e
+found_code_from : (c : ℕ) (rs : List Row) (a i : ℕ) (d : Row) → place_from c rs a ≡ At i → (a ≤ i) × ((get_or rs (i - a) d).code ≡ c)
+unfolding place_from
+found_code_from c [] a i d e = absurd (let z : ◌≡◌ {A = ℕ} 0 1 = cc in omega arith)
+found_code_from c (r ∷ rs) a i d e = go (eqb r.code c) refl (found_code_from c rs (a + 1) i d) e
   where
-    go : (t : Bool) → eqb r.code c ≡ t → (placeFrom c rs (a + 1) ≡ At i → (a + 1 ≤ i) × ((get_or rs (i - (a + 1)) d).code ≡ c))
-        → cond t (At a) (placeFrom c rs (a + 1)) ≡ At i → (a ≤ i) × ((get_or (r ∷ rs) (i - a) d).code ≡ c)
+    go : (t : Bool) → eqb r.code c ≡ t → (place_from c rs (a + 1) ≡ At i → (a + 1 ≤ i) × ((get_or rs (i - (a + 1)) d).code ≡ c))
+        → cond t (At a) (place_from c rs (a + 1)) ≡ At i → (a ≤ i) × ((get_or (r ∷ rs) (i - a) d).code ≡ c)
     go true q h z =
         let e : a ≡ i = cc in
         let n : i - a ≡ 0 = omega arith in
@@ -306,16 +306,16 @@ found-code-from c (r ∷ rs) a i d e = go (eqb r.code c) refl (found-code-from c
         let n : i - a ≡ suc (i - (a + 1)) = omega arith in
         (omega arith, rw n k.1)
 
-pub found-code : (c i : ℕ) → placeFrom c rows 0 ≡ At i → (rowAt i).code ≡ c
-unfolding rowAt
-found-code c i e =
+pub found_code : (c i : ℕ) → place_from c rows 0 ≡ At i → (row_at i).code ≡ c
+unfolding row_at
+found_code c i e =
     let z : i - 0 ≡ i = omega arith in
-    rw z at (found-code-from c rows 0 i no_row e).1
+    rw z at (found_code_from c rows 0 i no_row e).1
 
 -- no type of the table is one that is not carried
-pub carried : (i : ℕ) → i < 22 → typeNotCarried (rowAt i).code ≡ false
-unfolding table rows rowAt typeNotCarried
-carried i h = go (typeNotCarried (rowAt i).code) (below_at (λ (j : ℕ). not (typeNotCarried (rowAt j).code)) 22 tt i h)
+pub carried : (i : ℕ) → i < 22 → type_not_carried (row_at i).code ≡ false
+unfolding table rows row_at type_not_carried
+carried i h = go (type_not_carried (row_at i).code) (below_at (λ (j : ℕ). not (type_not_carried (row_at j).code)) 22 tt i h)
   where
     go : (b : Bool) → T (not b) → b ≡ false
     go true t = absurd t

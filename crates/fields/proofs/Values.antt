@@ -3,40 +3,40 @@
 use Rattle.std.proofs.Common.{◌≡◌, ℕ, zero, suc, ◌+◌, Bool, true, false, ◌||◌, eqb, List, length, get_or, drop, sym, refl, add-one, arith, drop_of_length-le, drop-cons, eq-eqb, ne_eqb, eqb-true}
 use mathlib.Core.Bool.{or_assoc, or-false}
 use Rattle.fields.specs.declared.Faults.{Faults}
-use Rattle.fields.specs.Table.{hasFault, faultOf, Quiet}
-use Rattle.fields.specs.Steps.{faultWithin}
+use Rattle.fields.specs.Table.{has_fault, fault_of, Quiet}
+use Rattle.fields.specs.Steps.{fault_within}
 
 -- a fault seen before i or found from i on: the part at i, which has bits, passes from the one to the other
-pub within-next : (k : ℕ) (ws rs vs : List ℕ) (n m i : ℕ) (a b : Bool) (f : ℕ) → n ≡ suc m → (get_or ws i 0 ≡ 0 → ⊥) →
-    f ≡ faultOf (get_or rs i 0) (get_or vs i 0) → b ≡ (a || eqb f k) →
-    (a || faultWithin k ws rs vs n i) ≡ (b || faultWithin k ws rs vs m (i + 1))
-unfolding faultWithin
-within-next k ws rs vs n m i a b f l h e q = rw (l, ne_eqb _ _ h, q, e) (sym (or_assoc a _ _))
+pub within_next : (k : ℕ) (ws rs vs : List ℕ) (n m i : ℕ) (a b : Bool) (f : ℕ) → n ≡ suc m → (get_or ws i 0 ≡ 0 → ⊥) →
+    f ≡ fault_of (get_or rs i 0) (get_or vs i 0) → b ≡ (a || eqb f k) →
+    (a || fault_within k ws rs vs n i) ≡ (b || fault_within k ws rs vs m (i + 1))
+unfolding fault_within
+within_next k ws rs vs n m i a b f l h e q = rw (l, ne_eqb _ _ h, q, e) (sym (or_assoc a _ _))
 
 -- from a part of no bits on none is found
-pub within-stop : (k : ℕ) (ws rs vs : List ℕ) (n i : ℕ) (a : Bool) → get_or ws i 0 ≡ 0 → (a || faultWithin k ws rs vs n i) ≡ a
-unfolding faultWithin
-within-stop k ws rs vs zero i a h = or-false a
-within-stop k ws rs vs (suc n) i a h = rw (eq-eqb _ _ h) (or-false a)
+pub within_stop : (k : ℕ) (ws rs vs : List ℕ) (n i : ℕ) (a : Bool) → get_or ws i 0 ≡ 0 → (a || fault_within k ws rs vs n i) ≡ a
+unfolding fault_within
+within_stop k ws rs vs zero i a h = or-false a
+within_stop k ws rs vs (suc n) i a h = rw (eq-eqb _ _ h) (or-false a)
 
 -- nor in no part
-pub within_none : (k : ℕ) (ws rs vs : List ℕ) (n i : ℕ) (a : Bool) → n ≡ 0 → (a || faultWithin k ws rs vs n i) ≡ a
-unfolding faultWithin
+pub within_none : (k : ℕ) (ws rs vs : List ℕ) (n i : ℕ) (a : Bool) → n ≡ 0 → (a || fault_within k ws rs vs n i) ≡ a
+unfolding fault_within
 within_none k ws rs vs n i a h = rw h (or-false a)
 
 -- where none is at fault from a part of no bits on, that is every part's
-within-from : (k : ℕ) (ws rs vs : List ℕ) → ((j : ℕ) → get_or ws j 0 ≡ 0 → hasFault k (drop j rs) (drop j vs) ≡ false) →
-    (n i : ℕ) → length rs ≡ i + n → length vs ≡ i + n → faultWithin k ws rs vs n i ≡ hasFault k (drop i rs) (drop i vs)
-unfolding faultWithin hasFault
-within-from k ws rs vs quiet zero i r v = rw (drop_of_length-le rs {i = i} (omega (arith, r))) refl
-within-from k ws rs vs quiet (suc n) i r v = go (eqb (get_or ws i 0) 0) refl (within-from k ws rs vs quiet n (i + 1) (omega (arith, r)) (omega (arith, v)))
+within_from : (k : ℕ) (ws rs vs : List ℕ) → ((j : ℕ) → get_or ws j 0 ≡ 0 → has_fault k (drop j rs) (drop j vs) ≡ false) →
+    (n i : ℕ) → length rs ≡ i + n → length vs ≡ i + n → fault_within k ws rs vs n i ≡ has_fault k (drop i rs) (drop i vs)
+unfolding fault_within has_fault
+within_from k ws rs vs quiet zero i r v = rw (drop_of_length-le rs {i = i} (omega (arith, r))) refl
+within_from k ws rs vs quiet (suc n) i r v = go (eqb (get_or ws i 0) 0) refl (within_from k ws rs vs quiet n (i + 1) (omega (arith, r)) (omega (arith, v)))
   where
-    go : (b : Bool) → eqb (get_or ws i 0) 0 ≡ b → faultWithin k ws rs vs n (i + 1) ≡ hasFault k (drop (i + 1) rs) (drop (i + 1) vs) →
-        faultWithin k ws rs vs (suc n) i ≡ hasFault k (drop i rs) (drop i vs)
+    go : (b : Bool) → eqb (get_or ws i 0) 0 ≡ b → fault_within k ws rs vs n (i + 1) ≡ has_fault k (drop (i + 1) rs) (drop (i + 1) vs) →
+        fault_within k ws rs vs (suc n) i ≡ has_fault k (drop i rs) (drop i vs)
     go true e more = rw e (sym (quiet i (eqb-true _ _ e)))
     go false e more = rw (e, more, drop-cons rs i 0 (omega (arith, r)), drop-cons vs i 0 (omega (arith, v)), add-one) refl
 
-pub within-quiet : (ws rs vs : List ℕ) → length rs ≡ 11 → length vs ≡ 11 → Quiet ws rs vs →
-    ◌≡◌ {A = Faults} (record { spare = faultWithin 1 ws rs vs 11 0; unused = faultWithin 2 ws rs vs 11 0 }) (record { spare = hasFault 1 rs vs; unused = hasFault 2 rs vs })
-within-quiet ws rs vs r v quiet =
-    rw (within-from 1 ws rs vs (λ j h. (quiet j h).0) 11 0 r v, within-from 2 ws rs vs (λ j h. (quiet j h).1) 11 0 r v) refl
+pub within_quiet : (ws rs vs : List ℕ) → length rs ≡ 11 → length vs ≡ 11 → Quiet ws rs vs →
+    ◌≡◌ {A = Faults} (record { spare = fault_within 1 ws rs vs 11 0; unused = fault_within 2 ws rs vs 11 0 }) (record { spare = has_fault 1 rs vs; unused = has_fault 2 rs vs })
+within_quiet ws rs vs r v quiet =
+    rw (within_from 1 ws rs vs (λ j h. (quiet j h).0) 11 0 r v, within_from 2 ws rs vs (λ j h. (quiet j h).1) 11 0 r v) refl

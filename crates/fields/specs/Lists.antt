@@ -17,45 +17,45 @@ abbrev pub block_of : ℕ → ℤ
 block_of x = signed (x / 128 == 1) (x / 16 % 8 * 10 + x % 16)
 
 -- "hundreds above 9; minus zero"
-abbrev pub blockUnused : ℕ → Bool
-blockUnused x = nat_lt 9 (x % 16) || x == 128
+abbrev pub block_unused : ℕ → Bool
+block_unused x = nat_lt 9 (x % 16) || x == 128
 
 -- the block of a number
 abbrev pub block_bits : ℤ → ℕ
 block_bits z = cond (negative z) 128 0 + unsigned_abs z / 10 * 16 + unsigned_abs z % 10
 
 -- the number of an entry of `step` bits, and the bits of a number
-unfoldable pub entryOf : ℕ → ℕ → ℤ
-entryOf step x = cond (step == 8) (block_of x) (pos x)
+unfoldable pub entry_of : ℕ → ℕ → ℤ
+entry_of step x = cond (step == 8) (block_of x) (pos x)
 
-unfoldable pub entryBits : ℕ → ℤ → ℕ
-entryBits step z = cond (step == 8) (block_bits z) (unsigned_abs z)
+unfoldable pub entry_bits : ℕ → ℤ → ℕ
+entry_bits step z = cond (step == 8) (block_bits z) (unsigned_abs z)
 
 -- the numbers that an entry of `step` bits can hold: -79 to 79, or those of 24 bits
-unfoldable pub entryFits : ℕ → ℤ → Bool
-entryFits step z = cond (step == 8) (nat_lt (unsigned_abs z) 80) (not (negative z) && nat_lt (unsigned_abs z) 16777216)
+unfoldable pub entry_fits : ℕ → ℤ → Bool
+entry_fits step z = cond (step == 8) (nat_lt (unsigned_abs z) 80) (not (negative z) && nat_lt (unsigned_abs z) 16777216)
 
 -- ---- lists of entries
 
 -- a block that is not in use is among these
-unfoldable pub anyUnused : List ℕ → Bool
-anyUnused [] = false
-anyUnused (x ∷ xs) = blockUnused x || anyUnused xs
+unfoldable pub any_unused : List ℕ → Bool
+any_unused [] = false
+any_unused (x ∷ xs) = block_unused x || any_unused xs
 
 -- `room` numbers: the entries, and zeros behind them
-unfoldable pub entriesIn : ℕ → ℕ → List ℕ → List ℤ
-entriesIn step zero xs = []
-entriesIn step (suc room) [] = pos 0 ∷ entriesIn step room []
-entriesIn step (suc room) (x ∷ xs) = entryOf step x ∷ entriesIn step room xs
+unfoldable pub entries_in : ℕ → ℕ → List ℕ → List ℤ
+entries_in step zero xs = []
+entries_in step (suc room) [] = pos 0 ∷ entries_in step room []
+entries_in step (suc room) (x ∷ xs) = entry_of step x ∷ entries_in step room xs
 
 -- the first n numbers fit their entries, and the others are zero
-unfoldable pub listFits : ℕ → ℕ → List ℤ → Bool
-listFits step n [] = n == 0
-listFits step zero (z ∷ zs) = unsigned_abs z == 0 && listFits step zero zs
-listFits step (suc n) (z ∷ zs) = entryFits step z && listFits step n zs
+unfoldable pub list_fits : ℕ → ℕ → List ℤ → Bool
+list_fits step n [] = n == 0
+list_fits step zero (z ∷ zs) = unsigned_abs z == 0 && list_fits step zero zs
+list_fits step (suc n) (z ∷ zs) = entry_fits step z && list_fits step n zs
 
 -- the bits of the first n numbers
-unfoldable pub entriesBits : ℕ → ℕ → List ℤ → List ℕ
-entriesBits step zero zs = []
-entriesBits step (suc n) [] = []
-entriesBits step (suc n) (z ∷ zs) = entryBits step z ∷ entriesBits step n zs
+unfoldable pub entries_bits : ℕ → ℕ → List ℤ → List ℕ
+entries_bits step zero zs = []
+entries_bits step (suc n) [] = []
+entries_bits step (suc n) (z ∷ zs) = entry_bits step z ∷ entries_bits step n zs

@@ -4,8 +4,8 @@ use Rattle.fields.specs.declared.Field.{Field}
 use Rattle.fields.specs.declared.Field.TheVariants as F
 
 -- the records of the types before the last, in the table's order, from the values of parts 1 to 10
-abbrev pub fieldsBy : ℕ → ℕ → ℕ → ℕ → ℕ → ℕ → ℕ → ℕ → ℕ → ℕ → List Field
-fieldsBy a b c d e f g h i j =
+abbrev pub fields_by : ℕ → ℕ → ℕ → ℕ → ℕ → ℕ → ℕ → ℕ → ℕ → ℕ → List Field
+fields_by a b c d e f g h i j =
     F.TacticalUplink a b c d e
     ∷ F.ElmUplink a b c d f
     ∷ F.DownlinkRequest a b c d e
@@ -30,7 +30,7 @@ fieldsBy a b c d e f g h i j =
 
 -- the record of the type at a place of the table
 unfoldable pub field_at : ℕ → ℕ → ℕ → ℕ → ℕ → ℕ → ℕ → ℕ → ℕ → ℕ → ℕ → Field
-field_at at a b c d e f g h i j = slice_index_or (fieldsBy a b c d e f g h i j) at (F.ControllerAlert a b c d e f g h i j)
+field_at at a b c d e f g h i j = slice_index_or (fields_by a b c d e f g h i j) at (F.ControllerAlert a b c d e f g h i j)
 
 -- the record of these values of all parts
 abbrev pub field_of : ℕ → List ℕ → Field
@@ -40,25 +40,25 @@ abbrev eleven : ℕ → ℕ → ℕ → ℕ → ℕ → ℕ → ℕ → ℕ → 
 eleven t a b c d e f g h i j = t ∷ a ∷ b ∷ c ∷ d ∷ e ∷ f ∷ g ∷ h ∷ i ∷ j ∷ []
 
 -- the values of a record's parts, zero for the spares and the parts of no bits
-abbrev pub numbersOf : Field → List ℕ
-numbersOf (F.TacticalUplink a b c d e) = eleven 0x21 a b c d e 0 0 0 0 0
-numbersOf (F.ElmUplink a b c d f) = eleven 0x22 a b c d 0 f 0 0 0 0
-numbersOf (F.DownlinkRequest a b c d e) = eleven 0x23 a b c d e 0 0 0 0 0
-numbersOf (F.IdRequest a b) = eleven 0x24 a b 0 0 0 0 0 0 0 0
-numbersOf (F.CapabilityRequest a b) = eleven 0x02 a b 0 0 0 0 0 0 0 0
-numbersOf (F.Cancellation a b c d) = eleven 0x25 a b c d 0 0 0 0 0 0
-numbersOf (F.Test a) = eleven 0x61 a 0 0 0 0 0 0 0 0 0
-numbersOf (F.AltimeterCorrection b) = eleven 0x9B 0 b 0 0 0 0 0 0 0 0
-numbersOf (F.AtcFailure a) = eleven 0x99 a 0 0 0 0 0 0 0 0 0
-numbersOf (F.SensorFailure a c) = eleven 0x65 a 0 c 0 0 0 0 0 0 0
-numbersOf (F.DabsControlState a b c) = eleven 0x9A a b c 0 0 0 0 0 0 0
-numbersOf (F.AtcrbsControlState a b) = eleven 0x96 a b 0 0 0 0 0 0 0 0
-numbersOf (F.RejectionNotice a b c) = eleven 0x31 a b c 0 0 0 0 0 0 0
-numbersOf (F.DeliveryNotice a b c) = eleven 0x32 a b c 0 0 0 0 0 0 0
-numbersOf (F.TacticalDownlink a b) = eleven 0x41 a b 0 0 0 0 0 0 0 0
-numbersOf (F.ElmDownlink a c) = eleven 0x42 a 0 c 0 0 0 0 0 0 0
-numbersOf (F.Utility a c) = eleven 0x43 a 0 c 0 0 0 0 0 0 0
-numbersOf (F.Capability a b c d) = eleven 0x44 a b c d 0 0 0 0 0 0
-numbersOf (F.IdCode a c) = eleven 0x45 a 0 c 0 0 0 0 0 0 0
-numbersOf (F.TestResponse a) = eleven 0x62 a 0 0 0 0 0 0 0 0 0
-numbersOf (F.ControllerAlert a b c d e f g h i j) = eleven 0x83 a b c d e f g h i j
+abbrev pub numbers_of : Field → List ℕ
+numbers_of (F.TacticalUplink a b c d e) = eleven 0x21 a b c d e 0 0 0 0 0
+numbers_of (F.ElmUplink a b c d f) = eleven 0x22 a b c d 0 f 0 0 0 0
+numbers_of (F.DownlinkRequest a b c d e) = eleven 0x23 a b c d e 0 0 0 0 0
+numbers_of (F.IdRequest a b) = eleven 0x24 a b 0 0 0 0 0 0 0 0
+numbers_of (F.CapabilityRequest a b) = eleven 0x02 a b 0 0 0 0 0 0 0 0
+numbers_of (F.Cancellation a b c d) = eleven 0x25 a b c d 0 0 0 0 0 0
+numbers_of (F.Test a) = eleven 0x61 a 0 0 0 0 0 0 0 0 0
+numbers_of (F.AltimeterCorrection b) = eleven 0x9B 0 b 0 0 0 0 0 0 0 0
+numbers_of (F.AtcFailure a) = eleven 0x99 a 0 0 0 0 0 0 0 0 0
+numbers_of (F.SensorFailure a c) = eleven 0x65 a 0 c 0 0 0 0 0 0 0
+numbers_of (F.DabsControlState a b c) = eleven 0x9A a b c 0 0 0 0 0 0 0
+numbers_of (F.AtcrbsControlState a b) = eleven 0x96 a b 0 0 0 0 0 0 0 0
+numbers_of (F.RejectionNotice a b c) = eleven 0x31 a b c 0 0 0 0 0 0 0
+numbers_of (F.DeliveryNotice a b c) = eleven 0x32 a b c 0 0 0 0 0 0 0
+numbers_of (F.TacticalDownlink a b) = eleven 0x41 a b 0 0 0 0 0 0 0 0
+numbers_of (F.ElmDownlink a c) = eleven 0x42 a 0 c 0 0 0 0 0 0 0
+numbers_of (F.Utility a c) = eleven 0x43 a 0 c 0 0 0 0 0 0 0
+numbers_of (F.Capability a b c d) = eleven 0x44 a b c d 0 0 0 0 0 0
+numbers_of (F.IdCode a c) = eleven 0x45 a 0 c 0 0 0 0 0 0 0
+numbers_of (F.TestResponse a) = eleven 0x62 a 0 0 0 0 0 0 0 0 0
+numbers_of (F.ControllerAlert a b c d e f g h i j) = eleven 0x83 a b c d e f g h i j

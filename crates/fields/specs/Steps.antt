@@ -1,8 +1,8 @@
 -- What a function that the reader and the writer share computes on the way. Definitions only; no promise of a reader or a writer names them.
 use Rattle.std.specs.Prelude.{ℕ, zero, suc, ◌+◌, Bool, false, cond, ◌||◌, List, ◌==◌, slice_index}
-use Rattle.fields.specs.Table.{faultOf}
+use Rattle.fields.specs.Table.{fault_of}
 
 -- one of the n parts from i on, but none behind a part of no bits, has the fault k
-unfoldable pub faultWithin : ℕ → List ℕ → List ℕ → List ℕ → ℕ → ℕ → Bool
-faultWithin k ws rs vs zero i = false
-faultWithin k ws rs vs (suc n) i = cond (slice_index ws i == 0) false (faultOf (slice_index rs i) (slice_index vs i) == k || faultWithin k ws rs vs n (i + 1))
+unfoldable pub fault_within : ℕ → List ℕ → List ℕ → List ℕ → ℕ → ℕ → Bool
+fault_within k ws rs vs zero i = false
+fault_within k ws rs vs (suc n) i = cond (slice_index ws i == 0) false (fault_of (slice_index rs i) (slice_index vs i) == k || fault_within k ws rs vs n (i + 1))

@@ -1,8 +1,8 @@
 // The parts of a field by the table's rules: their faults, and what the counted ones say.
 // Relies on the table; specs/Table.antt and specs/Steps.antt say what each function means.
 ghost use Rattle.std.specs.Prelude.{◌≡◌, ◌%◌, ◌^◌, ◌||◌, length, ◌==◌, slice_index};
-ghost use Rattle.fields.specs.Table.{countIn};
-ghost use Rattle.fields.specs.Steps.{faultWithin};
+ghost use Rattle.fields.specs.Table.{count_in};
+ghost use Rattle.fields.specs.Steps.{fault_within};
 
 use crate::{Faults, Row, table};
 use std::num::wrapping_add_u64;
@@ -28,7 +28,7 @@ fn noted(found: Faults, fault: u64) -> Faults
 
 // What is wrong with the parts up to the first of no bits, in one pass: both kinds of fault.
 pub fn faults(widths: &[u8; 11], rules: &[u8; 11], v: &[u64; 11]) -> Faults
-    ensures { result ≡ record { spare = faultWithin 1 widths.now rules.now v.now 11 0; unused = faultWithin 2 widths.now rules.now v.now 11 0 } }
+    ensures { result ≡ record { spare = fault_within 1 widths.now rules.now v.now 11 0; unused = fault_within 2 widths.now rules.now v.now 11 0 } }
 {
     let mut found = Faults {
         spare: false,
@@ -55,7 +55,7 @@ fn part(v: &[u64; 11], k: usize) -> u64
 // How many steps a field has: what its counted parts say. Every row and every value is taken, so the sum is said modulo 2^64; of a row of the
 // table whose values fit it is below 64.
 pub fn count_in(row: Row, v: [u64; 11]) -> usize
-    ensures { result ≡ countIn row v % 2 ^ 64 }
+    ensures { result ≡ count_in row v % 2 ^ 64 }
 {
     let one = wrapping_add_u64(row.more, part(&v, row.first));
     let two = wrapping_add_u64(one, part(&v, row.second));

@@ -1,7 +1,7 @@
 // A record from the values of its parts, and the values of a record's parts: the only two functions that go by type.
 // Relies on nothing but the types; specs/Records.antt says what each gives.
 ghost use Rattle.std.specs.Prelude.{◌≡◌};
-ghost use Rattle.fields.specs.Records.{field_at, numbersOf};
+ghost use Rattle.fields.specs.Records.{field_at, numbers_of};
 
 use crate::Field;
 
@@ -114,7 +114,7 @@ pub fn field_at(
 
 // The values of a record's parts, the type code first, zero for the spares and the parts of no bits.
 pub fn numbers(f: Field) -> [u64; 11]
-    ensures { result ≡ numbersOf f }
+    ensures { result ≡ numbers_of f }
 {
     match f {
         Field::TacticalUplink {

@@ -4,8 +4,8 @@
 // Types that are known but not carried have no row: `unknown` of `field_reader` names them.
 // Relies on nothing but the names; specs/Table.antt says what the table holds.
 ghost use Rattle.std.specs.Prelude.{◌≡◌, ◌<◌};
-ghost use Rattle.fields.specs.Table.{place_of, rowAt, widthsAt, rulesAt, faultOf};
-ghost use Rattle.fields.specs.Reading.{fromSensor};
+ghost use Rattle.fields.specs.Table.{place_of, row_at, widths_at, rules_at, fault_of};
+ghost use Rattle.fields.specs.Reading.{from_sensor};
 
 use crate::{Direction, Place, Row};
 
@@ -302,7 +302,7 @@ fn row_of(known: Known) -> Row
 
 // The row at place i, and what stands for one past the end.
 pub fn row_at(i: usize) -> Row
-    ensures { result ≡ rowAt i }
+    ensures { result ≡ row_at i }
 {
     if i < 22 {
         return row_of(KNOWN[i]);
@@ -352,7 +352,7 @@ pub fn find(code: u64) -> Place
 
 // The widths of the parts of the type at place i; past the end eleven parts of no bits.
 pub fn widths_at(i: usize) -> [u8; 11]
-    ensures { result ≡ widthsAt i }
+    ensures { result ≡ widths_at i }
 {
     match i {
         0 => [8, 24, 4, 1, 3, 56, 0, 0, 0, 0, 0], // 21
@@ -383,7 +383,7 @@ pub fn widths_at(i: usize) -> [u8; 11]
 
 // Their rules.
 pub fn rules_at(i: usize) -> [u8; 11]
-    ensures { result ≡ rulesAt i }
+    ensures { result ≡ rules_at i }
 {
     match i {
         0 => [0, 0, 2, 0, 2, 0, 1, 1, 1, 1, 1], // 21
@@ -414,7 +414,7 @@ pub fn rules_at(i: usize) -> [u8; 11]
 
 // What is wrong with a part's value: 0 nothing, 1 a spare bit is one, 2 the value is not in use.
 pub fn fault(rule: u8, x: u64) -> u64
-    ensures { result ≡ faultOf rule x }
+    ensures { result ≡ fault_of rule x }
 {
     if rule == SPARE {
         return if x == 0 { 0 } else { 1 };
@@ -439,7 +439,7 @@ pub fn fault(rule: u8, x: u64) -> u64
 
 // Whether a type travels from the sensor, by its way.
 pub fn from_sensor(way: Direction) -> bool
-    ensures { result ≡ fromSensor way }
+    ensures { result ≡ from_sensor way }
 {
     match way {
         Direction::ToSensor => false,

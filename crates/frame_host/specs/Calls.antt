@@ -7,63 +7,63 @@ use Rattle.frames.specs.declared.What.TheVariants as W
 use Rattle.frames.specs.declared.Found.{Found}
 use Rattle.frames.specs.declared.Wrote.{Wrote}
 use Rattle.frames.specs.declared.Wrote.TheVariants as P
-use Rattle.frames.specs.Numbers.{frameNumber}
+use Rattle.frames.specs.Numbers.{frame_number}
 
 -- ---- what stands at a place
 
-abbrev frameKind : ℕ
-frameKind = 122
+abbrev frame_kind : ℕ
+frame_kind = 122
 
 -- as where there is no report
-abbrev refusedKind : ℕ
-refusedKind = 120
+abbrev refused_kind : ℕ
+refused_kind = 120
 
-abbrev endKind : ℕ
-endKind = 121
+abbrev end_kind : ℕ
+end_kind = 121
 
 abbrev pub kind_of : What → ℕ
-kind_of (W.Frame w c n) = frameKind
-kind_of (W.Refused q) = refusedKind
-kind_of W.End = endKind
+kind_of (W.Frame w c n) = frame_kind
+kind_of (W.Refused q) = refused_kind
+kind_of W.End = end_kind
 
 -- the paper's number, 0 where nothing is refused
-abbrev pub refusalOf : What → ℕ
-refusalOf (W.Frame w c n) = 0
-refusalOf (W.Refused q) = frameNumber q
-refusalOf W.End = 0
+abbrev pub refusal_of : What → ℕ
+refusal_of (W.Frame w c n) = 0
+refusal_of (W.Refused q) = frame_number q
+refusal_of W.End = 0
 
 -- ---- a frame; 0 where there is none
 
-abbrev pub wayNumber : Direction → ℕ
-wayNumber ToSensor = 0
-wayNumber FromSensor = 1
+abbrev pub way_number : Direction → ℕ
+way_number ToSensor = 0
+way_number FromSensor = 1
 
-abbrev pub fromSensor : What → ℕ
-fromSensor (W.Frame w c n) = wayNumber w
-fromSensor (W.Refused q) = 0
-fromSensor W.End = 0
+abbrev pub from_sensor : What → ℕ
+from_sensor (W.Frame w c n) = way_number w
+from_sensor (W.Refused q) = 0
+from_sensor W.End = 0
 
-abbrev pub controlOf : What → ℕ
-controlOf (W.Frame w c n) = c
-controlOf (W.Refused q) = 0
-controlOf W.End = 0
+abbrev pub control_of : What → ℕ
+control_of (W.Frame w c n) = c
+control_of (W.Refused q) = 0
+control_of W.End = 0
 
-abbrev pub countOf : What → ℕ
-countOf (W.Frame w c n) = n
-countOf (W.Refused q) = 0
-countOf W.End = 0
+abbrev pub count_of : What → ℕ
+count_of (W.Frame w c n) = n
+count_of (W.Refused q) = 0
+count_of W.End = 0
 
 -- ---- its field, copied into lent bytes
 
 -- how many bytes it takes, and how many are copied where so many are lent: all of them, or none
 abbrev size_of : What → ℕ
-size_of w = (countOf w + 7) / 8
+size_of w = (count_of w + 7) / 8
 
 abbrev pub copied : What → ℕ → ℕ
 copied w lent = cond (ltb lent (size_of w)) 0 (size_of w)
 
-abbrev pub fieldLeft : Found → List ℕ → List ℕ
-fieldLeft f lent = let n = copied f.what (length lent) in take n f.field ++ drop n lent
+abbrev pub field_left : Found → List ℕ → List ℕ
+field_left f lent = let n = copied f.what (length lent) in take n f.field ++ drop n lent
 
 -- ---- writing
 
@@ -76,6 +76,6 @@ abbrev pub place_of : Wrote → ℕ
 place_of (P.Closing p) = p
 place_of (P.Refused q p) = p
 
-abbrev pub writeRefusal : Wrote → ℕ
-writeRefusal (P.Closing p) = 0
-writeRefusal (P.Refused q p) = frameNumber q
+abbrev pub write_refusal : Wrote → ℕ
+write_refusal (P.Closing p) = 0
+write_refusal (P.Refused q p) = frame_number q

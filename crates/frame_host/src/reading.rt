@@ -2,8 +2,8 @@
 // bytes, any count and any place are taken.
 // Relies on frames for the answer; specs/Calls.antt says what each call answers.
 ghost use Rattle.std.specs.Prelude.{◌≡◌, ◌+◌, ◌/◌, ◌≤◌, length, take, drop, ◌++◌};
-ghost use Rattle.frames.specs.Reading.{readFrame};
-ghost use Rattle.frame_host.specs.Calls.{kind_of, refusalOf, wayNumber, fromSensor, controlOf, countOf, copied, fieldLeft};
+ghost use Rattle.frames.specs.Reading.{read_frame};
+ghost use Rattle.frame_host.specs.Calls.{kind_of, refusal_of, way_number, from_sensor, control_of, count_of, copied, field_left};
 
 use fields::Direction;
 use frames::What;
@@ -15,7 +15,7 @@ const REFUSED: u32 = 120;
 const END: u32 = 121;
 
 fn what(bytes: &[u8], count: usize, place: usize) -> What
-    ensures { result ≡ (readFrame bytes.now count place).what }
+    ensures { result ≡ (read_frame bytes.now count place).what }
 {
     let found = frames::reading::read(bytes, count, place);
     found.what
@@ -39,13 +39,13 @@ fn kind_of(w: What) -> u32
 
 #[unsafe(no_mangle)]
 pub extern "C" fn siamrung_frame_kind(bytes: &[u8], count: usize, place: usize) -> u32
-    ensures { result ≡ kind_of (readFrame bytes.now count place).what }
+    ensures { result ≡ kind_of (read_frame bytes.now count place).what }
 {
     kind_of(what(bytes, count, place))
 }
 
 fn refusal_of(w: What) -> u8
-    ensures { result ≡ refusalOf w }
+    ensures { result ≡ refusal_of w }
 {
     match w {
         What::Frame {
@@ -60,14 +60,14 @@ fn refusal_of(w: What) -> u8
 
 #[unsafe(no_mangle)]
 pub extern "C" fn siamrung_frame_refusal(bytes: &[u8], count: usize, place: usize) -> u32
-    ensures { result ≡ refusalOf (readFrame bytes.now count place).what }
+    ensures { result ≡ refusal_of (read_frame bytes.now count place).what }
 {
     refusal_of(what(bytes, count, place)) as u32
 }
 
 #[unsafe(no_mangle)]
 pub extern "C" fn siamrung_frame_place(bytes: &[u8], count: usize, place: usize) -> usize
-    ensures { result ≡ (readFrame bytes.now count place).place }
+    ensures { result ≡ (read_frame bytes.now count place).place }
 {
     let found = frames::reading::read(bytes, count, place);
     found.place
@@ -76,7 +76,7 @@ pub extern "C" fn siamrung_frame_place(bytes: &[u8], count: usize, place: usize)
 // ---- the frame; 0 where there is none
 
 fn way_number(w: Direction) -> u32
-    ensures { result ≡ wayNumber w }
+    ensures { result ≡ way_number w }
 {
     match w {
         Direction::ToSensor => 0,
@@ -85,7 +85,7 @@ fn way_number(w: Direction) -> u32
 }
 
 fn from_sensor_of(w: What) -> u32
-    ensures { result ≡ fromSensor w }
+    ensures { result ≡ from_sensor w }
 {
     match w {
         What::Frame {
@@ -100,13 +100,13 @@ fn from_sensor_of(w: What) -> u32
 
 #[unsafe(no_mangle)]
 pub extern "C" fn siamrung_frame_from_sensor(bytes: &[u8], count: usize, place: usize) -> u32
-    ensures { result ≡ fromSensor (readFrame bytes.now count place).what }
+    ensures { result ≡ from_sensor (read_frame bytes.now count place).what }
 {
     from_sensor_of(what(bytes, count, place))
 }
 
 fn control_of(w: What) -> u8
-    ensures { result ≡ controlOf w }
+    ensures { result ≡ control_of w }
 {
     match w {
         What::Frame {
@@ -121,13 +121,13 @@ fn control_of(w: What) -> u8
 
 #[unsafe(no_mangle)]
 pub extern "C" fn siamrung_frame_control(bytes: &[u8], count: usize, place: usize) -> u32
-    ensures { result ≡ controlOf (readFrame bytes.now count place).what }
+    ensures { result ≡ control_of (read_frame bytes.now count place).what }
 {
     control_of(what(bytes, count, place)) as u32
 }
 
 fn count_of(w: What) -> usize
-    ensures { result ≡ countOf w }
+    ensures { result ≡ count_of w }
 {
     match w {
         What::Frame {
@@ -142,7 +142,7 @@ fn count_of(w: What) -> usize
 
 #[unsafe(no_mangle)]
 pub extern "C" fn siamrung_frame_field_count(bytes: &[u8], count: usize, place: usize) -> usize
-    ensures { result ≡ countOf (readFrame bytes.now count place).what }
+    ensures { result ≡ count_of (read_frame bytes.now count place).what }
 {
     count_of(what(bytes, count, place))
 }
@@ -176,8 +176,8 @@ pub extern "C" fn siamrung_frame_field(
     place: usize,
     field: &mut [u8],
 ) -> usize
-    ensures answer { result ≡ copied (readFrame bytes.now count place).what (length field.old) }
-    ensures left { field.new ≡ fieldLeft (readFrame bytes.now count place) field.old }
+    ensures answer { result ≡ copied (read_frame bytes.now count place).what (length field.old) }
+    ensures left { field.new ≡ field_left (read_frame bytes.now count place) field.old }
 {
     let found = frames::reading::read(bytes, count, place);
     let from = found.field;

@@ -1,8 +1,8 @@
 // The calls that write a frame into a stream: which way it travels, its control, and the bits of its field.
 // Relies on frames for the writer; specs/Calls.antt says what each call answers.
 ghost use Rattle.std.specs.Prelude.{◌≡◌, length};
-ghost use Rattle.frames.specs.Writing.{given, writeFrame, leftBy};
-ghost use Rattle.frame_host.specs.Calls.{way_of, place_of, writeRefusal};
+ghost use Rattle.frames.specs.Writing.{given, write_frame, left_as};
+ghost use Rattle.frame_host.specs.Calls.{way_of, place_of, write_refusal};
 
 use fields::Direction;
 use frames::Wrote;
@@ -27,7 +27,7 @@ fn place_of(w: Wrote) -> usize
 }
 
 fn refusal_of(w: Wrote) -> u8
-    ensures { result ≡ writeRefusal w }
+    ensures { result ≡ write_refusal w }
 {
     match w {
         Wrote::Closing(_) => 0,
@@ -46,8 +46,8 @@ pub extern "C" fn siamrung_frame_write(
     field: &[u8],
     field_count: usize,
 ) -> usize
-    ensures answer { result ≡ place_of (writeFrame (length bytes.old) count place (way_of from_sensor) control field.now field_count) }
-    ensures left { bytes.new ≡ leftBy (writeFrame (length bytes.old) count place (way_of from_sensor) control field.now field_count) bytes.old place (given (way_of from_sensor) control field.now field_count) }
+    ensures answer { result ≡ place_of (write_frame (length bytes.old) count place (way_of from_sensor) control field.now field_count) }
+    ensures left { bytes.new ≡ left_as (write_frame (length bytes.old) count place (way_of from_sensor) control field.now field_count) bytes.old place (given (way_of from_sensor) control field.now field_count) }
 {
     let way = way_of(from_sensor);
     place_of(frames::writing::write(bytes, count, place, way, control, field, field_count))
@@ -64,7 +64,7 @@ pub extern "C" fn siamrung_frame_write_refusal(
     field: &[u8],
     field_count: usize,
 ) -> u32
-    ensures { result ≡ writeRefusal (writeFrame (length bytes.now) count place (way_of from_sensor) control field.now field_count) }
+    ensures { result ≡ write_refusal (write_frame (length bytes.now) count place (way_of from_sensor) control field.now field_count) }
 {
     let way = way_of(from_sensor);
     refusal_of(frames::writing::answer(

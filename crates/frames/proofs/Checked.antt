@@ -15,10 +15,10 @@ use lib.Dec.{eqb, lit<}
 use lib.ListN.{length, get_or, take, drop, replicate, length-append, length-map, length-drop, take-append-drop}
 use lib.Seq.{take_at, get_or_at}
 use Rattle.frames.specs.Stream.{bit, number, digits}
-use Rattle.frames.specs.Check.{sum, generator, fed, feed, preset, checkOf}
-use Rattle.frames.specs.Reading.{begins, wrongCheck}
+use Rattle.frames.specs.Check.{sum, generator, fed, feed, preset, check_of}
+use Rattle.frames.specs.Reading.{begins, wrong_check}
 use Rattle.frames.specs.Claims.{Remainder, BurstFound, OneFlipFound, TwoFlipsFound, KnownChecks}
-use Rattle.frames.proofs.Numbered.{number_lt, number-cons, number_append, length_digits, number_digits, begins-whole}
+use Rattle.frames.proofs.Numbered.{number_lt, number_cons, number_append, length_digits, number_digits, begins_whole}
 
 -- a register without its first bit, moved up one power
 abbrev up : List Bool → List Bool
@@ -38,28 +38,28 @@ length-sum [] ys e = e
 length-sum (x ∷ xs) [] e = refl
 length-sum (x ∷ xs) (y ∷ ys) e = ap suc (length-sum xs ys (omega arith))
 
-pub length-fed : (rs : List Bool) (b : Bool) → length rs ≡ 16 → length (fed rs b) ≡ 16
+pub length_fed : (rs : List Bool) (b : Bool) → length rs ≡ 16 → length (fed rs b) ≡ 16
 unfolding fed
-length-fed [] b e = e
-length-fed (r ∷ rs) b e = go (xor r b)
+length_fed [] b e = e
+length_fed (r ∷ rs) b e = go (xor r b)
   where
     go : (t : Bool) → length (cond t (sum (up rs) generator) (up rs)) ≡ 16
     go true = length-sum (up rs) generator (up_fits rs e) ∙ length_digits 16 0x1021
     go false = length_up rs ∙ e
 
-pub length-feed : (rs bs : List Bool) → length rs ≡ 16 → length (feed rs bs) ≡ 16
+pub length_feed : (rs bs : List Bool) → length rs ≡ 16 → length (feed rs bs) ≡ 16
 unfolding feed
-length-feed rs [] e = e
-length-feed rs (b ∷ bs) e = length-feed (fed rs b) bs (length-fed rs b e)
+length_feed rs [] e = e
+length_feed rs (b ∷ bs) e = length_feed (fed rs b) bs (length_fed rs b e)
 
-pub length-checkOf : (bs : List Bool) → length (checkOf bs) ≡ 16
-unfolding checkOf
-length-checkOf bs = length-map (feed preset bs) not ∙ length-feed preset bs refl
+pub length-check_of : (bs : List Bool) → length (check_of bs) ≡ 16
+unfolding check_of
+length-check_of bs = length-map (feed preset bs) not ∙ length_feed preset bs refl
 
-pub feed-append : (rs xs ys : List Bool) → feed rs (xs ++ ys) ≡ feed (feed rs xs) ys
+pub feed_append : (rs xs ys : List Bool) → feed rs (xs ++ ys) ≡ feed (feed rs xs) ys
 unfolding feed
-feed-append rs [] ys = refl
-feed-append rs (x ∷ xs) ys = feed-append (fed rs x) xs ys
+feed_append rs [] ys = refl
+feed_append rs (x ∷ xs) ys = feed_append (fed rs x) xs ys
 
 -- ---- as numbers
 
@@ -67,41 +67,41 @@ number_up : (rs : List Bool) → number (up rs) ≡ number rs * 2
 unfolding number
 number_up rs = number_append rs (false ∷ []) ∙ omega arith
 
-pub xor-bit : (x y : Bool) → bit_xor (bit x) (bit y) ≡ bit (xor x y)
+pub xor_bit : (x y : Bool) → bit_xor (bit x) (bit y) ≡ bit (xor x y)
 unfolding xor
-xor-bit true true = refl
-xor-bit true false = refl
-xor-bit false true = refl
-xor-bit false false = refl
+xor_bit true true = refl
+xor_bit true false = refl
+xor_bit false true = refl
+xor_bit false false = refl
 
 -- a sum without carry is the numbers' exclusive or
-number-sum : (xs ys : List Bool) → length xs ≡ length ys → number (sum xs ys) ≡ bit_xor (number xs) (number ys)
+number_sum : (xs ys : List Bool) → length xs ≡ length ys → number (sum xs ys) ≡ bit_xor (number xs) (number ys)
 unfolding sum number
-number-sum [] [] e = refl
-number-sum [] (y ∷ ys) e = absurd (omega arith)
-number-sum (x ∷ xs) [] e = absurd (omega arith)
-number-sum (x ∷ xs) (y ∷ ys) e =
+number_sum [] [] e = refl
+number_sum [] (y ∷ ys) e = absurd (omega arith)
+number_sum (x ∷ xs) [] e = absurd (omega arith)
+number_sum (x ∷ xs) (y ∷ ys) e =
     let m : length xs ≡ length ys = omega arith in
     let l : number xs < 2 ^ length ys = rw m at (number_lt xs) in
-    rw (number-cons (xor x y) (sum xs ys), number-cons x xs, number-cons y ys, length-sum xs ys m, number-sum xs ys m, m)
-    (sym (rw (xor_block (length ys) (bit x) (bit y) (number xs) (number ys) l (number_lt ys), xor-bit x y)))
+    rw (number_cons (xor x y) (sum xs ys), number_cons x xs, number_cons y ys, length-sum xs ys m, number_sum xs ys m, m)
+    (sym (rw (xor_block (length ys) (bit x) (bit y) (number xs) (number ys) l (number_lt ys), xor_bit x y)))
 
 -- one step, as the code takes it: the heaviest bit is what leaves the register
-pub fed-number : (rs : List Bool) (b : Bool) → length rs ≡ 16
+pub fed_number : (rs : List Bool) (b : Bool) → length rs ≡ 16
     → number (fed rs b) ≡ cond (eqb (number rs / 32768) (bit b)) (number rs * 2 % 65536) (bit_xor (number rs * 2 % 65536) 0x1021)
 unfolding fed xor
-fed-number [] b e = absurd (omega arith)
-fed-number (r ∷ rs) b e =
+fed_number [] b e = absurd (omega arith)
+fed_number (r ∷ rs) b e =
     let m : length rs ≡ 15 = omega arith in
     let l : number rs < 32768 = rw m at (number_lt rs) in
-    rw (number-cons r rs, m, digits_div (bit r) l, double r (number rs) l, ← number_up rs) (go r b)
+    rw (number_cons r rs, m, digits_div (bit r) l, double r (number rs) l, ← number_up rs) (go r b)
   where
     double : (r : Bool) (n : ℕ) → n < 32768 → (bit r * 32768 + n) * 2 % 65536 ≡ n * 2
     double true n h = omega arith
     double false n h = omega arith
 
     added : number (sum (up rs) generator) ≡ bit_xor (number (up rs)) 0x1021
-    added = number-sum (up rs) generator (up_fits rs e) ∙ ap (bit_xor (number (up rs))) (number_digits 16 0x1021 (lit< tt))
+    added = number_sum (up rs) generator (up_fits rs e) ∙ ap (bit_xor (number (up rs))) (number_digits 16 0x1021 (lit< tt))
 
     go : (r b : Bool)
         → number (cond (xor r b) (sum (up rs) generator) (up rs)) ≡ cond (eqb (bit r) (bit b)) (number (up rs)) (bit_xor (number (up rs)) 0x1021)
@@ -111,36 +111,36 @@ fed-number (r ∷ rs) b e =
     go false false = refl
 
 -- a register and its complement make all ones
-not-number : (rs : List Bool) → number (map not rs) + number rs + 1 ≡ 2 ^ length rs
+not_number : (rs : List Bool) → number (map not rs) + number rs + 1 ≡ 2 ^ length rs
 unfolding number
-not-number [] = refl
-not-number (b ∷ rs) =
-    rw (number-cons (not b) (map not rs), number-cons b rs, length-map rs not, pow-succ') (both b _ _ _ (not-number rs))
+not_number [] = refl
+not_number (b ∷ rs) =
+    rw (number_cons (not b) (map not rs), number_cons b rs, length-map rs not, pow-succ') (both b _ _ _ (not_number rs))
   where
     both : (b : Bool) (m n k : ℕ) → m + n + 1 ≡ k → bit (not b) * k + m + (bit b * k + n) + 1 ≡ 2 * k
     both true m n k e = omega arith
     both false m n k e = omega arith
 
-pub number-not : (rs : List Bool) → length rs ≡ 16 → number (map not rs) ≡ 65535 - number rs
-number-not rs e = omega (arith, not-number rs ∙ ap (λ (n : ℕ). 2 ^ n) e)
+pub number_not : (rs : List Bool) → length rs ≡ 16 → number (map not rs) ≡ 65535 - number rs
+number_not rs e = omega (arith, not_number rs ∙ ap (λ (n : ℕ). 2 ^ n) e)
 
 -- ---- adding without carry
 
-xor-swap : (x y z : Bool) → xor (xor x y) z ≡ xor (xor x z) y
+xor_swap : (x y z : Bool) → xor (xor x y) z ≡ xor (xor x z) y
 unfolding xor
-xor-swap x true true = refl
-xor-swap x false false = refl
-xor-swap true true false = refl
-xor-swap true false true = refl
-xor-swap false true false = refl
-xor-swap false false true = refl
+xor_swap x true true = refl
+xor_swap x false false = refl
+xor_swap true true false = refl
+xor_swap true false true = refl
+xor_swap false true false = refl
+xor_swap false false true = refl
 
-xor-back : (x y : Bool) → xor (xor x y) y ≡ x
+xor_back : (x y : Bool) → xor (xor x y) y ≡ x
 unfolding xor
-xor-back true true = refl
-xor-back true false = refl
-xor-back false true = refl
-xor-back false false = refl
+xor_back true true = refl
+xor_back true false = refl
+xor_back false true = refl
+xor_back false false = refl
 
 xor_comm : (x y : Bool) → xor x y ≡ xor y x
 unfolding xor
@@ -154,16 +154,16 @@ sum_back : (xs ys : List Bool) → length xs ≡ length ys → sum (sum xs ys) y
 unfolding sum
 sum_back [] ys e = refl
 sum_back (x ∷ xs) [] e = absurd (omega arith)
-sum_back (x ∷ xs) (y ∷ ys) e = cc (xor-back x y, sum_back xs ys (omega arith))
+sum_back (x ∷ xs) (y ∷ ys) e = cc (xor_back x y, sum_back xs ys (omega arith))
 
 -- the sum of two bits that stand at the same place
-getD-sum : (xs ys : List Bool) (i : ℕ) → length xs ≡ length ys → get_or (sum xs ys) i false ≡ xor (get_or xs i false) (get_or ys i false)
+get_d_sum : (xs ys : List Bool) (i : ℕ) → length xs ≡ length ys → get_or (sum xs ys) i false ≡ xor (get_or xs i false) (get_or ys i false)
 unfolding sum xor
-getD-sum [] [] i e = refl
-getD-sum [] (y ∷ ys) i e = absurd (omega arith)
-getD-sum (x ∷ xs) [] i e = absurd (omega arith)
-getD-sum (x ∷ xs) (y ∷ ys) zero e = refl
-getD-sum (x ∷ xs) (y ∷ ys) (suc i) e = getD-sum xs ys i (omega arith)
+get_d_sum [] [] i e = refl
+get_d_sum [] (y ∷ ys) i e = absurd (omega arith)
+get_d_sum (x ∷ xs) [] i e = absurd (omega arith)
+get_d_sum (x ∷ xs) (y ∷ ys) zero e = refl
+get_d_sum (x ∷ xs) (y ∷ ys) (suc i) e = get_d_sum xs ys i (omega arith)
 
 -- bits added to the first of a register
 unfoldable pub over : List Bool → List Bool → List Bool
@@ -177,35 +177,35 @@ length_over rs [] = refl
 length_over [] (d ∷ ds) = refl
 length_over (r ∷ rs) (d ∷ ds) = ap suc (length_over rs ds)
 
-over-up : (rs ds : List Bool) → length ds ≤ length rs → over (up rs) ds ≡ up (over rs ds)
+over_up : (rs ds : List Bool) → length ds ≤ length rs → over (up rs) ds ≡ up (over rs ds)
 unfolding over
-over-up rs [] l = refl
-over-up [] (d ∷ ds) l = absurd (omega arith)
-over-up (r ∷ rs) (d ∷ ds) l = ap (λ (t : List Bool). xor r d ∷ t) (over-up rs ds (omega arith))
+over_up rs [] l = refl
+over_up [] (d ∷ ds) l = absurd (omega arith)
+over_up (r ∷ rs) (d ∷ ds) l = ap (λ (t : List Bool). xor r d ∷ t) (over_up rs ds (omega arith))
 
-over-sum : (xs ys ds : List Bool) → over (sum xs ys) ds ≡ sum (over xs ds) ys
+over_sum : (xs ys ds : List Bool) → over (sum xs ys) ds ≡ sum (over xs ds) ys
 unfolding over sum
-over-sum xs ys [] = refl
-over-sum [] ys (d ∷ ds) = refl
-over-sum (x ∷ xs) [] (d ∷ ds) = refl
-over-sum (x ∷ xs) (y ∷ ys) (d ∷ ds) = cc (xor-swap x y d, over-sum xs ys ds)
+over_sum xs ys [] = refl
+over_sum [] ys (d ∷ ds) = refl
+over_sum (x ∷ xs) [] (d ∷ ds) = refl
+over_sum (x ∷ xs) (y ∷ ys) (d ∷ ds) = cc (xor_swap x y d, over_sum xs ys ds)
 
-over-inj : (rs ds es : List Bool) → length ds ≤ length rs → length ds ≡ length es → over rs ds ≡ over rs es → ds ≡ es
+over_inj : (rs ds es : List Bool) → length ds ≤ length rs → length ds ≡ length es → over rs ds ≡ over rs es → ds ≡ es
 unfolding over
-over-inj rs [] [] l n q = refl
-over-inj rs [] (e ∷ es) l n q = absurd (omega arith)
-over-inj rs (d ∷ ds) [] l n q = absurd (omega arith)
-over-inj [] (d ∷ ds) (e ∷ es) l n q = absurd (omega arith)
-over-inj (r ∷ rs) (d ∷ ds) (e ∷ es) l n q =
+over_inj rs [] [] l n q = refl
+over_inj rs [] (e ∷ es) l n q = absurd (omega arith)
+over_inj rs (d ∷ ds) [] l n q = absurd (omega arith)
+over_inj [] (d ∷ ds) (e ∷ es) l n q = absurd (omega arith)
+over_inj (r ∷ rs) (d ∷ ds) (e ∷ es) l n q =
     let p : xor r d ∷ over rs ds ≡ xor r e ∷ over rs es = q in
     let t : over rs ds ≡ over rs es = cc in
-    cc (xor-back d r, xor-back e r, xor_comm r d, xor_comm r e, over-inj rs ds es (omega arith) (omega arith) t)
+    cc (xor_back d r, xor_back e r, xor_comm r d, xor_comm r e, over_inj rs ds es (omega arith) (omega arith) t)
 
-over-not : (rs : List Bool) → over rs (map not rs) ≡ replicate (length rs) true
+over_not : (rs : List Bool) → over rs (map not rs) ≡ replicate (length rs) true
 unfolding over xor
-over-not [] = refl
-over-not (true ∷ rs) = ap (λ (t : List Bool). true ∷ t) (over-not rs)
-over-not (false ∷ rs) = ap (λ (t : List Bool). true ∷ t) (over-not rs)
+over_not [] = refl
+over_not (true ∷ rs) = ap (λ (t : List Bool). true ∷ t) (over_not rs)
+over_not (false ∷ rs) = ap (λ (t : List Bool). true ∷ t) (over_not rs)
 
 -- ---- the register tells what was fed
 
@@ -213,10 +213,10 @@ over-not (false ∷ rs) = ap (λ (t : List Bool). true ∷ t) (over-not rs)
 before : Bool → List Bool → List Bool
 before b rs = let t = get_or rs 15 false in xor t b ∷ take 15 (cond t (sum rs generator) rs)
 
-before-fed : (b : Bool) (rs : List Bool) → length rs ≡ 16 → before b (fed rs b) ≡ rs
+before_fed : (b : Bool) (rs : List Bool) → length rs ≡ 16 → before b (fed rs b) ≡ rs
 unfolding before fed xor digits
-before-fed b [] e = absurd (omega arith)
-before-fed b (r ∷ rs) e = go (xor r b) ∙ ap (λ (t : Bool). t ∷ rs) (xor-back r b)
+before_fed b [] e = absurd (omega arith)
+before_fed b (r ∷ rs) e = go (xor r b) ∙ ap (λ (t : Bool). t ∷ rs) (xor_back r b)
   where
     n : length rs ≡ 15
     n = omega arith
@@ -231,65 +231,65 @@ before-fed b (r ∷ rs) e = go (xor r b) ∙ ap (λ (t : Bool). t ∷ rs) (xor-b
     last = get_or_at rs false [] false 15 n
 
     go : (t : Bool) → before b (cond t (sum (up rs) generator) (up rs)) ≡ xor t b ∷ rs
-    go true = rw (getD-sum (up rs) generator 15 l, last, sum_back (up rs) generator l, same)
+    go true = rw (get_d_sum (up rs) generator 15 l, last, sum_back (up rs) generator l, same)
     go false = rw (last, same)
 
-fed-inj : (rs ss : List Bool) (b : Bool) → length rs ≡ 16 → length ss ≡ 16 → fed rs b ≡ fed ss b → rs ≡ ss
-fed-inj rs ss b m n e = sym (before-fed b rs m) ∙ ap (before b) e ∙ before-fed b ss n
+fed_inj : (rs ss : List Bool) (b : Bool) → length rs ≡ 16 → length ss ≡ 16 → fed rs b ≡ fed ss b → rs ≡ ss
+fed_inj rs ss b m n e = sym (before_fed b rs m) ∙ ap (before b) e ∙ before_fed b ss n
 
 -- equal bits keep different registers different
-pub feed-inj : (rs ss bs : List Bool) → length rs ≡ 16 → length ss ≡ 16 → feed rs bs ≡ feed ss bs → rs ≡ ss
+pub feed_inj : (rs ss bs : List Bool) → length rs ≡ 16 → length ss ≡ 16 → feed rs bs ≡ feed ss bs → rs ≡ ss
 unfolding feed
-feed-inj rs ss [] m n e = e
-feed-inj rs ss (b ∷ bs) m n e = fed-inj rs ss b m n (feed-inj (fed rs b) (fed ss b) bs (length-fed rs b m) (length-fed ss b n) e)
+feed_inj rs ss [] m n e = e
+feed_inj rs ss (b ∷ bs) m n e = fed_inj rs ss b m n (feed_inj (fed rs b) (fed ss b) bs (length_fed rs b m) (length_fed ss b n) e)
 
 -- a bit that is fed is added to the register's first bit, and bits that follow it to the next ones
-pub over-fed : (r d : Bool) (rs ds : List Bool) → length ds ≤ length rs → over (fed (r ∷ rs) d) ds ≡ fed (xor r d ∷ over rs ds) false
+pub over_fed : (r d : Bool) (rs ds : List Bool) → length ds ≤ length rs → over (fed (r ∷ rs) d) ds ≡ fed (xor r d ∷ over rs ds) false
 unfolding fed xor
-over-fed r d rs ds l = go (xor r d)
+over_fed r d rs ds l = go (xor r d)
   where
     go : (t : Bool) → over (cond t (sum (up rs) generator) (up rs)) ds ≡ fed (t ∷ over rs ds) false
-    go true = over-sum (up rs) generator ds ∙ ap (λ (x : List Bool). sum x generator) (over-up rs ds l)
-    go false = over-up rs ds l
+    go true = over_sum (up rs) generator ds ∙ ap (λ (x : List Bool). sum x generator) (over_up rs ds l)
+    go false = over_up rs ds l
 
-pub feed-over : (rs ds : List Bool) → length rs ≡ 16 → length ds ≤ 16 → feed rs ds ≡ feed (over rs ds) (replicate (length ds) false)
+pub feed_over : (rs ds : List Bool) → length rs ≡ 16 → length ds ≤ 16 → feed rs ds ≡ feed (over rs ds) (replicate (length ds) false)
 unfolding feed over
-feed-over rs [] e l = refl
-feed-over [] (d ∷ ds) e l = absurd (omega arith)
-feed-over (r ∷ rs) (d ∷ ds) e l =
-    feed-over (fed (r ∷ rs) d) ds (length-fed (r ∷ rs) d e) (omega arith)
-    ∙ ap (λ (t : List Bool). feed t (replicate (length ds) false)) (over-fed r d rs ds (omega arith))
+feed_over rs [] e l = refl
+feed_over [] (d ∷ ds) e l = absurd (omega arith)
+feed_over (r ∷ rs) (d ∷ ds) e l =
+    feed_over (fed (r ∷ rs) d) ds (length_fed (r ∷ rs) d e) (omega arith)
+    ∙ ap (λ (t : List Bool). feed t (replicate (length ds) false)) (over_fed r d rs ds (omega arith))
 
 -- so the register tells up to sixteen bits that were fed
-pub feed-tells : (rs ds es : List Bool) → length rs ≡ 16 → length ds ≤ 16 → length ds ≡ length es → feed rs ds ≡ feed rs es → ds ≡ es
-feed-tells rs ds es m l n e =
-    over-inj rs ds es (omega arith) n
-    (feed-inj (over rs ds) (over rs es) (replicate (length ds) false) (length_over rs ds ∙ m) (length_over rs es ∙ m)
-    (sym (feed-over rs ds m l) ∙ e ∙ feed-over rs es m (omega arith) ∙ ap (λ (k : ℕ). feed (over rs es) (replicate k false)) (sym n)))
+pub feed_tells : (rs ds es : List Bool) → length rs ≡ 16 → length ds ≤ 16 → length ds ≡ length es → feed rs ds ≡ feed rs es → ds ≡ es
+feed_tells rs ds es m l n e =
+    over_inj rs ds es (omega arith) n
+    (feed_inj (over rs ds) (over rs es) (replicate (length ds) false) (length_over rs ds ∙ m) (length_over rs es ∙ m)
+    (sym (feed_over rs ds m l) ∙ e ∙ feed_over rs es m (omega arith) ∙ ap (λ (k : ℕ). feed (over rs es) (replicate k false)) (sym n)))
 
 -- ---- what is found
 
-pub known-checks : KnownChecks
-unfolding digits checkOf feed fed sum xor
-known-checks = record { to-sensor = refl; from-sensor = refl; nine-digits = refl }
+pub known_checks : KnownChecks
+unfolding digits check_of feed fed sum xor
+known_checks = record { to_sensor = refl; from_sensor_is = refl; nine_digits = refl }
 
 -- the register and its complement add up to ones
-ones-left : feed (replicate 16 true) (replicate 16 false) ≡ digits 16 0x1D0F
+ones_left : feed (replicate 16 true) (replicate 16 false) ≡ digits 16 0x1D0F
 unfolding digits feed fed sum xor
-ones-left = refl
+ones_left = refl
 
 -- sixteen bits leave 1D0F if they are the register's complement, and else not
 left : (rs ds : List Bool) → length rs ≡ 16 → length ds ≡ 16 → (map not rs ≡ ds) ↔ (feed rs ds ≡ digits 16 0x1D0F)
-left rs ds m n = (λ e. ap (feed rs) (sym e) ∙ same, λ e. feed-tells rs (map not rs) ds m (le_of_eq k) (k ∙ sym n) (same ∙ sym e))
+left rs ds m n = (λ e. ap (feed rs) (sym e) ∙ same, λ e. feed_tells rs (map not rs) ds m (le_of_eq k) (k ∙ sym n) (same ∙ sym e))
   where
     k : length (map not rs) ≡ 16
     k = length-map rs not ∙ m
 
     same : feed rs (map not rs) ≡ digits 16 0x1D0F
-    same = feed-over rs (map not rs) m (le_of_eq k) ∙ rw (k, over-not rs, m) ones-left
+    same = feed_over rs (map not rs) m (le_of_eq k) ∙ rw (k, over_not rs, m) ones_left
 
 pub remainder : Remainder
-unfolding wrongCheck checkOf
+unfolding wrong_check check_of
 remainder b l = (λ w. all ∙ last.0 (whole.0 (not-false _ w)), λ e. ap not (whole.1 (last.1 (sym all ∙ e))))
   where
     n : ℕ
@@ -302,43 +302,43 @@ remainder b l = (λ w. all ∙ last.0 (whole.0 (not-false _ w)), λ e. ap not (w
     rest = length-drop n b ∙ omega arith
 
     all : feed preset b ≡ feed rs (drop n b)
-    all = ap (feed preset) (sym (take-append-drop n b)) ∙ feed-append preset (take n b) (drop n b)
+    all = ap (feed preset) (sym (take-append-drop n b)) ∙ feed_append preset (take n b) (drop n b)
 
     last : (map not rs ≡ drop n b) ↔ (feed rs (drop n b) ≡ digits 16 0x1D0F)
-    last = left rs (drop n b) (length-feed preset (take n b) refl) rest
+    last = left rs (drop n b) (length_feed preset (take n b) refl) rest
 
     whole : (begins (map not rs) (drop n b) ≡ true) ↔ (map not rs ≡ drop n b)
-    whole = begins-whole (map not rs) (drop n b) (length-checkOf (take n b) ∙ sym rest)
+    whole = begins_whole (map not rs) (drop n b) (length-check_of (take n b) ∙ sym rest)
 
-pub burst-found : BurstFound
-burst-found xs ds es ys l n differ k e = go (wrongCheck (xs ++ (es ++ ys))) refl
+pub burst_found : BurstFound
+burst_found xs ds es ys l n differ k e = go (wrong_check (xs ++ (es ++ ys))) refl
   where
     rs : List Bool
     rs = feed preset xs
 
     m : length rs ≡ 16
-    m = length-feed preset xs refl
+    m = length_feed preset xs refl
 
     all : (ts : List Bool) → feed preset (xs ++ (ts ++ ys)) ≡ feed (feed rs ts) ys
-    all ts = feed-append preset xs (ts ++ ys) ∙ feed-append rs ts ys
+    all ts = feed_append preset xs (ts ++ ys) ∙ feed_append rs ts ys
 
     j : length (xs ++ (ds ++ ys)) ≡ length (xs ++ (es ++ ys))
     j = simp length-append (omega arith)
 
-    go : (t : Bool) → wrongCheck (xs ++ (es ++ ys)) ≡ t → t ≡ true
+    go : (t : Bool) → wrong_check (xs ++ (es ++ ys)) ≡ t → t ≡ true
     go true q = refl
     go false q =
         let same : feed (feed rs ds) ys ≡ feed (feed rs es) ys =
         sym (all ds) ∙ (remainder _ k).0 e ∙ sym ((remainder (xs ++ (es ++ ys)) (omega (arith, j))).0 q) ∙ all es in
-        absurd (differ (feed-tells rs ds es m l n (feed-inj (feed rs ds) (feed rs es) ys (length-feed rs ds m) (length-feed rs es m) same)))
+        absurd (differ (feed_tells rs ds es m l n (feed_inj (feed rs ds) (feed rs es) ys (length_feed rs ds m) (length_feed rs es m) same)))
 
 -- flipped bits are others
 flipped : (x : Bool) (xs ys : List Bool) → x ∷ xs ≡ not x ∷ ys → ⊥
 flipped true xs ys e = true≢false (ap (λ (s : List Bool). get_or s 0 true) e)
 flipped false xs ys e = false≢true (ap (λ (s : List Bool). get_or s 0 true) e)
 
-pub one-flip-found : OneFlipFound
-one-flip-found xs ys x = burst-found xs (x ∷ []) (not x ∷ []) ys (omega arith) refl (flipped x [] [])
+pub one_flip_found : OneFlipFound
+one_flip_found xs ys x = burst_found xs (x ∷ []) (not x ∷ []) ys (omega arith) refl (flipped x [] [])
 
-pub two-flips-found : TwoFlipsFound
-two-flips-found xs ys x y = burst-found xs (x ∷ y ∷ []) (not x ∷ not y ∷ []) ys (omega arith) refl (flipped x (y ∷ []) (not y ∷ []))
+pub two_flips_found : TwoFlipsFound
+two_flips_found xs ys x y = burst_found xs (x ∷ y ∷ []) (not x ∷ not y ∷ []) ys (omega arith) refl (flipped x (y ∷ []) (not y ∷ []))

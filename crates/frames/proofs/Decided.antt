@@ -16,36 +16,36 @@ use Rattle.frames.specs.declared.FrameRefusal.{FrameRefusal}
 use Rattle.frames.specs.declared.FrameRefusal.TheVariants as R
 use Rattle.frames.specs.declared.Wrote.{Wrote}
 use Rattle.frames.specs.declared.Wrote.TheVariants as P
-use Rattle.frames.specs.Stream.{bitsFrom, put_all}
-use Rattle.frames.specs.Frame.{Frame, flag, between, frameBits}
-use Rattle.frames.specs.Reading.{countOver}
-use Rattle.frames.specs.Writing.{given, writeRows, closingAt, writeFrame, leftBy, Writes}
+use Rattle.frames.specs.Stream.{bits_from, put_all}
+use Rattle.frames.specs.Frame.{Frame, flag, between, frame_bits}
+use Rattle.frames.specs.Reading.{count_over}
+use Rattle.frames.specs.Writing.{given, write_rows, closing_place, write_frame, left_as, Writes}
 use Rattle.frames.specs.Steps.{DecidedIs}
 use Rattle.frames.proofs.Refused.{wrote}
-use Rattle.frames.proofs.Streamed.{length-bitsFrom}
-use Rattle.frames.proofs.Back.{length-frame}
+use Rattle.frames.proofs.Streamed.{length-bits_from}
+use Rattle.frames.proofs.Back.{length_frame}
 
 -- what it needs to write a frame, and the place that it then answers
 pub record Written (len count place : ℕ) (field : List ℕ) (n : ℕ) (f : Frame) (p : ℕ) : Type 0 where
   pub lent : count ≤ len * 8
   pub full : n ≤ length field * 8
   pub short : n ≤ 2008
-  pub room : place + length (frameBits f) ≤ count
-  pub closes : closingAt place f ≡ p
+  pub room : place + length (frame_bits f) ≤ count
+  pub closes : closing_place place f ≡ p
 
 pub written : (len count place : ℕ) (field : List ℕ) (n : ℕ) (f : Frame) (p : ℕ)
-    → (first_of (writeRows len count place field n f) (P.Closing (closingAt place f)) ≡ P.Closing p) ↔ Written len count place field n f p
+    → (first_of (write_rows len count place field n f) (P.Closing (closing_place place f)) ≡ P.Closing p) ↔ Written len count place field n f p
 written len count place field n f p =
-    let k = law.accepted-exactly Wrote wrote (writeRows len count place field n f) (P.Closing (closingAt place f)) (P.Closing p)
+    let k = law.accepted_exactly Wrote wrote (write_rows len count place field n f) (P.Closing (closing_place place f)) (P.Closing p)
     (refl, (refl, (refl, tt))) refl in
     (λ e. to (k.0 e), λ w. k.1 (from w))
   where
     None : Type 0
-    None = NoneHolds (writeRows len count place field n f) × (P.Closing (closingAt place f) ≡ P.Closing p)
+    None = NoneHolds (write_rows len count place field n f) × (P.Closing (closing_place place f) ≡ P.Closing p)
 
     to : None → Written len count place field n f p
     to (h, e) =
-        let c = both_false (countOver len count) (countOver (length field) n) h.0 in
+        let c = both_false (count_over len count) (count_over (length field) n) h.0 in
         record {
           lent = ltb-false _ _ c.0;
           full = ltb-false _ _ c.1;
@@ -63,48 +63,48 @@ written len count place field n f p =
 -- ---- the code's decisions
 
 -- nothing is said of the body where the writer refuses
-pub refused-so : (len count place : ℕ) (way : Direction) (control : ℕ) (field : List ℕ) (n : ℕ) (w : Wrote) (bytes : List ℕ) (m : ℕ) (q : FrameRefusal) (p : ℕ)
-    → w ≡ P.Refused q p → P.Refused q p ≡ writeFrame len count place way control field n → DecidedIs len count place way control field n w bytes m
-refused-so len count place way control field n w bytes m q p e is =
-    record { wrote-is = e ∙ is; between_is = λ r h. absurd (let z : ◌≡◌ {A = ℕ} 0 1 = cc in omega arith) }
+pub refused_so : (len count place : ℕ) (way : Direction) (control : ℕ) (field : List ℕ) (n : ℕ) (w : Wrote) (bytes : List ℕ) (m : ℕ) (q : FrameRefusal) (p : ℕ)
+    → w ≡ P.Refused q p → P.Refused q p ≡ write_frame len count place way control field n → DecidedIs len count place way control field n w bytes m
+refused_so len count place way control field n w bytes m q p e is =
+    record { wrote_is = e ∙ is; between_is = λ r h. absurd (let z : ◌≡◌ {A = ℕ} 0 1 = cc in omega arith) }
 
 module _ (len count place : ℕ) (way : Direction) (control : ℕ) (field : List ℕ) (n : ℕ) where
   abbrev f : Frame
   f = given way control field n
 
   abbrev answers : Wrote
-  answers = writeFrame len count place way control field n
+  answers = write_frame len count place way control field n
 
-  pub bytes-over : countOver len count ≡ true → P.Refused R.CountOrFlag place ≡ answers
-  unfolding writeFrame
-  bytes-over e = sym (rw e refl)
+  pub bytes_over : count_over len count ≡ true → P.Refused R.CountOrFlag place ≡ answers
+  unfolding write_frame
+  bytes_over e = sym (rw e refl)
 
-  module _ (lent : countOver len count ≡ false) where
-    pub field-over : countOver (length field) n ≡ true → P.Refused R.CountOrFlag place ≡ answers
-    unfolding writeFrame
-    field-over e = sym (rw (lent, e) refl)
+  module _ (lent : count_over len count ≡ false) where
+    pub field_over : count_over (length field) n ≡ true → P.Refused R.CountOrFlag place ≡ answers
+    unfolding write_frame
+    field_over e = sym (rw (lent, e) refl)
 
-    module _ (full : countOver (length field) n ≡ false) where
+    module _ (full : count_over (length field) n ≡ false) where
       pub too_long : 2008 < n → P.Refused R.WrongLength place ≡ answers
-      unfolding writeFrame
+      unfolding write_frame
       too_long l = sym (rw (lent, full, lt-ltb _ _ l) refl)
 
       -- the frame's length, by that of what stands between the flags
-      module _ (short : n ≤ 2008) (bytes : List ℕ) (m : ℕ) (is : bitsFrom bytes 0 m ≡ between f) where
-        size : length (frameBits f) ≡ 16 + m
-        size = length-frame f ∙ ap (λ (k : ℕ). 16 + k) (sym (ap length is) ∙ length-bitsFrom bytes 0 m)
+      module _ (short : n ≤ 2008) (bytes : List ℕ) (m : ℕ) (is : bits_from bytes 0 m ≡ between f) where
+        size : length (frame_bits f) ≡ 16 + m
+        size = length_frame f ∙ ap (λ (k : ℕ). 16 + k) (sym (ap length is) ∙ length-bits_from bytes 0 m)
 
         pub no_room : count < place + (16 + m) → P.Refused R.NoRoom place ≡ answers
-        unfolding writeFrame
+        unfolding write_frame
         no_room l =
-            let h : count < place + length (frameBits f) = rw size l in
+            let h : count < place + length (frame_bits f) = rw size l in
             sym (rw (lent, full, le-ltb _ _ short, lt-ltb _ _ h) refl)
 
         pub room : place + (16 + m) ≤ count → DecidedIs len count place way control field n (P.Closing (place + 8 + m)) bytes m
-        unfolding writeFrame
+        unfolding write_frame
         room l =
             record {
-              wrote-is =
+              wrote_is =
                   sym
                   ((written len count place field n f (place + 8 + m)).1
                   (record {
@@ -119,14 +119,14 @@ module _ (len count place : ℕ) (way : Direction) (control : ℕ) (field : List
 
 -- the places of a frame that is written
 pub places : (len count place : ℕ) (way : Direction) (control : ℕ) (field : List ℕ) (n p : ℕ) (bytes : List ℕ) (m : ℕ)
-    → P.Closing p ≡ writeFrame len count place way control field n → bitsFrom bytes 0 m ≡ between (given way control field n)
+    → P.Closing p ≡ write_frame len count place way control field n → bits_from bytes 0 m ≡ between (given way control field n)
     → (place + 8 + m ≡ p) × (p + 8 ≤ len * 8)
-unfolding writeFrame
+unfolding write_frame
 places len count place way control field n p bytes m e is =
     let f = given way control field n in
     let w = (written len count place field n f p).0 (sym e) in
-    let k = length-frame f in
-    let b : m ≡ length (between f) = sym (length-bitsFrom bytes 0 m) ∙ ap length is in
+    let k = length_frame f in
+    let b : m ≡ length (between f) = sym (length-bits_from bytes 0 m) ∙ ap length is in
     (omega (arith, b, k, w.closes), omega (arith, k, w.closes, w.room, w.lent))
 
 -- ---- a call
@@ -134,21 +134,21 @@ places len count place way control field n p bytes m e is =
 module _ (bytes : List ℕ) (count place : ℕ) (way : Direction) (control : ℕ) (field : List ℕ) (n : ℕ) (w : Wrote) (held : List ℕ) (m : ℕ)
     (d : DecidedIs (length bytes) count place way control field n w held m) where
   -- what stands then in the bytes
-  leaves : (a : Wrote) → w ≡ a → leftBy (writeFrame (length bytes) count place way control field n) bytes place (given way control field n)
-      ≡ leftBy a bytes place (given way control field n)
-  leaves a e = ap (λ (x : Wrote). leftBy x bytes place (given way control field n)) (sym d.wrote-is ∙ e)
+  leaves : (a : Wrote) → w ≡ a → left_as (write_frame (length bytes) count place way control field n) bytes place (given way control field n)
+      ≡ left_as a bytes place (given way control field n)
+  leaves a e = ap (λ (x : Wrote). left_as x bytes place (given way control field n)) (sym d.wrote_is ∙ e)
 
   -- a refused call has written nothing
   pub kept : (q : FrameRefusal) (p : ℕ) → w ≡ P.Refused q p → Writes bytes count place way control field n w bytes
-  kept q p e = record { answers = d.wrote-is; leaves = sym (leaves (P.Refused q p) e) }
+  kept q p e = record { answers = d.wrote_is; leaves = sym (leaves (P.Refused q p) e) }
 
   -- any other has written the frame
-  pub framed : (p : ℕ) (exit : List ℕ) → w ≡ P.Closing p → exit ≡ put_all bytes place (flag ++ (bitsFrom held 0 m ++ flag))
+  pub framed : (p : ℕ) (exit : List ℕ) → w ≡ P.Closing p → exit ≡ put_all bytes place (flag ++ (bits_from held 0 m ++ flag))
       → Writes bytes count place way control field n (P.Closing p) exit
-  unfolding frameBits
+  unfolding frame_bits
   framed p exit e put =
       record {
-        answers = sym e ∙ d.wrote-is;
+        answers = sym e ∙ d.wrote_is;
         leaves =
             put ∙ ap (λ (b : List Bool). put_all bytes place (flag ++ (b ++ flag))) (d.between_is p e) ∙ sym (leaves (P.Closing p) e);
       }

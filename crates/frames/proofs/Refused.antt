@@ -5,24 +5,24 @@ use mathlib.Core.Bool.{Bool, true, false}
 use Rattle.rows.proofs.Claims as law
 use Rattle.frames.specs.declared.Wrote.{Wrote}
 use Rattle.frames.specs.declared.Wrote.TheVariants as P
-use Rattle.frames.specs.Reading.{Answer, accepted, refused, end, Outcome, outcome, closing, bodyIn, frameIn, readRows, readBits}
-use Rattle.frames.specs.Writing.{given, closingAt, writeRows, writeFrame}
+use Rattle.frames.specs.Reading.{Answer, accepted, refused, end, Outcome, outcome, closing, body_in, frame_in, read_rows, read_bits}
+use Rattle.frames.specs.Writing.{given, closing_place, write_rows, write_frame}
 use Rattle.frames.specs.Claims.{ReaderRefuses, WriterRefuses}
 
 -- ---- the reader
 
-abbrev pub isFrame : Answer → Bool
-isFrame (accepted f) = true
-isFrame (refused q) = false
-isFrame end = false
+abbrev pub is_frame : Answer → Bool
+is_frame (accepted f) = true
+is_frame (refused q) = false
+is_frame end = false
 
 abbrev pub reads : Outcome → Bool
-reads o = isFrame o.answer
+reads o = is_frame o.answer
 
-pub reader-refuses : ReaderRefuses
-unfolding readBits
-reader-refuses over s q n =
-    law.refused-exactly Outcome reads (readRows over s) (outcome (accepted (frameIn (bodyIn s))) (closing s)) (outcome (refused q) n) refl refl
+pub reader_refuses : ReaderRefuses
+unfolding read_bits
+reader_refuses over s q n =
+    law.refused_exactly Outcome reads (read_rows over s) (outcome (accepted (frame_in (body_in s))) (closing s)) (outcome (refused q) n) refl refl
 
 -- ---- the writer
 
@@ -30,8 +30,8 @@ abbrev pub wrote : Wrote → Bool
 wrote (P.Closing p) = true
 wrote (P.Refused q p) = false
 
-pub writer-refuses : WriterRefuses
-unfolding writeFrame
-writer-refuses len count place way control field n q p =
+pub writer_refuses : WriterRefuses
+unfolding write_frame
+writer_refuses len count place way control field n q p =
     let f = given way control field n in
-    law.refused-exactly Wrote wrote (writeRows len count place field n f) (P.Closing (closingAt place f)) (P.Refused q p) refl refl
+    law.refused_exactly Wrote wrote (write_rows len count place field n f) (P.Closing (closing_place place f)) (P.Refused q p) refl refl

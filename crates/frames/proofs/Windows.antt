@@ -11,11 +11,11 @@ use lib.Bits.{bit_and, and_step, and_shr, and_le_r}
 use lib.Count.{count_leading_zeros, leading_length}
 use lib.ListN.{length}
 use lib.Pow.{pow_mono, shr-shr, shr_lt, shr_mono}
-use Rattle.bits.specs.Bits.{bitsOf}
-use Rattle.bits.proofs.Laws.{bit_at_lt, bitsOf-lt, bitsOf-join}
-use Rattle.frames.specs.Reading.{upToFlag, streamAt}
+use Rattle.bits.specs.Bits.{bits_of}
+use Rattle.bits.proofs.Laws.{bit_at_lt, bits_of-lt, bits_of_join}
+use Rattle.frames.specs.Reading.{up_to_flag, stream_at}
 use Rattle.frames.specs.Steps.{SixOnes, NoFlags}
-use Rattle.frames.proofs.Flagged.{flag-not, up-to-next}
+use Rattle.frames.proofs.Flagged.{flag_not, up_to_next}
 
 -- ---- six ones in a row
 
@@ -41,8 +41,8 @@ at_least r k h = go (dec_lt r (2 ^ k))
     go (yes l) = absurd (omega (arith, div-eq_of_lt l))
     go (no l) = omega arith
 
-pub six-ones : (w : ℕ) → let two = bit_and w (w / 2 ^ 1) in SixOnes w (bit_and (bit_and two (two / 2 ^ 2)) (two / 2 ^ 4))
-six-ones w =
+pub six_ones : (w : ℕ) → let two = bit_and w (w / 2 ^ 1) in SixOnes w (bit_and (bit_and two (two / 2 ^ 2)) (two / 2 ^ 4))
+six_ones w =
     let two = bit_and w (w / 2 ^ 1) in
     record {
       marks = λ k h.
@@ -60,15 +60,15 @@ six-ones w =
 -- ---- a flag in a window
 
 -- its ones, with j bits before them and d behind
-ones-within : (s : List ℕ) (p j d : ℕ) → bitsOf s (p + j) 8 ≡ 0b01111110 → bitsOf s (p + 1) (j + 6 + d) / 2 ^ d % 64 ≡ 63
-unfolding bitsOf
-ones-within s p j d h =
+ones_within : (s : List ℕ) (p j d : ℕ) → bits_of s (p + j) 8 ≡ 0b01111110 → bits_of s (p + 1) (j + 6 + d) / 2 ^ d % 64 ≡ 63
+unfolding bits_of
+ones_within s p j d h =
     let e : p + j + 1 ≡ p + 1 + j = omega arith in
-    let six : bitsOf s (p + 1 + j) 6 ≡ 63 =
-    rw e at (middle (bitsOf s (p + j) 1) _ _ _ h (bitsOf-join s (p + j) 1 7) (bitsOf-lt s (p + j + 1) 6) (bit_at_lt s (p + j + 1 + 6))) in
-    ap (λ (x : ℕ). x / 2 ^ d % 64) (bitsOf-join s (p + 1) (j + 6) d)
-    ∙ ap (λ (x : ℕ). x % 64) (digits_div (bitsOf s (p + 1) (j + 6)) (bitsOf-lt s (p + 1 + (j + 6)) d))
-    ∙ omega (arith, six, bitsOf-join s (p + 1) j 6)
+    let six : bits_of s (p + 1 + j) 6 ≡ 63 =
+    rw e at (middle (bits_of s (p + j) 1) _ _ _ h (bits_of_join s (p + j) 1 7) (bits_of-lt s (p + j + 1) 6) (bit_at_lt s (p + j + 1 + 6))) in
+    ap (λ (x : ℕ). x / 2 ^ d % 64) (bits_of_join s (p + 1) (j + 6) d)
+    ∙ ap (λ (x : ℕ). x % 64) (digits_div (bits_of s (p + 1) (j + 6)) (bits_of-lt s (p + 1 + (j + 6)) d))
+    ∙ omega (arith, six, bits_of_join s (p + 1) j 6)
   where
     middle : (a b c x : ℕ) → x ≡ 0b01111110 → x ≡ a * 128 + (b * 2 + c) → b < 64 → c < 2 → b ≡ 63
     middle a b c x h e l m = omega arith
@@ -90,10 +90,10 @@ pub record Cleared (s : List ℕ) (p n zeros : ℕ) : Type 0 where
   pub most : zeros ≤ 64
   pub none : NoFlags s p (p + (n + zeros - 69))
 
-pub cleared : (s : List ℕ) (p n ones : ℕ) → 6 ≤ n → n ≤ 57 → SixOnes (bitsOf s (p + 1) n) ones → Cleared s p n (count_leading_zeros 64 ones)
+pub cleared : (s : List ℕ) (p n ones : ℕ) → 6 ≤ n → n ≤ 57 → SixOnes (bits_of s (p + 1) n) ones → Cleared s p n (count_leading_zeros 64 ones)
 cleared s p n ones few many six =
     let e : n - 5 + 5 ≡ n = omega arith in
-    let small : ones < 2 ^ (n - 5) = lt_of_le_of_lt six.below (shr_lt (n - 5) 5 (rw e (bitsOf-lt s (p + 1) n))) in
+    let small : ones < 2 ^ (n - 5) = lt_of_le_of_lt six.below (shr_lt (n - 5) 5 (rw e (bits_of-lt s (p + 1) n))) in
     let top = leading_length 64 ones (lt_of_lt_of_le small (pow_mono {i = n - 5} {j = 64} (omega arith))) in
     let m = top.0 in
     let short = shorter m (n - 5) ones top.3 small in
@@ -105,25 +105,25 @@ cleared s p n ones few many six =
           let d = n - 6 - j in
           let a : p + j ≡ q = omega arith in
           let b : j + 6 + d ≡ n = omega (arith, top.1) in
-          let k = six.marks d (rw b at (ones-within s p j d (rw a f))) in
+          let k = six.marks d (rw b at (ones_within s p j d (rw a f))) in
           omega (arith, top.1, less d m (lt_of_le_of_lt k top.2));
     }
 
 -- ---- up to the first flag
 
 -- where none begins from p on up to q, it is sought from q on
-pub up-to-clear : (s : List ℕ) (count p q : ℕ) → p ≤ q → q + 7 ≤ count → NoFlags s p q
-    → p + length (upToFlag (streamAt s count p)) ≡ q + length (upToFlag (streamAt s count q))
-up-to-clear s count p q l h none =
+pub up_to_clear : (s : List ℕ) (count p q : ℕ) → p ≤ q → q + 7 ≤ count → NoFlags s p q
+    → p + length (up_to_flag (stream_at s count p)) ≡ q + length (up_to_flag (stream_at s count q))
+up_to_clear s count p q l h none =
     let e : p + (q - p) ≡ q = omega arith in
     ahead (q - p) p (omega arith) (rw e none) ∙ ap from e
   where
     from : ℕ → ℕ
-    from p = p + length (upToFlag (streamAt s count p))
+    from p = p + length (up_to_flag (stream_at s count p))
 
     ahead : (k p : ℕ) → p + k + 7 ≤ count → NoFlags s p (p + k) → from p ≡ from (p + k)
     ahead zero p h none = ap from (omega arith)
     ahead (suc k) p h none =
         let e : p + 1 + k ≡ p + suc k = omega arith in
-        up-to-next s count p (omega arith) (flag-not s count p (omega arith) (none p (omega arith) (omega arith)))
+        up_to_next s count p (omega arith) (flag_not s count p (omega arith) (none p (omega arith) (omega arith)))
         ∙ ahead k (p + 1) (omega arith) (λ j l m. none j (omega arith) (omega arith)) ∙ ap from e

@@ -29,5 +29,5 @@ abbrev pub preset : List Bool
 preset = replicate 16 true
 
 -- the check sequence of bits: the remainder, complemented
-unfoldable pub checkOf : List Bool → List Bool
-checkOf bs = map not (feed preset bs)
+unfoldable pub check_of : List Bool → List Bool
+check_of bs = map not (feed preset bs)

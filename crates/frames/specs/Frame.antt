@@ -3,8 +3,8 @@ use Rattle.std.specs.Prelude.{ℕ, ◌<◌, ◌≤◌, Bool, List, ◌++◌, len
 use Rattle.fields.specs.declared.Direction.{Direction}
 use Rattle.fields.specs.declared.Direction.TheVariants.{ToSensor, FromSensor}
 use Rattle.frames.specs.Stream.{digits}
-use Rattle.frames.specs.Check.{checkOf}
-use Rattle.frames.specs.Zeros.{withZeros}
+use Rattle.frames.specs.Check.{check_of}
+use Rattle.frames.specs.Zeros.{with_zeros}
 
 -- what a frame carries: which way it travels, its control, and the bits of its field
 pub record Frame : Type 0 where
@@ -16,8 +16,8 @@ abbrev pub frame_of : Direction → ℕ → List Bool → Frame
 frame_of w c bs = record { way = w; control = c; field = bs }
 
 -- the most bits of a field, and the fewest and the most between the flags once inserted zeros are out (5.1.1)
-abbrev pub mostOfField : ℕ
-mostOfField = 2008
+abbrev pub most_of_field : ℕ
+most_of_field = 2008
 
 abbrev pub fewest : ℕ
 fewest = 32
@@ -28,19 +28,19 @@ most = 2040
 -- a frame that can be written: a control of eight bits, and a field that is not too long
 pub record Fits (f : Frame) : Type 0 where
   pub control : f.control < 256
-  pub field : length f.field ≤ mostOfField
+  pub field : length f.field ≤ most_of_field
 
 -- 5.2.1
 abbrev pub flag : List Bool
 flag = digits 8 0b01111110
 
 -- "Address is 11000000 to the sensor, 10000000 from it" (5.2.2)
-abbrev pub addressNumber : Direction → ℕ
-addressNumber ToSensor = 0b11000000
-addressNumber FromSensor = 0b10000000
+abbrev pub address_number : Direction → ℕ
+address_number ToSensor = 0b11000000
+address_number FromSensor = 0b10000000
 
 abbrev pub address : Direction → List Bool
-address w = digits 8 (addressNumber w)
+address w = digits 8 (address_number w)
 
 -- "address, control, field"
 abbrev pub message : Frame → List Bool
@@ -48,12 +48,12 @@ message f = address f.way ++ (digits 8 f.control ++ f.field)
 
 -- "frame check sequence"
 abbrev pub body : Frame → List Bool
-body f = message f ++ checkOf (message f)
+body f = message f ++ check_of (message f)
 
 -- "with a zero inserted after five ones": what stands between the flags
 abbrev pub between : Frame → List Bool
-between f = withZeros 0 (body f)
+between f = with_zeros 0 (body f)
 
 -- "flag .. flag": the whole frame
-unfoldable pub frameBits : Frame → List Bool
-frameBits f = flag ++ (between f ++ flag)
+unfoldable pub frame_bits : Frame → List Bool
+frame_bits f = flag ++ (between f ++ flag)

@@ -1,46 +1,46 @@
 -- What the steps of the reader and of the writer leave to the next one; no caller of theirs sees it. Definitions only.
 use Rattle.std.specs.Prelude.{ℕ, ◌+◌, ◌-◌, ◌*◌, ◌/◌, ◌%◌, ◌^◌, ◌≤◌, ◌<◌, ◌≡◌, Bool, false, cond, List, [], ◌∷◌, length, replicate}
 use Rattle.std.specs.Int.Bits.{bit_and, bit_xor}
-use Rattle.bits.specs.Bits.{bitsOf}
+use Rattle.bits.specs.Bits.{bits_of}
 use Rattle.fields.specs.declared.Direction.{Direction}
 use Rattle.frames.specs.declared.Wrote.{Wrote}
 use Rattle.frames.specs.declared.Wrote.TheVariants as P
-use Rattle.frames.specs.Stream.{bitsFrom, put_all, number, digits}
+use Rattle.frames.specs.Stream.{bits_from, put_all, number, digits}
 use Rattle.frames.specs.Check.{preset, feed}
 use Rattle.frames.specs.declared.FrameRefusal.TheVariants as R
 use Rattle.frames.specs.declared.Found.{Found}
-use Rattle.frames.specs.Zeros.{ones, zerosOut, zeroMissing}
-use Rattle.frames.specs.Reading.{Answer, accepted, refused, unknownAddress, frameIn, readBits, found_at}
+use Rattle.frames.specs.Zeros.{ones, zeros_out, zero_missing}
+use Rattle.frames.specs.Reading.{Answer, accepted, refused, unknown_address, frame_in, read_bits, found_at}
 use Rattle.frames.specs.Frame.{between}
-use Rattle.frames.specs.Writing.{given, writeFrame}
+use Rattle.frames.specs.Writing.{given, write_frame}
 
 -- ---- the reader and the writer
 
 -- a stretch without its inserted zeros: how many bits, and the bits in 255 bytes, as many as there is room for; or a zero is missing
 pub record BodyIs (stretch : List Bool) (bytes : List ℕ) (count : ℕ) (missing : Bool) : Type 0 where
-  pub missing-is : missing ≡ zeroMissing 0 stretch
-  pub count-is : zeroMissing 0 stretch ≡ false → count ≡ length (zerosOut 0 stretch)
-  pub bytes-are : zeroMissing 0 stretch ≡ false → bytes ≡ put_all (replicate 255 0) 0 (zerosOut 0 stretch)
+  pub missing_is : missing ≡ zero_missing 0 stretch
+  pub count_is : zero_missing 0 stretch ≡ false → count ≡ length (zeros_out 0 stretch)
+  pub bytes_are : zero_missing 0 stretch ≡ false → bytes ≡ put_all (replicate 255 0) 0 (zeros_out 0 stretch)
 
 -- the answer of a body whose length and check sequence are right
-abbrev pub addressedBody : List Bool → Answer
-addressedBody b = cond (unknownAddress b) (refused R.UnknownAddress) (accepted (frameIn b))
+abbrev pub addressed_body : List Bool → Answer
+addressed_body b = cond (unknown_address b) (refused R.UnknownAddress) (accepted (frame_in b))
 
 -- what is found at a place in bits that begin with a flag, if the count is not over the lent bits
-abbrev pub behindFlag : ℕ → List Bool → Found
-behindFlag place s = let o = readBits false s in found_at (place + o.on) o.answer
+abbrev pub behind_flag : ℕ → List Bool → Found
+behind_flag place s = let o = read_bits false s in found_at (place + o.on) o.answer
 
 -- what the writer decides: its answer, and, if it writes, the m bits that it puts between the flags
 pub record DecidedIs
     (len count place : ℕ) (way : Direction) (control : ℕ) (field : List ℕ) (n : ℕ) (wrote : Wrote) (bytes : List ℕ) (m : ℕ) : Type 0 where
-  pub wrote-is : wrote ≡ writeFrame len count place way control field n
-  pub between_is : (p : ℕ) → wrote ≡ P.Closing p → bitsFrom bytes 0 m ≡ between (given way control field n)
+  pub wrote_is : wrote ≡ write_frame len count place way control field n
+  pub between_is : (p : ℕ) → wrote ≡ P.Closing p → bits_from bytes 0 m ≡ between (given way control field n)
 
 -- ---- inserted zeros, by runs of bits
 
 -- the digits of a number that are a one behind four ones
-unfoldable pub fivesIn : ℕ → ℕ
-fivesIn y = let two = bit_and y (y / 2) in bit_and (bit_and two (two / 4)) (y / 16)
+unfoldable pub fives_in : ℕ → ℕ
+fives_in y = let two = bit_and y (y / 2) in bit_and (bit_and two (two / 4)) (y / 16)
 
 -- with n ones in front of the bits, no bit of them stands behind five ones, and then o ones stand in front of what follows
 abbrev pub Passes : ℕ → List Bool → ℕ → Type 0
@@ -57,13 +57,13 @@ pub record RunIs (n m x k o : ℕ) : Type 0 where
 -- ---- the check sequence, by bytes
 
 -- the register of the check sequence, as a number, when the first n bits are fed
-abbrev pub registerAt : List ℕ → ℕ → ℕ
-registerAt s n = number (feed preset (bitsFrom s 0 n))
+abbrev pub register_at : List ℕ → ℕ → ℕ
+register_at s n = number (feed preset (bits_from s 0 n))
 
 -- the remainder of eight bits that moved out of that register: x^16 is x^12 + x^5 + 1, and the four bits that x^12 moves out again come to the same
 -- once more
-abbrev pub remainderOf : ℕ → ℕ
-remainderOf x = let y = bit_xor x (x / 16) in bit_xor (bit_xor (y * 4096 % 65536) (y * 32)) y
+abbrev pub remainder_of : ℕ → ℕ
+remainder_of x = let y = bit_xor x (x / 16) in bit_xor (bit_xor (y * 4096 % 65536) (y * 32)) y
 
 -- ---- flags, by windows
 
@@ -74,4 +74,4 @@ pub record SixOnes (w r : ℕ) : Type 0 where
 
 -- from a place on up to another, no flag begins
 abbrev pub NoFlags : List ℕ → ℕ → ℕ → Type 0
-NoFlags bytes from to = (p : ℕ) → from ≤ p → p < to → bitsOf bytes p 8 ≡ 0b01111110 → ⊥
+NoFlags bytes from to = (p : ℕ) → from ≤ p → p < to → bits_of bytes p 8 ≡ 0b01111110 → ⊥

@@ -8,9 +8,9 @@ abbrev pub bit : Bool → ℕ
 bit b = cond b 1 0
 
 -- the n bits of the bytes that stand behind the first p
-unfoldable pub bitsFrom : List ℕ → ℕ → ℕ → List Bool
-bitsFrom s p zero = []
-bitsFrom s p (suc n) = eqb (bit_at s p) 1 ∷ bitsFrom s (p + 1) n
+unfoldable pub bits_from : List ℕ → ℕ → ℕ → List Bool
+bits_from s p zero = []
+bits_from s p (suc n) = eqb (bit_at s p) 1 ∷ bits_from s (p + 1) n
 
 -- the bytes with the bits behind the first p replaced by these, as many as these are; all other bits stay, and past the end nothing changes
 unfoldable pub put_all : List ℕ → ℕ → List Bool → List ℕ

@@ -7,16 +7,16 @@ abbrev pub ones : ℕ → Bool → ℕ
 ones n b = cond b (n + 1) 0
 
 -- the bits with a zero inserted after each five ones, also where nothing follows them
-unfoldable pub withZeros : ℕ → List Bool → List Bool
-withZeros n [] = []
-withZeros n (b ∷ s) = b ∷ cond (eqb (ones n b) 5) (false ∷ withZeros 0 s) (withZeros (ones n b) s)
+unfoldable pub with_zeros : ℕ → List Bool → List Bool
+with_zeros n [] = []
+with_zeros n (b ∷ s) = b ∷ cond (eqb (ones n b) 5) (false ∷ with_zeros 0 s) (with_zeros (ones n b) s)
 
 -- the bits without what follows each five ones
-unfoldable pub zerosOut : ℕ → List Bool → List Bool
-zerosOut n [] = []
-zerosOut n (b ∷ s) = cond (eqb n 5) (zerosOut 0 s) (b ∷ zerosOut (ones n b) s)
+unfoldable pub zeros_out : ℕ → List Bool → List Bool
+zeros_out n [] = []
+zeros_out n (b ∷ s) = cond (eqb n 5) (zeros_out 0 s) (b ∷ zeros_out (ones n b) s)
 
 -- somewhere five ones have no zero after them: a one, or nothing
-unfoldable pub zeroMissing : ℕ → List Bool → Bool
-zeroMissing n [] = eqb n 5
-zeroMissing n (b ∷ s) = cond (eqb n 5) (b || zeroMissing 0 s) (zeroMissing (ones n b) s)
+unfoldable pub zero_missing : ℕ → List Bool → Bool
+zero_missing n [] = eqb n 5
+zero_missing n (b ∷ s) = cond (eqb n 5) (b || zero_missing 0 s) (zero_missing (ones n b) s)

@@ -3,9 +3,9 @@
 // Relies on stream.rt for the bits; specs/Check.antt says what the check sequence is, specs/Steps.antt what a byte makes of the register.
 ghost use Rattle.std.specs.Prelude.{◌≡◌, cond, ◌*◌, ◌/◌, ◌%◌, ◌<◌, ◌≤◌, eqb, length};
 ghost use Rattle.std.specs.Int.Bits.{bit_xor};
-ghost use Rattle.frames.specs.Stream.{bitsFrom, number};
-ghost use Rattle.frames.specs.Check.{checkOf};
-ghost use Rattle.frames.specs.Steps.{registerAt, remainderOf};
+ghost use Rattle.frames.specs.Stream.{bits_from, number};
+ghost use Rattle.frames.specs.Check.{check_of};
+ghost use Rattle.frames.specs.Steps.{register_at, remainder_of};
 
 use crate::stream::{bit, widened};
 
@@ -29,7 +29,7 @@ fn fed(register: u64, b: u64) -> u64
 // The register with a byte more: what of it stays, and the remainder of what leaves it.
 fn fed_byte(register: u64, byte: u64) -> u64
     requires { (register < 65536) × (byte < 256) }
-    ensures { result ≡ bit_xor (register % 256 * 256) (remainderOf (bit_xor (register / 256) byte)) }
+    ensures { result ≡ bit_xor (register % 256 * 256) (remainder_of (bit_xor (register / 256) byte)) }
 {
     let x = (register / 256) ^ byte;
     let y = x ^ (x / 16);
@@ -39,7 +39,7 @@ fn fed_byte(register: u64, byte: u64) -> u64
 // The register when the first m bytes are fed.
 fn fed_bytes(b: &[u8], m: usize) -> u64
     requires { m ≤ length b.now }
-    ensures { result ≡ registerAt b.now (m * 8) }
+    ensures { result ≡ register_at b.now (m * 8) }
 {
     let mut register = ONES;
     let mut i = 0;
@@ -59,7 +59,7 @@ fn whole_bytes(n: usize, len: usize) -> usize
 
 // The check sequence of the first n bits, as a number.
 pub fn check(b: &[u8], n: usize) -> u64
-    ensures { result ≡ number (checkOf (bitsFrom b.now 0 n)) }
+    ensures { result ≡ number (check_of (bits_from b.now 0 n)) }
 {
     let m = whole_bytes(n, b.len());
     let mut register = fed_bytes(b, m);

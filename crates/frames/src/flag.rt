@@ -2,9 +2,9 @@
 // The search for the first goes by windows of many bits: where no six ones stand in a row, no flag is.
 // Relies on bits for many bits at a time, stream.rt for one; specs/Reading.antt says what is sought, specs/Steps.antt what its steps leave.
 ghost use Rattle.std.specs.Prelude.{◌≡◌, ◌+◌, ◌^◌, ◌≤◌, ◌<◌, length};
-ghost use Rattle.bits.specs.Bits.{bitsOf};
+ghost use Rattle.bits.specs.Bits.{bits_of};
 ghost use Rattle.frames.specs.Frame.{flag};
-ghost use Rattle.frames.specs.Reading.{begins, pastFlags, upToFlag, streamAt};
+ghost use Rattle.frames.specs.Reading.{begins, past_flags, up_to_flag, stream_at};
 ghost use Rattle.frames.specs.Steps.{SixOnes, NoFlags};
 
 use crate::stream::bit;
@@ -17,7 +17,7 @@ const WINDOW: usize = 57;
 
 // Whether a flag begins at a place.
 pub fn flag_at(b: &[u8], count: usize, p: usize) -> bool
-    ensures { result ≡ begins flag (streamAt b.now count p) }
+    ensures { result ≡ begins flag (stream_at b.now count p) }
 {
     if count <= p {
         return false;
@@ -34,7 +34,7 @@ pub fn flag_at(b: &[u8], count: usize, p: usize) -> bool
 // The place behind neighbouring flags.
 pub fn past_flags(b: &[u8], count: usize, place: usize) -> usize
     requires { place ≤ count }
-    ensures { (place ≤ result) × (result ≤ count) × (streamAt b.now count result ≡ pastFlags 0 (streamAt b.now count place)) }
+    ensures { (place ≤ result) × (result ≤ count) × (stream_at b.now count result ≡ past_flags 0 (stream_at b.now count place)) }
 {
     let mut p = place;
     while flag_at(b, count, p) {
@@ -66,7 +66,7 @@ fn clear(b: &[u8], p: usize, n: usize) -> usize
 // ones in a row, which are no flag, cost no window each.
 fn near(b: &[u8], from: usize, to: usize) -> usize
     requires { (from ≤ to) × (to + 7 < 2 ^ 64) }
-    ensures { (from ≤ result) × (result ≤ to) × NoFlags b.now from result × (result < to → bitsOf b.now result 8 ≡ 0x7E) }
+    ensures { (from ≤ result) × (result ≤ to) × NoFlags b.now from result × (result < to → bits_of b.now result 8 ≡ 0x7E) }
 {
     if from == to {
         return to;
@@ -87,7 +87,7 @@ fn near(b: &[u8], from: usize, to: usize) -> usize
 // The place of the first flag; the count where there is none.
 pub fn closing(b: &[u8], count: usize, from: usize) -> usize
     requires { from ≤ count }
-    ensures { result ≡ from + length (upToFlag (streamAt b.now count from)) }
+    ensures { result ≡ from + length (up_to_flag (stream_at b.now count from)) }
 {
     let mut p = from;
     while 8 <= count - p {

@@ -2,9 +2,9 @@
 // fifth one in a row, behind which the inserted zero stands.
 // Relies on stream.rt for one bit, bits for many; specs/Zeros.antt says what inserted zeros are, specs/Steps.antt what a run is.
 ghost use Rattle.std.specs.Prelude.{◌≡◌, ◌+◌, ◌-◌, ◌*◌, ◌^◌, ◌≤◌, ◌<◌};
-ghost use Rattle.frames.specs.Stream.{bitsFrom};
-ghost use Rattle.frames.specs.Zeros.{withZeros};
-ghost use Rattle.frames.specs.Steps.{BodyIs, RunIs, fivesIn};
+ghost use Rattle.frames.specs.Stream.{bits_from};
+ghost use Rattle.frames.specs.Zeros.{with_zeros};
+ghost use Rattle.frames.specs.Steps.{BodyIs, RunIs, fives_in};
 
 use crate::stream::{CHUNK, bit};
 
@@ -26,7 +26,7 @@ fn behind_ones(n: usize, m: usize, x: u64) -> u64
 
 // The digits that are the fifth one in a row, or a later one.
 fn fives(y: u64) -> u64
-    ensures { result ≡ fivesIn y }
+    ensures { result ≡ fives_in y }
 {
     let two = y & (y >> 1);
     two & (two >> 2) & (y >> 4)
@@ -70,7 +70,7 @@ pub struct Body {
 // Goes through the bits from a place up to another.
 pub fn body_of(b: &[u8], from: usize, to: usize) -> Body
     requires { from ≤ to }
-    ensures { BodyIs (bitsFrom b.now from (to - from)) result.bytes result.count result.missing }
+    ensures { BodyIs (bits_from b.now from (to - from)) result.bytes result.count result.missing }
 {
     let mut bytes = [0u8; 255];
     let mut count = 0;
@@ -116,7 +116,7 @@ pub struct Stuffed {
 // Puts the zeros into the first n bits of b.
 pub fn with_zeros(b: &[u8], n: usize) -> Stuffed
     requires { n ≤ 2040 }
-    ensures { (bitsFrom result.bytes 0 result.count ≡ withZeros 0 (bitsFrom b.now 0 n)) × (result.count ≤ 2448) }
+    ensures { (bits_from result.bytes 0 result.count ≡ with_zeros 0 (bits_from b.now 0 n)) × (result.count ≤ 2448) }
 {
     let mut bytes = [0u8; 306];
     let mut count = 0;

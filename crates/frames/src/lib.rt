@@ -2,7 +2,7 @@
 // flag. Here are the types, the refusals and the limits; the reader and the writer have a file each.
 // Relies on fields for the direction; specs/Frame.antt says what a frame is.
 ghost use Rattle.std.specs.Prelude.{◌≡◌};
-ghost use Rattle.frames.specs.Numbers.{frameNumber};
+ghost use Rattle.frames.specs.Numbers.{frame_number};
 
 use fields::Direction;
 
@@ -45,7 +45,7 @@ pub enum FrameRefusal {
 
 impl FrameRefusal {
     pub fn number(self) -> u8
-        ensures { result ≡ frameNumber self }
+        ensures { result ≡ frame_number self }
     {
         match self {
             FrameRefusal::CountOrFlag => 44,

@@ -2,10 +2,10 @@
 // It looks for the opening flag, then for the closing one, and then goes through the bits between them once.
 // Relies on flag.rt for the flags, inserted.rt for the inserted zeros, check.rt for the check sequence; specs/Reading.antt says what it answers.
 ghost use Rattle.std.specs.Prelude.{◌≡◌, true, [], ◌-◌, ◌≤◌};
-ghost use Rattle.frames.specs.Stream.{bitsFrom};
+ghost use Rattle.frames.specs.Stream.{bits_from};
 ghost use Rattle.frames.specs.Frame.{frame_of, flag};
-ghost use Rattle.frames.specs.Reading.{accepted, begins, controlIn, fieldIn, judgedBody, streamAt, fieldBytes, found_at, readFrame};
-ghost use Rattle.frames.specs.Steps.{addressedBody, behindFlag};
+ghost use Rattle.frames.specs.Reading.{accepted, begins, control_in, field_in, judged_body, stream_at, field_bytes, found_at, read_frame};
+ghost use Rattle.frames.specs.Steps.{addressed_body, behind_flag};
 
 use crate::check::check;
 use crate::flag::{closing, flag_at, past_flags};
@@ -19,7 +19,7 @@ use fields::Direction;
 // The field of a body: the bits behind address and control, as bytes with zeros behind them.
 fn field_of(body: [u8; 255], count: usize) -> [u8; 251]
     requires { count ≤ 2008 }
-    ensures { result ≡ fieldBytes (bitsFrom body 16 count) }
+    ensures { result ≡ field_bytes (bits_from body 16 count) }
 {
     let mut field = [0u8; 251];
     copy_bits(&mut field, 0, &body, HEAD_BITS, count);
@@ -28,7 +28,7 @@ fn field_of(body: [u8; 255], count: usize) -> [u8; 251]
 
 // A refusal, or the end: the answered place, and no field.
 fn nothing(what: What, place: usize) -> Found
-    ensures { result ≡ record { what = what; place = place; field = fieldBytes [] } }
+    ensures { result ≡ record { what = what; place = place; field = field_bytes [] } }
 {
     Found {
         what,
@@ -40,7 +40,7 @@ fn nothing(what: What, place: usize) -> Found
 // A body with an address, as the frame that it is.
 fn frame(bytes: [u8; 255], count: usize, way: Direction, place: usize) -> Found
     requires { (32 ≤ count) × (count ≤ 2040) }
-    ensures { result ≡ found_at place (accepted (frame_of way (controlIn (bitsFrom bytes 0 count)) (fieldIn (bitsFrom bytes 0 count)))) }
+    ensures { result ≡ found_at place (accepted (frame_of way (control_in (bits_from bytes 0 count)) (field_in (bits_from bytes 0 count)))) }
 {
     let field = field_of(bytes, count - FEWEST);
     let control = bits::read(&bytes, 8, 8) as u8;
@@ -58,7 +58,7 @@ fn frame(bytes: [u8; 255], count: usize, way: Direction, place: usize) -> Found
 // The address of a body whose length and check sequence are right: 42, or a frame.
 fn addressed(bytes: [u8; 255], count: usize, place: usize) -> Found
     requires { (32 ≤ count) × (count ≤ 2040) }
-    ensures { result ≡ found_at place (addressedBody (bitsFrom bytes 0 count)) }
+    ensures { result ≡ found_at place (addressed_body (bits_from bytes 0 count)) }
 {
     let address = bits::read(&bytes, 0, 8);
     if address == TO_SENSOR {
@@ -72,7 +72,7 @@ fn addressed(bytes: [u8; 255], count: usize, place: usize) -> Found
 
 // What a body is, with its closing flag at a place: 40, 43, 42, or a frame.
 fn judged(body: Body, place: usize) -> Found
-    ensures { result ≡ found_at place (judgedBody (bitsFrom body.bytes 0 body.count)) }
+    ensures { result ≡ found_at place (judged_body (bits_from body.bytes 0 body.count)) }
 {
     let bytes = body.bytes;
     let count = body.count;
@@ -91,8 +91,8 @@ fn judged(body: Body, place: usize) -> Found
 
 // What stands at a place where a flag begins.
 fn behind_flag(b: &[u8], count: usize, place: usize) -> Found
-    requires { begins flag (streamAt b.now count place) ≡ true }
-    ensures { result ≡ behindFlag place (streamAt b.now count place) }
+    requires { begins flag (stream_at b.now count place) ≡ true }
+    ensures { result ≡ behind_flag place (stream_at b.now count place) }
 {
     let from = past_flags(b, count, place);
     if from == count {
@@ -111,7 +111,7 @@ fn behind_flag(b: &[u8], count: usize, place: usize) -> Found
 
 // What stands at a place of a stream of so many bits.
 pub fn read(b: &[u8], count: usize, place: usize) -> Found
-    ensures { result ≡ readFrame b.now count place }
+    ensures { result ≡ read_frame b.now count place }
 {
     if count_over(b.len(), count) {
         return nothing(What::Refused(FrameRefusal::CountOrFlag), place);

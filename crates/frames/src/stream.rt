@@ -3,8 +3,8 @@
 // Relies on bits for many bits at a time; specs/Stream.antt, and specs/Bits.antt of bits, say which bits they are.
 ghost use Rattle.std.specs.Prelude.{◌≡◌, ◌+◌, ◌<◌, ◌^◌};
 ghost use Rattle.bits.specs.Bits.{bit_at};
-ghost use Rattle.frames.specs.Stream.{bitsFrom, put_all};
-ghost use Rattle.frames.specs.Reading.{countOver};
+ghost use Rattle.frames.specs.Stream.{bits_from, put_all};
+ghost use Rattle.frames.specs.Reading.{count_over};
 
 // As many bits as one load of eight bytes always holds, in whole bytes.
 pub const CHUNK: usize = 56;
@@ -29,7 +29,7 @@ pub fn bit(b: &[u8], p: usize) -> u64
 // Puts n bits of t, behind its first `from`, behind the first `at` of s.
 pub fn copy_bits(s: &mut [u8], at: usize, t: &[u8], from: usize, n: usize)
     requires { (at + n < 2 ^ 64) × (from + n < 2 ^ 64) }
-    ensures { s.new ≡ put_all s.old at (bitsFrom t.now from n) }
+    ensures { s.new ≡ put_all s.old at (bits_from t.now from n) }
 {
     let mut p = 0;
     while CHUNK <= n - p {
@@ -41,7 +41,7 @@ pub fn copy_bits(s: &mut [u8], at: usize, t: &[u8], from: usize, n: usize)
 
 // Whether so many bytes have fewer bits than the count.
 pub fn count_over(length: usize, count: usize) -> bool
-    ensures { result ≡ countOver length count }
+    ensures { result ≡ count_over length count }
 {
     if count / 8 < length {
         return false;

@@ -2,9 +2,9 @@
 // Relies on stream.rt for the bits, inserted.rt for the inserted zeros, check.rt for the check sequence; specs/Writing.antt says what it answers
 // and leaves.
 ghost use Rattle.std.specs.Prelude.{◌≡◌, ◌+◌, ◌*◌, ◌≤◌, length, ◌++◌};
-ghost use Rattle.frames.specs.Stream.{bitsFrom, put_all};
-ghost use Rattle.frames.specs.Frame.{addressNumber, body, flag};
-ghost use Rattle.frames.specs.Writing.{given, writeFrame, Writes};
+ghost use Rattle.frames.specs.Stream.{bits_from, put_all};
+ghost use Rattle.frames.specs.Frame.{address_number, body, flag};
+ghost use Rattle.frames.specs.Writing.{given, write_frame, Writes};
 ghost use Rattle.frames.specs.Steps.{DecidedIs};
 
 use crate::check::check;
@@ -17,7 +17,7 @@ use crate::{
 use fields::Direction;
 
 fn address_of(way: Direction) -> u64
-    ensures { result ≡ addressNumber way }
+    ensures { result ≡ address_number way }
 {
     match way {
         Direction::ToSensor => TO_SENSOR,
@@ -28,7 +28,7 @@ fn address_of(way: Direction) -> u64
 // The body of a frame: address, control, field, check sequence.
 fn body_of(way: Direction, control: u8, field: &[u8], n: usize) -> [u8; 255]
     requires { n ≤ 2008 }
-    ensures { bitsFrom result 0 (n + 32) ≡ body (given way control field.now n) }
+    ensures { bits_from result 0 (n + 32) ≡ body (given way control field.now n) }
 {
     let mut bytes = [0u8; 255];
     bits::write(&mut bytes, 0, 8, address_of(way));
@@ -104,7 +104,7 @@ pub fn answer(
     field: &[u8],
     n: usize,
 ) -> Wrote
-    ensures { result ≡ writeFrame length count place way control field.now n }
+    ensures { result ≡ write_frame length count place way control field.now n }
 {
     let decided = deciding(length, count, place, way, control, field, n);
     decided.wrote
@@ -113,7 +113,7 @@ pub fn answer(
 // Puts a frame that has the first n bits of b between its flags; the closing one is at the end.
 fn put_frame(s: &mut [u8], place: usize, end: usize, b: &[u8], n: usize)
     requires { (place + 8 + n ≡ end) × (end + 8 ≤ length s.old * 8) }
-    ensures { s.new ≡ put_all s.old place (flag ++ (bitsFrom b.now 0 n ++ flag)) }
+    ensures { s.new ≡ put_all s.old place (flag ++ (bits_from b.now 0 n ++ flag)) }
 {
     bits::write(s, place, 8, FLAG);
     copy_bits(s, place + 8, b, 0, n);

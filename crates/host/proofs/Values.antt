@@ -6,12 +6,12 @@ use Rattle.measures.specs.declared.Measured.{Measured}
 use Rattle.reports.specs.Altitude.{chosen}
 use Rattle.reports.specs.Values.{Counted, counts, none, Yields}
 use Rattle.reports.specs.declared.values.Values.TheVariants as Y
-use Rattle.lines.specs.Links.{readBytesOn}
-use Rattle.host.specs.Line.{countedAt, has, Shows}
+use Rattle.lines.specs.Links.{read_bytes_on}
+use Rattle.host.specs.Line.{counted_at, has, Shows}
 
 -- what is counted at a place
 abbrev pub at : List ℕ → ℕ → ℕ → ℕ → Counted
-at bytes place form link = countedAt (readBytesOn (chosen form) link bytes place).outcome.what
+at bytes place form link = counted_at (read_bytes_on (chosen form) link bytes place).outcome.what
 
 -- where values are yielded, they are there and exact
 pub measured : (k : Counted) (m : Measured) → Yields k (Y.Measured m) → (has k ≡ 1) × Shows k m

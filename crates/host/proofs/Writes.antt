@@ -7,11 +7,11 @@ use Rattle.reports.specs.declared.altitude.Form.{Form}
 use Rattle.reports.specs.Altitude.{form_of}
 use Rattle.lines.specs.declared.Wrote.{Wrote}
 use Rattle.lines.specs.ByteWriting.{WritesBytes}
-use Rattle.host.specs.Write.{placeAfter, Writes}
+use Rattle.host.specs.Write.{place_after, Writes}
 
 pub carried : {form to : Form} {bytes : List ℕ} {place : ℕ} {r g : Report} {w : Wrote} {a : ℕ} {exit : List ℕ}
-    → r ≡ g → form ≡ to → WritesBytes (form_of form) bytes place r w exit → placeAfter place w ≡ a → Writes (form_of to) bytes place g a exit
+    → r ≡ g → form ≡ to → WritesBytes (form_of form) bytes place r w exit → place_after place w ≡ a → Writes (form_of to) bytes place g a exit
 carried {form} {bytes = bytes} {place = place} {g = g} {a = a} {exit = exit} e f wrote q =
     subst (λ (x : Form). Writes (form_of x) bytes place g a exit) f
     (subst (λ (x : Report). Writes (form_of form) bytes place x a exit) e
-    (record { answers = sym q ∙ ap (placeAfter place) wrote.answers; leaves = wrote.leaves }))
+    (record { answers = sym q ∙ ap (place_after place) wrote.answers; leaves = wrote.leaves }))

@@ -3,11 +3,11 @@
 // Relies on line_reader for the outcome, report_items for the fields, reports for kinds and values.
 ghost use Rattle.std.specs.Prelude.{◌≡◌};
 ghost use Rattle.measures.specs.Exact.{Exact};
-ghost use Rattle.lines.specs.Links.{readBytesOn};
+ghost use Rattle.lines.specs.Links.{read_bytes_on};
 ghost use Rattle.reports.specs.Altitude.{chosen};
 ghost use Rattle.reports.specs.Values.{Yields};
 ghost use Rattle.report_items.specs.Items.{is_of, value_of};
-ghost use Rattle.host.specs.Line.{version, kindNumberOf, refusalOf, item_at, countedAt, has, range_of, azimuthOf, timeOf, Shows};
+ghost use Rattle.host.specs.Line.{version, kind_number_of, refusal_of, item_at, counted_at, has, range_of, azimuth_of, time_of, Shows};
 
 use lines::{Outcome, Received, What};
 use measures::{CoarseAzimuth, CoarseRange, Measured, Time};
@@ -40,21 +40,21 @@ pub extern "C" fn siamrung_version() -> u32
 
 // The answer there, with its link; altitudes are read in the form of this number.
 fn received_at(bytes: &[u8], place: usize, form: u32, link: u32) -> Received
-    ensures { result ≡ readBytesOn (chosen form) link bytes.now place }
+    ensures { result ≡ read_bytes_on (chosen form) link bytes.now place }
 {
     line_reader::bytes::read(bytes, place, Form::numbered(form), link)
 }
 
 // Its outcome.
 fn outcome_at(bytes: &[u8], place: usize, form: u32, link: u32) -> Outcome
-    ensures { result ≡ (readBytesOn (chosen form) link bytes.now place).outcome }
+    ensures { result ≡ (read_bytes_on (chosen form) link bytes.now place).outcome }
 {
     let received = received_at(bytes, place, form, link);
     received.outcome
 }
 
 fn kind_number(what: What) -> u32
-    ensures { result ≡ kindNumberOf what }
+    ensures { result ≡ kind_number_of what }
 {
     match what {
         What::Accepted(report) => kinds::kind_of(report).number() as u32,
@@ -64,7 +64,7 @@ fn kind_number(what: What) -> u32
 }
 
 fn refusal_number(what: What) -> u32
-    ensures { result ≡ refusalOf what }
+    ensures { result ≡ refusal_of what }
 {
     match what {
         What::Accepted(_) => 0,
@@ -75,7 +75,7 @@ fn refusal_number(what: What) -> u32
 
 #[unsafe(no_mangle)]
 pub extern "C" fn siamrung_kind(bytes: &[u8], place: usize, form: u32, link: u32) -> u32
-    ensures { result ≡ kindNumberOf (readBytesOn (chosen form) link bytes.now place).outcome.what }
+    ensures { result ≡ kind_number_of (read_bytes_on (chosen form) link bytes.now place).outcome.what }
 {
     let o = outcome_at(bytes, place, form, link);
     let what = o.what;
@@ -84,7 +84,7 @@ pub extern "C" fn siamrung_kind(bytes: &[u8], place: usize, form: u32, link: u32
 
 #[unsafe(no_mangle)]
 pub extern "C" fn siamrung_refusal(bytes: &[u8], place: usize, form: u32, link: u32) -> u32
-    ensures { result ≡ refusalOf (readBytesOn (chosen form) link bytes.now place).outcome.what }
+    ensures { result ≡ refusal_of (read_bytes_on (chosen form) link bytes.now place).outcome.what }
 {
     let o = outcome_at(bytes, place, form, link);
     let what = o.what;
@@ -93,7 +93,7 @@ pub extern "C" fn siamrung_refusal(bytes: &[u8], place: usize, form: u32, link: 
 
 #[unsafe(no_mangle)]
 pub extern "C" fn siamrung_first(bytes: &[u8], place: usize, form: u32, link: u32) -> usize
-    ensures { result ≡ (readBytesOn (chosen form) link bytes.now place).outcome.first }
+    ensures { result ≡ (read_bytes_on (chosen form) link bytes.now place).outcome.first }
 {
     let o = outcome_at(bytes, place, form, link);
     o.first
@@ -101,7 +101,7 @@ pub extern "C" fn siamrung_first(bytes: &[u8], place: usize, form: u32, link: u3
 
 #[unsafe(no_mangle)]
 pub extern "C" fn siamrung_after(bytes: &[u8], place: usize, form: u32, link: u32) -> usize
-    ensures { result ≡ (readBytesOn (chosen form) link bytes.now place).outcome.after }
+    ensures { result ≡ (read_bytes_on (chosen form) link bytes.now place).outcome.after }
 {
     let o = outcome_at(bytes, place, form, link);
     o.after
@@ -109,7 +109,7 @@ pub extern "C" fn siamrung_after(bytes: &[u8], place: usize, form: u32, link: u3
 
 #[unsafe(no_mangle)]
 pub extern "C" fn siamrung_named(bytes: &[u8], place: usize, form: u32, link: u32) -> usize
-    ensures { result ≡ (readBytesOn (chosen form) link bytes.now place).outcome.named }
+    ensures { result ≡ (read_bytes_on (chosen form) link bytes.now place).outcome.named }
 {
     let o = outcome_at(bytes, place, form, link);
     o.named
@@ -118,7 +118,7 @@ pub extern "C" fn siamrung_named(bytes: &[u8], place: usize, form: u32, link: u3
 // The number of its link; 0 where it is refused with 13.
 #[unsafe(no_mangle)]
 pub extern "C" fn siamrung_link(bytes: &[u8], place: usize, form: u32, link: u32) -> u32
-    ensures { result ≡ (readBytesOn (chosen form) link bytes.now place).link }
+    ensures { result ≡ (read_bytes_on (chosen form) link bytes.now place).link }
 {
     let received = received_at(bytes, place, form, link);
     received.link
@@ -129,7 +129,7 @@ pub extern "C" fn siamrung_link(bytes: &[u8], place: usize, form: u32, link: u32
 // The outcome is taken out of what is received here and not by outcome_at: else the report is copied twice, and reading every item takes a third to a
 // half more time (docs/PERFORMANCE.md).
 fn item_at(bytes: &[u8], place: usize, form: u32, link: u32, item: u32) -> Item
-    ensures { result ≡ item_at (readBytesOn (chosen form) link bytes.now place).outcome.what item }
+    ensures { result ≡ item_at (read_bytes_on (chosen form) link bytes.now place).outcome.what item }
 {
     let received = received_at(bytes, place, form, link);
     let o = received.outcome;
@@ -143,7 +143,7 @@ fn item_at(bytes: &[u8], place: usize, form: u32, link: u32, item: u32) -> Item
 
 #[unsafe(no_mangle)]
 pub extern "C" fn siamrung_has(bytes: &[u8], place: usize, form: u32, link: u32, item: u32) -> u32
-    ensures { result ≡ is_of (item_at (readBytesOn (chosen form) link bytes.now place).outcome.what item) }
+    ensures { result ≡ is_of (item_at (read_bytes_on (chosen form) link bytes.now place).outcome.what item) }
 {
     let own = item_at(bytes, place, form, link, item);
     match own {
@@ -155,7 +155,7 @@ pub extern "C" fn siamrung_has(bytes: &[u8], place: usize, form: u32, link: u32,
 // 0 where the report has no such item, which siamrung_has tells.
 #[unsafe(no_mangle)]
 pub extern "C" fn siamrung_item(bytes: &[u8], place: usize, form: u32, link: u32, item: u32) -> i64
-    ensures { result ≡ value_of (item_at (readBytesOn (chosen form) link bytes.now place).outcome.what item) }
+    ensures { result ≡ value_of (item_at (read_bytes_on (chosen form) link bytes.now place).outcome.what item) }
 {
     let own = item_at(bytes, place, form, link, item);
     match own {
@@ -167,7 +167,7 @@ pub extern "C" fn siamrung_item(bytes: &[u8], place: usize, form: u32, link: u32
 // ---- range, azimuth and time as floats
 
 fn values_at(bytes: &[u8], place: usize, form: u32, link: u32) -> Values
-    ensures { Yields (countedAt (readBytesOn (chosen form) link bytes.now place).outcome.what) result }
+    ensures { Yields (counted_at (read_bytes_on (chosen form) link bytes.now place).outcome.what) result }
 {
     let o = outcome_at(bytes, place, form, link);
     let what = o.what;
@@ -180,7 +180,7 @@ fn values_at(bytes: &[u8], place: usize, form: u32, link: u32) -> Values
 
 #[unsafe(no_mangle)]
 pub extern "C" fn siamrung_has_values(bytes: &[u8], place: usize, form: u32, link: u32) -> u32
-    ensures { result ≡ has (countedAt (readBytesOn (chosen form) link bytes.now place).outcome.what) }
+    ensures { result ≡ has (counted_at (read_bytes_on (chosen form) link bytes.now place).outcome.what) }
 {
     let values = values_at(bytes, place, form, link);
     match values {
@@ -191,7 +191,7 @@ pub extern "C" fn siamrung_has_values(bytes: &[u8], place: usize, form: u32, lin
 
 // All plus zero where there are none, which siamrung_has_values tells.
 fn measured_at(bytes: &[u8], place: usize, form: u32, link: u32) -> Measured
-    ensures { Shows (countedAt (readBytesOn (chosen form) link bytes.now place).outcome.what) result }
+    ensures { Shows (counted_at (read_bytes_on (chosen form) link bytes.now place).outcome.what) result }
 {
     let values = values_at(bytes, place, form, link);
     match values {
@@ -202,7 +202,7 @@ fn measured_at(bytes: &[u8], place: usize, form: u32, link: u32) -> Measured
 
 #[unsafe(no_mangle)]
 pub extern "C" fn siamrung_nmi(bytes: &[u8], place: usize, form: u32, link: u32) -> f64
-    ensures { Exact (range_of (countedAt (readBytesOn (chosen form) link bytes.now place).outcome.what)) result }
+    ensures { Exact (range_of (counted_at (read_bytes_on (chosen form) link bytes.now place).outcome.what)) result }
 {
     let m = measured_at(bytes, place, form, link);
     m.range
@@ -210,7 +210,7 @@ pub extern "C" fn siamrung_nmi(bytes: &[u8], place: usize, form: u32, link: u32)
 
 #[unsafe(no_mangle)]
 pub extern "C" fn siamrung_degrees(bytes: &[u8], place: usize, form: u32, link: u32) -> f64
-    ensures { Exact (azimuthOf (countedAt (readBytesOn (chosen form) link bytes.now place).outcome.what)) result }
+    ensures { Exact (azimuth_of (counted_at (read_bytes_on (chosen form) link bytes.now place).outcome.what)) result }
 {
     let m = measured_at(bytes, place, form, link);
     m.azimuth
@@ -218,7 +218,7 @@ pub extern "C" fn siamrung_degrees(bytes: &[u8], place: usize, form: u32, link: 
 
 #[unsafe(no_mangle)]
 pub extern "C" fn siamrung_seconds(bytes: &[u8], place: usize, form: u32, link: u32) -> f64
-    ensures { Exact (timeOf (countedAt (readBytesOn (chosen form) link bytes.now place).outcome.what)) result }
+    ensures { Exact (time_of (counted_at (read_bytes_on (chosen form) link bytes.now place).outcome.what)) result }
 {
     let m = measured_at(bytes, place, form, link);
     m.time

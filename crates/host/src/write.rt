@@ -2,10 +2,10 @@
 // Any bytes, any place, any number of an altitude form, any kind and any items are taken: what is no record is refused with number 11.
 // Relies on report_items for the report, line_writer for the writer, refusals for numbers.
 ghost use Rattle.std.specs.Prelude.{◌≡◌};
-ghost use Rattle.lines.specs.ByteWriting.{writeBytes};
+ghost use Rattle.lines.specs.ByteWriting.{write_bytes};
 ghost use Rattle.reports.specs.Altitude.{chosen};
 ghost use Rattle.report_items.specs.Given.{given};
-ghost use Rattle.host.specs.Write.{writeRefusal, Writes};
+ghost use Rattle.host.specs.Write.{write_refusal, Writes};
 
 use lines::Wrote;
 use report_items::given;
@@ -38,7 +38,7 @@ pub extern "C" fn siamrung_write_refusal(
     kind: u32,
     items: &[u8],
 ) -> u32
-    ensures { result ≡ writeRefusal (writeBytes (chosen form) bytes.now place (given kind items.now)) }
+    ensures { result ≡ write_refusal (write_bytes (chosen form) bytes.now place (given kind items.now)) }
 {
     let report = given::given(kind, items);
     let answer = line_writer::bytes::answer(bytes, place, Form::numbered(form), report);

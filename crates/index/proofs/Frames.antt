@@ -1,7 +1,7 @@
 -- What the walks by hand share.
 --     frames       the locals of a function, each with the block that it was given: what `Wp` calls the environment
 --     after        what is left of a sequence after its first statement
---     numbersRow   `[u16; 512]` as a type.     apart, together      a local array is its elements side by side, and back
+--     numbers_row   `[u16; 512]` as a type.     apart, together      a local array is its elements side by side, and back
 -- Definitions assume nothing; `apart` and `together` assume `Logic`.
 use Prim.Native.Nat.{ℕ}
 use mathlib.Core.List.{List, [], ◌∷◌, map}
@@ -46,32 +46,32 @@ after (call f xs p) = skip
 
 -- ---- an array of 512 numbers
 
-abbrev pub numbersRow : RattleType
-numbersRow = Array u16 512
+abbrev pub numbers_row : RattleType
+numbers_row = Array u16 512
 
-abbrev pub numbersTy : Ty
-numbersTy = ty_array (ty_int w16) 512
+abbrev pub numbers_ty : Ty
+numbers_ty = ty_array (ty_int w16) 512
 
 -- the machine value of the array
-abbrev pub numbersVal : List ℕ → Val
-numbersVal ns = array_val (map (vint w16) ns)
+abbrev pub numbers_val : List ℕ → Val
+numbers_val ns = array_val (map (vint w16) ns)
 
 module _ {M : Type 1} {𝓤 : Ura M} (𝓛 : Logic 𝓤) where
   open 𝓛 use {H}
 
-  pub apart : (ns : List ℕ) (v : Val) (l : ℕ) → ent 𝓤 (sep 𝓤 (H.at full_share numbersTy l 0 v) (sem 𝓛 (numbersRow.own_val ns (v ∷ [])))) (sem 𝓛 (row u16 full_share ns l 0))
+  pub apart : (ns : List ℕ) (v : Val) (l : ℕ) → ent 𝓤 (sep 𝓤 (H.at full_share numbers_ty l 0 v) (sem 𝓛 (numbers_row.own_val ns (v ∷ [])))) (sem 𝓛 (row u16 full_share ns l 0))
   unfolding part_of
   apart ns v l =
-      qed 𝓛 (‵ (fat full_share numbersTy l 0 v) ∷ ‵ (numbersRow.own_val ns (v ∷ [])) ∷ []) ∵
-      use1 𝓛 (‵ (fat full_share (raw_ty numbersTy) l 0 v)) (𝓛.laws.at_raw full_share numbersTy l 0 v) $ fjoin ! $
-      fpack ! (List Val) (λ us. fsep (cell_at full_share numbersRow.mir us l 0) (numbersRow.own_val ns us)) (v ∷ []) $
+      qed 𝓛 (‵ (fat full_share numbers_ty l 0 v) ∷ ‵ (numbers_row.own_val ns (v ∷ [])) ∷ []) ∵
+      use1 𝓛 (‵ (fat full_share (raw_ty numbers_ty) l 0 v)) (𝓛.laws.at_raw full_share numbers_ty l 0 v) $ fjoin ! $
+      fpack ! (List Val) (λ us. fsep (cell_at full_share numbers_row.mir us l 0) (numbers_row.own_val ns us)) (v ∷ []) $
       use1 𝓛 (‵ ((arr_parts (shares u16) 512).part full_share ns l 0)) (Array-apart 𝓛 u16 full_share tt 512 ns l 0) $ fsplit ! $ drop ! $ done !
 
   pub together : (ns : List ℕ) (l : ℕ) → length ns ≡ 512
-      → ent 𝓤 (sem 𝓛 (row u16 full_share ns l 0)) (sep 𝓤 (H.at full_share numbersTy l 0 (numbersVal ns)) (sem 𝓛 (numbersRow.own_val ns (numbersVal ns ∷ []))))
+      → ent 𝓤 (sem 𝓛 (row u16 full_share ns l 0)) (sep 𝓤 (H.at full_share numbers_ty l 0 (numbers_val ns)) (sem 𝓛 (numbers_row.own_val ns (numbers_val ns ∷ []))))
   unfolding part_of
   together ns l e =
       qed 𝓛 (‵ (row u16 full_share ns l 0) ∷ []) ∵ feq_i ! ℕ (length ns) 512 e $ fjoin ! $
-      use1 𝓛 (‵ (part_at numbersRow full_share ns l 0)) (Array-whole 𝓛 u16 full_share 512 ns l 0) $ fpick ! (λ vs. fsplit ! $
-      spelt ! numbersRow (Is numbersRow) (shows 𝓛 numbersRow) (array_vals (uint_vals w16)) (Array-Tells u16 (uint_vals w16) (uint_Tells w16) 512) full_share ns vs l 0 $
-      use1 𝓛 (‵ (fat full_share numbersTy l 0 (numbersVal ns))) (𝓛.laws.raw_at full_share numbersTy l 0 (numbersVal ns)) $ done !)
+      use1 𝓛 (‵ (part_at numbers_row full_share ns l 0)) (Array-whole 𝓛 u16 full_share 512 ns l 0) $ fpick ! (λ vs. fsplit ! $
+      spelt ! numbers_row (Is numbers_row) (shows 𝓛 numbers_row) (array_vals (uint_vals w16)) (Array-Tells u16 (uint_vals w16) (uint_Tells w16) 512) full_share ns vs l 0 $
+      use1 𝓛 (‵ (fat full_share numbers_ty l 0 (numbers_val ns))) (𝓛.laws.raw_at full_share numbers_ty l 0 (numbers_val ns)) $ done !)

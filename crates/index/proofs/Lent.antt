@@ -10,7 +10,7 @@ use borrow.Author.Tests.{lt-ltb, le-ltb, ltb-true, ltb-false}
 use lib.Dec.{T as Holds, ltb, T_not, lt→ltb}
 use lib.ListN.{length, set, take, get_or, replicate, length-replicate}
 use lib.Seq.{set_out, take-length}
-use Rattle.words.proofs.Tests.{by-test}
+use Rattle.words.proofs.Tests.{by_test}
 use Rattle.index.specs.declared.Entry.{Entry}
 use Rattle.index.specs.declared.Indexed.{Indexed}
 use Rattle.index.specs.declared.Indexed.TheVariants as I
@@ -18,9 +18,9 @@ use Rattle.index.specs.declared.Found.TheVariants as F
 use Rattle.index.specs.declared.IndexRefusal.TheVariants.{TableBroken, TableFull}
 use Rattle.index.specs.declared.judging.Looked.{Looked}
 use Rattle.index.specs.declared.judging.Looked.TheVariants as L
-use Rattle.index.specs.Table.{most, numbersOf, holds, place_of, usedAfterUnused, heldTwice}
-use Rattle.index.specs.Indexing.{indexed, leftBy, found}
-use Rattle.index.specs.Steps.{blank, onto, bounded as boundedOf, lookedIn, indexedBy, judged, spot_of, nowhere, foundBy, sought}
+use Rattle.index.specs.Table.{most, numbers_of, holds, place_of, used_after_unused, held_twice}
+use Rattle.index.specs.Indexing.{indexed, left_as, found}
+use Rattle.index.specs.Steps.{blank, onto, bounded as boundedOf, looked_in, indexed_by, judged, spot_of, nowhere, found_by, sought}
 use Rattle.index.proofs.Looks.{held_place}
 
 -- ---- a store
@@ -35,7 +35,7 @@ pub set_past : (ys : List Entry) (i : ℕ) (e : Entry) → Holds (not (ltb i (le
 set_past ys i e h = past ys i e (λ l. T_not (ltb i (length ys)) h (lt→ltb i (length ys) l))
 
 -- the entry is stored where the answer says
-pub stores : (r : Indexed) (ys : List Entry) (e : Entry) → length ys < 2 ^ 64 → set ys (spot_of r) e ≡ leftBy r ys e
+pub stores : (r : Indexed) (ys : List Entry) (e : Entry) → length ys < 2 ^ 64 → set ys (spot_of r) e ≡ left_as r ys e
 stores (I.Entered i) ys e h = refl
 stores (I.Replaced i) ys e h = refl
 stores I.Left ys e h = set_out ys nowhere e (omega arith)
@@ -43,66 +43,66 @@ stores (I.Refused q) ys e h = set_out ys nowhere e (omega arith)
 
 -- ---- numbers put over an array
 
-pub onto-length : {A : Type 0} (xs ys : List A) → length (onto xs ys) ≡ length ys
+pub onto_length : {A : Type 0} (xs ys : List A) → length (onto xs ys) ≡ length ys
 unfolding onto
-onto-length [] ys = refl
-onto-length (x ∷ xs) [] = refl
-onto-length (x ∷ xs) (y ∷ ys) = ap suc (onto-length xs ys)
+onto_length [] ys = refl
+onto_length (x ∷ xs) [] = refl
+onto_length (x ∷ xs) (y ∷ ys) = ap suc (onto_length xs ys)
 
 one_more : (i : ℕ) (ys : List Entry) (ns : List ℕ) → i < length ys → i < length ns
-    → set (onto (numbersOf (take i ys)) ns) i (get_or ys i blank).number ≡ onto (numbersOf (take (suc i) ys)) ns
-unfolding onto numbersOf
+    → set (onto (numbers_of (take i ys)) ns) i (get_or ys i blank).number ≡ onto (numbers_of (take (suc i) ys)) ns
+unfolding onto numbers_of
 one_more i [] ns h g = absurd (omega arith)
 one_more i (y ∷ ys) [] h g = absurd (omega arith)
 one_more zero (y ∷ ys) (n ∷ ns) h g = refl
 one_more (suc i) (y ∷ ys) (n ∷ ns) h g = ap (λ (l : List ℕ). y.number ∷ l) (one_more i ys ns (omega arith) (omega arith))
 
 -- the number of one more entry
-pub numbers-next : (i : ℕ) (ys : List Entry) (ns : List ℕ) → i < length ys → i < length ns
-    → set (onto (numbersOf (take i ys)) ns) i (get_or ys i blank).number ≡ onto (numbersOf (take (i + 1) ys)) ns
-numbers-next i ys ns h g = rw add-one (one_more i ys ns h g)
+pub numbers_next : (i : ℕ) (ys : List Entry) (ns : List ℕ) → i < length ys → i < length ns
+    → set (onto (numbers_of (take i ys)) ns) i (get_or ys i blank).number ≡ onto (numbers_of (take (i + 1) ys)) ns
+numbers_next i ys ns h g = rw add-one (one_more i ys ns h g)
 
-pub numbers-none : (ns : List ℕ) → onto (numbersOf []) ns ≡ ns
-unfolding onto numbersOf
-numbers-none ns = refl
+pub numbers_none : (ns : List ℕ) → onto (numbers_of []) ns ≡ ns
+unfolding onto numbers_of
+numbers_none ns = refl
 
 -- ---- what is decided of the array is what is answered of the table
 
 -- n entries of a table, or 512
-pub bounded-fits : (n : ℕ) → (boundedOf n ≤ n) × (boundedOf n ≤ 512)
-bounded-fits n =
-    by-test (ltb n 512)
+pub bounded_fits : (n : ℕ) → (boundedOf n ≤ n) × (boundedOf n ≤ 512)
+bounded_fits n =
+    by_test (ltb n 512)
     (λ l. rw l (omega arith, omega (arith, ltb-true n 512 l)))
     (λ g. rw g (ltb-false n 512 g, omega arith))
 
-bounded-all : (n : ℕ) → n ≤ 512 → boundedOf n ≡ n
-bounded-all n h =
-    by-test (ltb n 512)
+bounded_all : (n : ℕ) → n ≤ 512 → boundedOf n ≡ n
+bounded_all n h =
+    by_test (ltb n 512)
     (λ l. rw l)
     (λ g. rw g (omega (arith, ltb-false n 512 g)))
 
-pub numbers-length : (ys : List Entry) → length (numbersOf ys) ≡ length ys
-unfolding numbersOf
-numbers-length [] = refl
-numbers-length (y ∷ ys) = ap suc (numbers-length ys)
+pub numbers_length : (ys : List Entry) → length (numbers_of ys) ≡ length ys
+unfolding numbers_of
+numbers_length [] = refl
+numbers_length (y ∷ ys) = ap suc (numbers_length ys)
 
-onto-front : (xs ys : List ℕ) → length xs ≤ length ys → take (length xs) (onto xs ys) ≡ xs
+onto_front : (xs ys : List ℕ) → length xs ≤ length ys → take (length xs) (onto xs ys) ≡ xs
 unfolding onto
-onto-front [] ys h = refl
-onto-front (x ∷ xs) [] h = absurd (omega arith)
-onto-front (x ∷ xs) (y ∷ ys) h = ap (λ (l : List ℕ). x ∷ l) (onto-front xs ys (omega arith))
+onto_front [] ys h = refl
+onto_front (x ∷ xs) [] h = absurd (omega arith)
+onto_front (x ∷ xs) (y ∷ ys) h = ap (λ (l : List ℕ). x ∷ l) (onto_front xs ys (omega arith))
 
 -- the array's front has the numbers of the table
-front-is : (ys : List Entry) → length ys ≤ 512 → take (length ys) (onto (numbersOf (take (boundedOf (length ys)) ys)) (replicate 512 0)) ≡ numbersOf ys
-front-is ys h =
+front_is : (ys : List Entry) → length ys ≤ 512 → take (length ys) (onto (numbers_of (take (boundedOf (length ys)) ys)) (replicate 512 0)) ≡ numbers_of ys
+front_is ys h =
     rw
-    (bounded-all (length ys) h, take-length ys, ← numbers-length ys)
-    (onto-front (numbersOf ys) (replicate 512 0) (omega (arith, numbers-length ys, length-replicate {A = ℕ} 512 0)))
+    (bounded_all (length ys) h, take-length ys, ← numbers_length ys)
+    (onto_front (numbers_of ys) (replicate 512 0) (omega (arith, numbers_length ys, length-replicate {A = ℕ} 512 0)))
 
 -- a number has a place in front of the end exactly where it is held
-held-is : (x : ℕ) (ns : List ℕ) → ltb (place_of x ns) (length ns) ≡ holds x ns
-held-is x ns =
-    by-test (holds x ns)
+held_is : (x : ℕ) (ns : List ℕ) → ltb (place_of x ns) (length ns) ≡ holds x ns
+held_is x ns =
+    by_test (holds x ns)
     (λ h. lt-ltb (place_of x ns) (length ns) ((held_place x ns).0 h) ∙ sym h)
     (λ h. le-ltb (place_of x ns) (length ns) (omega (arith, (held_place x ns).1 h)) ∙ sym h)
 
@@ -118,10 +118,10 @@ turned true at missing = refl
 turned false at missing = refl
 
 -- the rows of 50 behind the first, with any answer, are what a look finds
-looks-broken : {A : Type 0} (f : Looked → A) (ns : List ℕ) (x : ℕ)
-    → f (lookedIn ns x) ≡ cond (usedAfterUnused ns) (f L.Broken) (cond (heldTwice ns) (f L.Broken) (f (L.Sound (place_of 0 ns) (place_of x ns))))
-unfolding lookedIn
-looks-broken f ns x = go (usedAfterUnused ns) (heldTwice ns) (L.Sound (place_of 0 ns) (place_of x ns))
+looks_broken : {A : Type 0} (f : Looked → A) (ns : List ℕ) (x : ℕ)
+    → f (looked_in ns x) ≡ cond (used_after_unused ns) (f L.Broken) (cond (held_twice ns) (f L.Broken) (f (L.Sound (place_of 0 ns) (place_of x ns))))
+unfolding looked_in
+looks_broken f ns x = go (used_after_unused ns) (held_twice ns) (L.Sound (place_of 0 ns) (place_of x ns))
   where
     go : (gap twice : Bool) (sound : Looked) → f (cond (gap || twice) L.Broken sound) ≡ cond gap (f L.Broken) (cond twice (f L.Broken) (f sound))
     go true twice sound = refl
@@ -129,25 +129,25 @@ looks-broken f ns x = go (usedAfterUnused ns) (heldTwice ns) (L.Sound (place_of 
     go false false sound = refl
 
 -- the same of any answer that goes by a look, over 512 entries and below
-of-table : {A : Type 0} (broken : A) (f : Looked → ℕ → A) (ys : List Entry) (x : ℕ)
-    → cond (ltb most (length ys)) broken (f (lookedIn (take (length ys) (onto (numbersOf (take (boundedOf (length ys)) ys)) (replicate 512 0))) x) (length ys))
-    ≡ cond (ltb most (length ys)) broken (f (lookedIn (numbersOf ys) x) (length (numbersOf ys)))
-of-table broken f ys x =
-    by-test (ltb most (length ys))
+of_table : {A : Type 0} (broken : A) (f : Looked → ℕ → A) (ys : List Entry) (x : ℕ)
+    → cond (ltb most (length ys)) broken (f (looked_in (take (length ys) (onto (numbers_of (take (boundedOf (length ys)) ys)) (replicate 512 0))) x) (length ys))
+    ≡ cond (ltb most (length ys)) broken (f (looked_in (numbers_of ys) x) (length (numbers_of ys)))
+of_table broken f ys x =
+    by_test (ltb most (length ys))
     (λ l. rw l)
-    (λ g. rw g (rw (front-is ys (ltb-false most (length ys) g), numbers-length ys)))
+    (λ g. rw g (rw (front_is ys (ltb-false most (length ys) g), numbers_length ys)))
 
 module _ (ys : List Entry) (x : ℕ) where
-  pub answered : judged (onto (numbersOf (take (boundedOf (length ys)) ys)) (replicate 512 0)) (length ys) x ≡ indexed ys x
+  pub answered : judged (onto (numbers_of (take (boundedOf (length ys)) ys)) (replicate 512 0)) (length ys) x ≡ indexed ys x
   unfolding judged indexed
   answered =
-      let ns = numbersOf ys in
-      of-table (I.Refused TableBroken) (λ l n. indexedBy l n x) ys x
-      ∙ ap (cond (ltb most (length ys)) (I.Refused TableBroken)) (looks-broken (λ l. indexedBy l (length ns) x) ns x ∙ rw (held-is x ns, held-is 0 ns, reordered (holds x ns) (holds 0 ns) (I.Replaced (place_of x ns)) (I.Entered (place_of 0 ns)) (I.Refused TableFull)))
+      let ns = numbers_of ys in
+      of_table (I.Refused TableBroken) (λ l n. indexed_by l n x) ys x
+      ∙ ap (cond (ltb most (length ys)) (I.Refused TableBroken)) (looks_broken (λ l. indexed_by l (length ns) x) ns x ∙ rw (held_is x ns, held_is 0 ns, reordered (holds x ns) (holds 0 ns) (I.Replaced (place_of x ns)) (I.Entered (place_of 0 ns)) (I.Refused TableFull)))
 
-  pub sought-is : sought (onto (numbersOf (take (boundedOf (length ys)) ys)) (replicate 512 0)) (length ys) x ≡ found ys x
+  pub sought_is : sought (onto (numbers_of (take (boundedOf (length ys)) ys)) (replicate 512 0)) (length ys) x ≡ found ys x
   unfolding sought found
-  sought-is =
-      let ns = numbersOf ys in
-      of-table (F.Refused TableBroken) (λ l n. foundBy l n x) ys x
-      ∙ ap (cond (ltb most (length ys)) (F.Refused TableBroken)) (looks-broken (λ l. foundBy l (length ns) x) ns x ∙ rw (held-is x ns, turned (holds x ns) (F.At (place_of x ns)) F.Missing))
+  sought_is =
+      let ns = numbers_of ys in
+      of_table (F.Refused TableBroken) (λ l n. found_by l n x) ys x
+      ∙ ap (cond (ltb most (length ys)) (F.Refused TableBroken)) (looks_broken (λ l. found_by l (length ns) x) ns x ∙ rw (held_is x ns, turned (holds x ns) (F.At (place_of x ns)) F.Missing))

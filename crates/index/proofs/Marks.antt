@@ -11,9 +11,9 @@ use lib.Dec.{eqb, ltb}
 use lib.ListN.{length, drop, get_or, set, replicate, length-set}
 use lib.Pow.{pow_pos, pow-lt, pow-add, shl-shr}
 use lib.Seq.{get_or-set_same, get_or-set_other}
-use Rattle.words.proofs.Tests.{by-test}
-use Rattle.index.specs.Table.{isUsed, holds, heldTwice}
-use Rattle.index.proofs.Looks.{rest-is}
+use Rattle.words.proofs.Tests.{by_test}
+use Rattle.index.specs.Table.{is_used, holds, held_twice}
+use Rattle.index.proofs.Looks.{rest_is}
 
 -- ---- a bit of a number
 
@@ -21,18 +21,18 @@ use Rattle.index.proofs.Looks.{rest-is}
 both : (v w k : ℕ) → bit_or v w / 2 ^ k % 2 ≡ bit_or (v / 2 ^ k % 2) (w / 2 ^ k % 2)
 both v w k = ap (λ (n : ℕ). n % 2) (or_shr v w k) ∙ or_mod (v / 2 ^ k) (w / 2 ^ k) 1
 
-with-one : (x : ℕ) → x < 2 → bit_or x 1 ≡ 1
-with-one zero h = refl
-with-one (suc zero) h = refl
-with-one (suc (suc x)) h = absurd (omega arith)
+with_one : (x : ℕ) → x < 2 → bit_or x 1 ≡ 1
+with_one zero h = refl
+with_one (suc zero) h = refl
+with_one (suc (suc x)) h = absurd (omega arith)
 
 -- 2 ^ k has its bit k, and no other
-own-bit : (k : ℕ) → 2 ^ k / 2 ^ k % 2 ≡ 1
-own-bit k = ap (λ (n : ℕ). n % 2) (div_self (pow_pos k))
+own_bit : (k : ℕ) → 2 ^ k / 2 ^ k % 2 ≡ 1
+own_bit k = ap (λ (n : ℕ). n % 2) (div_self (pow_pos k))
 
-no-other-bit : (k j : ℕ) → (k ≡ j → ⊥) → 2 ^ k / 2 ^ j % 2 ≡ 0
-no-other-bit k j u =
-    by-test (ltb k j)
+no_other_bit : (k j : ℕ) → (k ≡ j → ⊥) → 2 ^ k / 2 ^ j % 2 ≡ 0
+no_other_bit k j u =
+    by_test (ltb k j)
     (λ e. ap (λ (n : ℕ). n % 2) (div-eq_of_lt (pow-lt (ltb-true k j e))))
     (λ e. above (omega (arith, ltb-false k j e)))
   where
@@ -47,10 +47,10 @@ no-other-bit k j u =
 
 -- a bit that is set is one, and the others stay
 set_here : (v k : ℕ) → bit_or v (2 ^ k) / 2 ^ k % 2 ≡ 1
-set_here v k = both v (2 ^ k) k ∙ ap (bit_or (v / 2 ^ k % 2)) (own-bit k) ∙ with-one (v / 2 ^ k % 2) (mod-lt (v / 2 ^ k) (omega arith))
+set_here v k = both v (2 ^ k) k ∙ ap (bit_or (v / 2 ^ k % 2)) (own_bit k) ∙ with_one (v / 2 ^ k % 2) (mod-lt (v / 2 ^ k) (omega arith))
 
 set_there : (v k j : ℕ) → (k ≡ j → ⊥) → bit_or v (2 ^ k) / 2 ^ j % 2 ≡ v / 2 ^ j % 2
-set_there v k j u = both v (2 ^ k) j ∙ ap (bit_or (v / 2 ^ j % 2)) (no-other-bit k j u) ∙ or_zero_r (v / 2 ^ j % 2)
+set_there v k j u = both v (2 ^ k) j ∙ ap (bit_or (v / 2 ^ j % 2)) (no_other_bit k j u) ∙ or_zero_r (v / 2 ^ j % 2)
 
 -- ---- the marks
 
@@ -62,24 +62,24 @@ marked marks y = eqb (get_or marks (y / 64) 0 / 2 ^ (y % 64) % 2) 1
 abbrev pub marking : List ℕ → ℕ → List ℕ
 marking marks n = set marks (n / 64) (bit_or (get_or marks (n / 64) 0) (2 ^ (n % 64)))
 
-pub as-many-marks : (marks : List ℕ) (n : ℕ) → length (marking marks n) ≡ length marks
-as-many-marks marks n = length-set marks (n / 64) (bit_or (get_or marks (n / 64) 0) (2 ^ (n % 64)))
+pub as_many_marks : (marks : List ℕ) (n : ℕ) → length (marking marks n) ≡ length marks
+as_many_marks marks n = length-set marks (n / 64) (bit_or (get_or marks (n / 64) 0) (2 ^ (n % 64)))
 
 -- marking n marks n, and no other number
-pub marks-it : (marks : List ℕ) (n : ℕ) → n / 64 < length marks → (y : ℕ) → marked (marking marks n) y ≡ (eqb n y || marked marks y)
-marks-it marks n h y =
-    by-test (eqb n y)
-    (λ e. rw (e, sym (eqb-true n y e)) (eq-eqb _ 1 (in-its-word (n % 64) ∙ set_here (get_or marks (n / 64) 0) (n % 64))))
-    (λ e. rw e (ap (λ (v : ℕ). eqb v 1) (by-test (eqb (y / 64) (n / 64)) (beside (eqb-false n y e)) elsewhere)))
+pub marks_it : (marks : List ℕ) (n : ℕ) → n / 64 < length marks → (y : ℕ) → marked (marking marks n) y ≡ (eqb n y || marked marks y)
+marks_it marks n h y =
+    by_test (eqb n y)
+    (λ e. rw (e, sym (eqb-true n y e)) (eq-eqb _ 1 (in_its_word (n % 64) ∙ set_here (get_or marks (n / 64) 0) (n % 64))))
+    (λ e. rw e (ap (λ (v : ℕ). eqb v 1) (by_test (eqb (y / 64) (n / 64)) (beside (eqb-false n y e)) elsewhere)))
   where
-    in-its-word : (j : ℕ) → get_or (marking marks n) (n / 64) 0 / 2 ^ j % 2 ≡ bit_or (get_or marks (n / 64) 0) (2 ^ (n % 64)) / 2 ^ j % 2
-    in-its-word j = ap (λ (v : ℕ). v / 2 ^ j % 2) (get_or-set_same marks (n / 64) (bit_or (get_or marks (n / 64) 0) (2 ^ (n % 64))) 0 h)
+    in_its_word : (j : ℕ) → get_or (marking marks n) (n / 64) 0 / 2 ^ j % 2 ≡ bit_or (get_or marks (n / 64) 0) (2 ^ (n % 64)) / 2 ^ j % 2
+    in_its_word j = ap (λ (v : ℕ). v / 2 ^ j % 2) (get_or-set_same marks (n / 64) (bit_or (get_or marks (n / 64) 0) (2 ^ (n % 64))) 0 h)
 
     -- another number of the same word has another bit
     beside : (n ≡ y → ⊥) → eqb (y / 64) (n / 64) ≡ true → get_or (marking marks n) (y / 64) 0 / 2 ^ (y % 64) % 2 ≡ get_or marks (y / 64) 0 / 2 ^ (y % 64) % 2
     beside u e =
         let same : y / 64 ≡ n / 64 = eqb-true (y / 64) (n / 64) e in
-        rw same (in-its-word (y % 64) ∙ set_there (get_or marks (n / 64) 0) (n % 64) (y % 64) (λ k. u (omega arith)))
+        rw same (in_its_word (y % 64) ∙ set_there (get_or marks (n / 64) 0) (n % 64) (y % 64) (λ k. u (omega arith)))
 
     elsewhere : eqb (y / 64) (n / 64) ≡ false → get_or (marking marks n) (y / 64) 0 / 2 ^ (y % 64) % 2 ≡ get_or marks (y / 64) 0 / 2 ^ (y % 64) % 2
     elsewhere e =
@@ -90,18 +90,18 @@ marks-it marks n h y =
 -- a used number of these is marked, or stands among them a second time
 unfoldable pub again : (ℕ → Bool) → List ℕ → Bool
 again P [] = false
-again P (n ∷ ns) = (isUsed n && P n) || again (λ y. (isUsed n && eqb n y) || P y) ns
+again P (n ∷ ns) = (is_used n && P n) || again (λ y. (is_used n && eqb n y) || P y) ns
 
-pub again-same : (P Q : ℕ → Bool) → ((y : ℕ) → P y ≡ Q y) → (ns : List ℕ) → again P ns ≡ again Q ns
+pub again_same : (P Q : ℕ → Bool) → ((y : ℕ) → P y ≡ Q y) → (ns : List ℕ) → again P ns ≡ again Q ns
 unfolding again
-again-same P Q h [] = refl
-again-same P Q h (n ∷ ns) =
-    rw (h n, again-same (λ y. (isUsed n && eqb n y) || P y) (λ y. (isUsed n && eqb n y) || Q y) (λ y. ap (λ (b : Bool). (isUsed n && eqb n y) || b) (h y)) ns)
+again_same P Q h [] = refl
+again_same P Q h (n ∷ ns) =
+    rw (h n, again_same (λ y. (is_used n && eqb n y) || P y) (λ y. (is_used n && eqb n y) || Q y) (λ y. ap (λ (b : Bool). (is_used n && eqb n y) || b) (h y)) ns)
 
 -- a used number of these is marked
-anyMarked : (ℕ → Bool) → List ℕ → Bool
-anyMarked P [] = false
-anyMarked P (n ∷ ns) = (isUsed n && P n) || anyMarked P ns
+any_marked : (ℕ → Bool) → List ℕ → Bool
+any_marked P [] = false
+any_marked P (n ∷ ns) = (is_used n && P n) || any_marked P ns
 
 -- truth values, for the steps below
 same_number : (u p held any : Bool) → ((u && ((u && true) || p)) || ((u && held) || any)) ≡ ((u && (true || held)) || ((u && p) || any))
@@ -113,9 +113,9 @@ swapped true true c = refl
 swapped true false c = refl
 swapped false b c = refl
 
-other-number : (u w p held any : Bool) → ((w && ((u && false) || p)) || ((u && held) || any)) ≡ ((u && (false || held)) || ((w && p) || any))
-other-number false w p held any = refl
-other-number true w p held any = swapped (w && p) held any
+other_number : (u w p held any : Bool) → ((w && ((u && false) || p)) || ((u && held) || any)) ≡ ((u && (false || held)) || ((w && p) || any))
+other_number false w p held any = refl
+other_number true w p held any = swapped (w && p) held any
 
 regrouped : (p held any twice : Bool) → (p || ((held || any) || twice)) ≡ ((p || any) || (held || twice))
 regrouped true held any twice = refl
@@ -124,33 +124,33 @@ regrouped false true false twice = refl
 regrouped false false any twice = refl
 
 -- with the mark of n: one is marked, or n is among them
-one_more : (P : ℕ → Bool) (n : ℕ) (ms : List ℕ) → anyMarked (λ y. (isUsed n && eqb n y) || P y) ms ≡ ((isUsed n && holds n ms) || anyMarked P ms)
-unfolding holds anyMarked
-one_more P n [] = sym (ap (λ (b : Bool). b || false) (and-false (isUsed n)))
+one_more : (P : ℕ → Bool) (n : ℕ) (ms : List ℕ) → any_marked (λ y. (is_used n && eqb n y) || P y) ms ≡ ((is_used n && holds n ms) || any_marked P ms)
+unfolding holds any_marked
+one_more P n [] = sym (ap (λ (b : Bool). b || false) (and-false (is_used n)))
 one_more P n (m ∷ ms) =
-    ap (λ (b : Bool). (isUsed m && ((isUsed n && eqb n m) || P m)) || b) (one_more P n ms)
-    ∙ by-test (eqb m n)
-    (λ e. rw (sym (eqb-true m n e), eq-eqb m m refl) (same_number (isUsed m) (P m) (holds m ms) (anyMarked P ms)))
+    ap (λ (b : Bool). (is_used m && ((is_used n && eqb n m) || P m)) || b) (one_more P n ms)
+    ∙ by_test (eqb m n)
+    (λ e. rw (sym (eqb-true m n e), eq-eqb m m refl) (same_number (is_used m) (P m) (holds m ms) (any_marked P ms)))
     (λ e.
     rw
     (e, ne_eqb n m (λ same. eqb-false m n e (sym same)))
-    (other-number (isUsed n) (isUsed m) (P m) (holds n ms) (anyMarked P ms)))
+    (other_number (is_used n) (is_used m) (P m) (holds n ms) (any_marked P ms)))
 
-again-is : (P : ℕ → Bool) (ns : List ℕ) → again P ns ≡ (anyMarked P ns || heldTwice ns)
-unfolding heldTwice again anyMarked
-again-is P [] = refl
-again-is P (n ∷ ns) =
-    ap (λ (b : Bool). (isUsed n && P n) || b) (again-is (λ y. (isUsed n && eqb n y) || P y) ns ∙ ap (λ (b : Bool). b || heldTwice ns) (one_more P n ns))
-    ∙ regrouped (isUsed n && P n) (isUsed n && holds n ns) (anyMarked P ns) (heldTwice ns)
+again_is : (P : ℕ → Bool) (ns : List ℕ) → again P ns ≡ (any_marked P ns || held_twice ns)
+unfolding held_twice again any_marked
+again_is P [] = refl
+again_is P (n ∷ ns) =
+    ap (λ (b : Bool). (is_used n && P n) || b) (again_is (λ y. (is_used n && eqb n y) || P y) ns ∙ ap (λ (b : Bool). b || held_twice ns) (one_more P n ns))
+    ∙ regrouped (is_used n && P n) (is_used n && holds n ns) (any_marked P ns) (held_twice ns)
 
-none-marked : (ns : List ℕ) → anyMarked (λ _. false) ns ≡ false
-unfolding anyMarked
-none-marked [] = refl
-none-marked (n ∷ ns) = rw (and-false (isUsed n)) (none-marked ns)
+none_marked : (ns : List ℕ) → any_marked (λ _. false) ns ≡ false
+unfolding any_marked
+none_marked [] = refl
+none_marked (n ∷ ns) = rw (and-false (is_used n)) (none_marked ns)
 
 -- with no mark at first, that is a number held twice
-pub again-twice : (ns : List ℕ) → again (λ _. false) ns ≡ heldTwice ns
-again-twice ns = again-is (λ _. false) ns ∙ ap (λ (b : Bool). b || heldTwice ns) (none-marked ns)
+pub again_twice : (ns : List ℕ) → again (λ _. false) ns ≡ held_twice ns
+again_twice ns = again_is (λ _. false) ns ∙ ap (λ (b : Bool). b || held_twice ns) (none_marked ns)
 
 -- ---- step by step, at a place of the numbers
 
@@ -160,29 +160,29 @@ fresh (suc k) zero = refl
 fresh (suc k) (suc i) = fresh k i
 
 -- before the first step nothing is marked
-pub none_yet : (s : List ℕ) (k : ℕ) → heldTwice s ≡ again (marked (replicate k 0)) s
+pub none_yet : (s : List ℕ) (k : ℕ) → held_twice s ≡ again (marked (replicate k 0)) s
 none_yet s k =
-    sym (again-same (marked (replicate k 0)) (λ _. false) (λ y. ap (λ (v : ℕ). eqb (v / 2 ^ (y % 64) % 2) 1) (fresh k (y / 64)) ∙ ap (λ (v : ℕ). eqb (v % 2) 1) (zero-div (2 ^ (y % 64)))) s ∙ again-twice s)
+    sym (again_same (marked (replicate k 0)) (λ _. false) (λ y. ap (λ (v : ℕ). eqb (v / 2 ^ (y % 64) % 2) 1) (fresh k (y / 64)) ∙ ap (λ (v : ℕ). eqb (v % 2) 1) (zero-div (2 ^ (y % 64)))) s ∙ again_twice s)
 
 module _ (s : List ℕ) (i : ℕ) (h : i < length s) (marks : List ℕ) (x : ℕ) (is : x ≡ get_or s i 0) where
-  at-it : again (marked marks) (drop i s) ≡ again (marked marks) (x ∷ drop (i + 1) s)
-  at-it = ap (again (marked marks)) (rest-is s i h ∙ ap (λ (n : ℕ). n ∷ drop (i + 1) s) (sym is))
+  at_it : again (marked marks) (drop i s) ≡ again (marked marks) (x ∷ drop (i + 1) s)
+  at_it = ap (again (marked marks)) (rest_is s i h ∙ ap (λ (n : ℕ). n ∷ drop (i + 1) s) (sym is))
 
-  pub second-time : (x ≡ 0 → ⊥) → marked marks x ≡ true → again (marked marks) (drop i s) ≡ true
+  pub second_time : (x ≡ 0 → ⊥) → marked marks x ≡ true → again (marked marks) (drop i s) ≡ true
   unfolding again
-  second-time u e = at-it ∙ rw (ne_eqb x 0 u, e)
+  second_time u e = at_it ∙ rw (ne_eqb x 0 u, e)
 
-  pub first-time : (x ≡ 0 → ⊥) → marked marks x ≡ false → x / 64 < length marks
+  pub first_time : (x ≡ 0 → ⊥) → marked marks x ≡ false → x / 64 < length marks
       → again (marked marks) (drop i s) ≡ again (marked (marking marks x)) (drop (i + 1) s)
   unfolding again
-  first-time u e room =
-      at-it
-      ∙ rw (ne_eqb x 0 u, e) (again-same (λ y. eqb x y || marked marks y) (marked (marking marks x)) (λ y. sym (marks-it marks x room y)) (drop (i + 1) s))
+  first_time u e room =
+      at_it
+      ∙ rw (ne_eqb x 0 u, e) (again_same (λ y. eqb x y || marked marks y) (marked (marking marks x)) (λ y. sym (marks_it marks x room y)) (drop (i + 1) s))
 
   pub passed : x ≡ 0 → again (marked marks) (drop i s) ≡ again (marked marks) (drop (i + 1) s)
   unfolding again
-  passed e = at-it ∙ rw (eq-eqb x 0 e)
+  passed e = at_it ∙ rw (eq-eqb x 0 e)
 
-pub met-none : (P : ℕ → Bool) → again P [] ≡ false
+pub met_none : (P : ℕ → Bool) → again P [] ≡ false
 unfolding again
-met-none P = refl
+met_none P = refl

@@ -3,15 +3,15 @@
 -- Definitions only.
 use Rattle.std.specs.Prelude.{ℕ, cond, List, [], ◌∷◌, ◌++◌, map, eqb, length, take, drop}
 use Rattle.reports.specs.declared.RunAnswer.{RunAnswer}
-use Rattle.lines.specs.Line.{whatOf}
+use Rattle.lines.specs.Line.{what_of}
 use Rattle.lines.specs.Stretches.{Run, runs}
 use Rattle.index.specs.declared.Entry.{Entry}
 use Rattle.index.specs.declared.Indexed.{Indexed}
 use Rattle.index.specs.declared.Indexed.TheVariants as I
 use Rattle.index.specs.declared.Found.{Found}
 use Rattle.index.specs.declared.Found.TheVariants as F
-use Rattle.index.specs.Entries.{uncorrelated, number_in, kindIn}
-use Rattle.index.specs.Indexing.{indexed, leftBy}
+use Rattle.index.specs.Entries.{uncorrelated, number_in, kind_in}
+use Rattle.index.specs.Indexing.{indexed, left_as}
 
 -- ---- worked out afresh
 
@@ -44,19 +44,19 @@ latest n (e ∷ later) = cond (eqb e.number n) (last_of e later ∷ []) (latest 
 -- the table after calls one after the other, each with what an outcome brings
 unfoldable pub after : List Entry → List Entry → List Entry
 after table [] = table
-after table (e ∷ es) = after (leftBy (indexed table e.number) table e) es
+after table (e ∷ es) = after (left_as (indexed table e.number) table e) es
 
 -- e in front of es, unless its call was refused
-abbrev pub unlessRefused : Indexed → Entry → List Entry → List Entry
-unlessRefused (I.Entered i) e es = e ∷ es
-unlessRefused (I.Replaced i) e es = e ∷ es
-unlessRefused I.Left e es = e ∷ es
-unlessRefused (I.Refused q) e es = es
+abbrev pub unless_refused : Indexed → Entry → List Entry → List Entry
+unless_refused (I.Entered i) e es = e ∷ es
+unless_refused (I.Replaced i) e es = e ∷ es
+unless_refused I.Left e es = e ∷ es
+unless_refused (I.Refused q) e es = es
 
 -- of what the calls bring, that of the calls that were not refused
-unfoldable pub notRefused : List Entry → List Entry → List Entry
-notRefused table [] = []
-notRefused table (e ∷ es) = unlessRefused (indexed table e.number) e (notRefused (leftBy (indexed table e.number) table e) es)
+unfoldable pub not_refused : List Entry → List Entry → List Entry
+not_refused table [] = []
+not_refused table (e ∷ es) = unless_refused (indexed table e.number) e (not_refused (left_as (indexed table e.number) table e) es)
 
 -- the entry that is found: one, or none
 abbrev pub shown : Found → List Entry → List Entry
@@ -67,11 +67,11 @@ shown (F.Refused q) table = []
 -- ---- a line
 
 -- what each run of a line brings, by its words and its place: a run that is refused brings number 0
-abbrev pub broughtBy : (List ℕ → RunAnswer) → ℕ → Run → Entry
-broughtBy answer scan r =
-    let what = whatOf (answer r.words) in
-    record { number = number_in what; kind = kindIn what; scan = scan; place = r.place }
+abbrev pub brought_by : (List ℕ → RunAnswer) → ℕ → Run → Entry
+brought_by answer scan r =
+    let what = what_of (answer r.words) in
+    record { number = number_in what; kind = kind_in what; scan = scan; place = r.place }
 
 -- what the runs of a line bring, in order
-abbrev pub reportsOf : (List ℕ → RunAnswer) → ℕ → List ℕ → List Entry
-reportsOf answer scan line = map (broughtBy answer scan) (runs line)
+abbrev pub reports_of : (List ℕ → RunAnswer) → ℕ → List ℕ → List Entry
+reports_of answer scan line = map (brought_by answer scan) (runs line)

@@ -9,16 +9,16 @@ use Rattle.index.specs.declared.Found.{Found}
 use Rattle.index.specs.declared.Found.TheVariants as F
 use Rattle.index.specs.declared.IndexRefusal.TheVariants.{TableBroken, TableFull}
 use Rattle.index.specs.Entries.{uncorrelated}
-use Rattle.index.specs.Table.{numbersOf, holds, place_of, brokenRows}
+use Rattle.index.specs.Table.{numbers_of, holds, place_of, broken_rows}
 
 -- ---- a report is entered
 
 -- the rows, in order: 50; a number that is never entered; 51, "table full and a number other than 0 not in it"
-abbrev pub enterRows : List Entry → ℕ → List (Row Indexed)
-enterRows table x =
-    brokenRows (I.Refused TableBroken) table
+abbrev pub enter_rows : List Entry → ℕ → List (Row Indexed)
+enter_rows table x =
+    broken_rows (I.Refused TableBroken) table
     ++ (row (eqb x uncorrelated) I.Left
-    ∷ row (not (holds x (numbersOf table) || holds uncorrelated (numbersOf table))) (I.Refused TableFull)
+    ∷ row (not (holds x (numbers_of table) || holds uncorrelated (numbers_of table))) (I.Refused TableFull)
     ∷ [])
 
 -- "a new number takes the first unused one. A later report replaces the earlier in its entry."
@@ -27,27 +27,27 @@ taken numbers x = cond (holds x numbers) (I.Replaced (place_of x numbers)) (I.En
 
 -- the answer: these rows, and where none holds, the entry that is taken
 unfoldable pub indexed : List Entry → ℕ → Indexed
-indexed table x = first_of (enterRows table x) (taken (numbersOf table) x)
+indexed table x = first_of (enter_rows table x) (taken (numbers_of table) x)
 
 -- the table after an answer: the report is in its entry, and all others are as they were
-abbrev pub leftBy : Indexed → List Entry → Entry → List Entry
-leftBy (I.Entered i) table e = set table i e
-leftBy (I.Replaced i) table e = set table i e
-leftBy I.Left table e = table
-leftBy (I.Refused q) table e = table
+abbrev pub left_as : Indexed → List Entry → Entry → List Entry
+left_as (I.Entered i) table e = set table i e
+left_as (I.Replaced i) table e = set table i e
+left_as I.Left table e = table
+left_as (I.Refused q) table e = table
 
 -- what the call with a table and what an outcome brings promises
 pub record Indexes (table : List Entry) (e : Entry) (answer : Indexed) (exit : List Entry) : Type 0 where
   pub answers : answer ≡ indexed table e.number
-  pub leaves : exit ≡ leftBy (indexed table e.number) table e
+  pub leaves : exit ≡ left_as (indexed table e.number) table e
 
 -- ---- a number's entry is found
 
 -- the rows, in order: 50; 0 is no number of an entry; a number that is not in the table
-abbrev pub findRows : List Entry → ℕ → List (Row Found)
-findRows table x =
-    brokenRows (F.Refused TableBroken) table
-    ++ (row (eqb x uncorrelated) F.Missing ∷ row (not (holds x (numbersOf table))) F.Missing ∷ [])
+abbrev pub find_rows : List Entry → ℕ → List (Row Found)
+find_rows table x =
+    broken_rows (F.Refused TableBroken) table
+    ++ (row (eqb x uncorrelated) F.Missing ∷ row (not (holds x (numbers_of table))) F.Missing ∷ [])
 
 unfoldable pub found : List Entry → ℕ → Found
-found table x = first_of (findRows table x) (F.At (place_of x (numbersOf table)))
+found table x = first_of (find_rows table x) (F.At (place_of x (numbers_of table)))

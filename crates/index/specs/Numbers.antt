@@ -3,8 +3,8 @@ use Rattle.std.specs.Prelude.{ℕ}
 use Rattle.index.specs.declared.IndexRefusal.{IndexRefusal}
 use Rattle.index.specs.declared.IndexRefusal.TheVariants as R
 
-abbrev pub indexNumber : IndexRefusal → ℕ
+abbrev pub index_number : IndexRefusal → ℕ
 -- table over 512, a used entry after an unused one, or a number held twice
-indexNumber R.TableBroken = 50
+index_number R.TableBroken = 50
 -- table full and a number other than 0 not in it
-indexNumber R.TableFull = 51
+index_number R.TableFull = 51

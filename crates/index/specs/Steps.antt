@@ -9,7 +9,7 @@ use Rattle.index.specs.declared.IndexRefusal.TheVariants.{TableBroken, TableFull
 use Rattle.index.specs.declared.judging.Looked.{Looked}
 use Rattle.index.specs.declared.judging.Looked.TheVariants as L
 use Rattle.index.specs.Entries.{uncorrelated}
-use Rattle.index.specs.Table.{most, place_of, usedAfterUnused, heldTwice}
+use Rattle.index.specs.Table.{most, place_of, used_after_unused, held_twice}
 
 -- an unused entry: what a look beyond the end of a table gives
 abbrev pub blank : Entry
@@ -26,19 +26,19 @@ abbrev pub bounded : ℕ → ℕ
 bounded n = cond (ltb n most) n most
 
 -- what a look at the numbers of a table finds
-unfoldable pub lookedIn : List ℕ → ℕ → Looked
-lookedIn ns x = cond (usedAfterUnused ns || heldTwice ns) L.Broken (L.Sound (place_of uncorrelated ns) (place_of x ns))
+unfoldable pub looked_in : List ℕ → ℕ → Looked
+looked_in ns x = cond (used_after_unused ns || held_twice ns) L.Broken (L.Sound (place_of uncorrelated ns) (place_of x ns))
 
 -- ---- entering, into a table of n entries
 
-abbrev pub indexedBy : Looked → ℕ → ℕ → Indexed
-indexedBy L.Broken n x = I.Refused TableBroken
-indexedBy (L.Sound free at) n x =
+abbrev pub indexed_by : Looked → ℕ → ℕ → Indexed
+indexed_by L.Broken n x = I.Refused TableBroken
+indexed_by (L.Sound free at) n x =
     cond (eqb x uncorrelated) I.Left (cond (ltb at n) (I.Replaced at) (cond (ltb free n) (I.Entered free) (I.Refused TableFull)))
 
 -- the first n of an array are the numbers of the table
 unfoldable pub judged : List ℕ → ℕ → ℕ → Indexed
-judged ns n x = cond (ltb most n) (I.Refused TableBroken) (indexedBy (lookedIn (take n ns) x) n x)
+judged ns n x = cond (ltb most n) (I.Refused TableBroken) (indexed_by (looked_in (take n ns) x) n x)
 
 -- where the entry is stored: beyond every table where it is not
 abbrev pub nowhere : ℕ
@@ -52,9 +52,9 @@ spot_of (I.Refused q) = nowhere
 
 -- ---- finding, in a table of n entries
 
-abbrev pub foundBy : Looked → ℕ → ℕ → Found
-foundBy L.Broken n x = F.Refused TableBroken
-foundBy (L.Sound free at) n x = cond (eqb x uncorrelated) F.Missing (cond (ltb at n) (F.At at) F.Missing)
+abbrev pub found_by : Looked → ℕ → ℕ → Found
+found_by L.Broken n x = F.Refused TableBroken
+found_by (L.Sound free at) n x = cond (eqb x uncorrelated) F.Missing (cond (ltb at n) (F.At at) F.Missing)
 
 unfoldable pub sought : List ℕ → ℕ → ℕ → Found
-sought ns n x = cond (ltb most n) (F.Refused TableBroken) (foundBy (lookedIn (take n ns) x) n x)
+sought ns n x = cond (ltb most n) (F.Refused TableBroken) (found_by (looked_in (take n ns) x) n x)

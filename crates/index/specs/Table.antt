@@ -10,18 +10,18 @@ abbrev pub most : ℕ
 most = 512
 
 -- the file numbers of the entries, in order
-unfoldable pub numbersOf : List Entry → List ℕ
-numbersOf [] = []
-numbersOf (e ∷ es) = e.number ∷ numbersOf es
+unfoldable pub numbers_of : List Entry → List ℕ
+numbers_of [] = []
+numbers_of (e ∷ es) = e.number ∷ numbers_of es
 
 -- an entry is used exactly when its number is not 0
-abbrev pub isUsed : ℕ → Bool
-isUsed n = not (eqb n uncorrelated)
+abbrev pub is_used : ℕ → Bool
+is_used n = not (eqb n uncorrelated)
 
 -- one of the numbers is a used entry's
-unfoldable pub anyUsed : List ℕ → Bool
-anyUsed [] = false
-anyUsed (n ∷ ns) = isUsed n || anyUsed ns
+unfoldable pub any_used : List ℕ → Bool
+any_used [] = false
+any_used (n ∷ ns) = is_used n || any_used ns
 
 -- a number is among the numbers
 unfoldable pub holds : ℕ → List ℕ → Bool
@@ -34,29 +34,29 @@ place_of x [] = 0
 place_of x (n ∷ ns) = cond (eqb n x) 0 (suc (place_of x ns))
 
 -- the entries in front of the first unused one
-abbrev pub usedIn : List Entry → List Entry
-usedIn table = take (place_of uncorrelated (numbersOf table)) table
+abbrev pub used_in : List Entry → List Entry
+used_in table = take (place_of uncorrelated (numbers_of table)) table
 
 -- ---- 50
 
 -- "a used entry after an unused one"
-unfoldable pub usedAfterUnused : List ℕ → Bool
-usedAfterUnused [] = false
-usedAfterUnused (n ∷ ns) = (not (isUsed n) && anyUsed ns) || usedAfterUnused ns
+unfoldable pub used_after_unused : List ℕ → Bool
+used_after_unused [] = false
+used_after_unused (n ∷ ns) = (not (is_used n) && any_used ns) || used_after_unused ns
 
 -- "a number held twice"
-unfoldable pub heldTwice : List ℕ → Bool
-heldTwice [] = false
-heldTwice (n ∷ ns) = (isUsed n && holds n ns) || heldTwice ns
+unfoldable pub held_twice : List ℕ → Bool
+held_twice [] = false
+held_twice (n ∷ ns) = (is_used n && holds n ns) || held_twice ns
 
 -- the rows of 50, with any answer: "table over 512, a used entry after an unused one, or a number held twice"
-abbrev pub brokenRows : {A : Type 0} → A → List Entry → List (Row A)
-brokenRows broken table =
+abbrev pub broken_rows : {A : Type 0} → A → List Entry → List (Row A)
+broken_rows broken table =
     row (ltb most (length table)) broken
-    ∷ row (usedAfterUnused (numbersOf table)) broken
-    ∷ row (heldTwice (numbersOf table)) broken
+    ∷ row (used_after_unused (numbers_of table)) broken
+    ∷ row (held_twice (numbers_of table)) broken
     ∷ []
 
 -- one of them holds
-abbrev pub isBroken : List Entry → Bool
-isBroken table = first_of (brokenRows true table) false
+abbrev pub is_broken : List Entry → Bool
+is_broken table = first_of (broken_rows true table) false

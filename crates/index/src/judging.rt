@@ -3,8 +3,8 @@
 // Relies on the definitions of specs/Table.antt and specs/Indexing.antt.
 ghost use Rattle.std.specs.Prelude.{◌≡◌, ◌++◌, ◌≤◌, ◌<◌, ◌/◌, ◌%◌, ◌^◌, eqb, length, take, drop, replicate};
 ghost use Rattle.std.specs.Int.Bits.{bit_or};
-ghost use Rattle.index.specs.Table.{most, place_of, anyUsed, heldTwice};
-ghost use Rattle.index.specs.Steps.{bounded as boundedOf, lookedIn, indexedBy, judged, spot_of, foundBy, sought};
+ghost use Rattle.index.specs.Table.{most, place_of, any_used, held_twice};
+ghost use Rattle.index.specs.Steps.{bounded as boundedOf, looked_in, indexed_by, judged, spot_of, found_by, sought};
 
 use crate::{Entry, Found, IndexRefusal, Indexed, MOST, UNCORRELATED};
 
@@ -43,7 +43,7 @@ fn seek(s: &[u16], x: u16) -> usize
 // Whether a used entry stands at a position or behind it.
 fn used_from(s: &[u16], from: usize) -> bool
     requires { from ≤ length s.now }
-    ensures { result ≡ anyUsed (drop from s.now) }
+    ensures { result ≡ any_used (drop from s.now) }
 {
     let mut i = from;
     while i < s.len() {
@@ -88,7 +88,7 @@ fn with_mark(marks: u64, k: usize) -> u64
 // Whether a number other than 0 stands twice. All marks are clear at first; a number that is marked when it is met stands there a second time. So each
 // number is looked at once, whatever the others are.
 fn doubled(s: &[u16]) -> bool
-    ensures { result ≡ heldTwice s.now }
+    ensures { result ≡ held_twice s.now }
 {
     let mut marks = [0u64; WORDS];
     let mut i = 0;
@@ -119,7 +119,7 @@ pub enum Looked {
 }
 
 fn look(s: &[u16], x: u16) -> Looked
-    ensures { result ≡ lookedIn s.now x }
+    ensures { result ≡ looked_in s.now x }
 {
     let free = seek(s, UNCORRELATED);
     if used_from(s, free) {
@@ -137,7 +137,7 @@ fn look(s: &[u16], x: u16) -> Looked
 // What entering number x into a table of n entries answers.
 fn answer_enter(looked: Looked, n: usize, x: u16) -> Indexed
     requires { n ≤ most }
-    ensures { result ≡ indexedBy looked n x }
+    ensures { result ≡ indexed_by looked n x }
 {
     match looked {
         Looked::Broken => Indexed::Refused(IndexRefusal::TableBroken),
@@ -184,7 +184,7 @@ pub fn spot(answer: Indexed) -> usize
 // What looking for number x in a table of n entries answers.
 fn answer_find(looked: Looked, n: usize, x: u16) -> Found
     requires { n ≤ most }
-    ensures { result ≡ foundBy looked n x }
+    ensures { result ≡ found_by looked n x }
 {
     match looked {
         Looked::Broken => Found::Refused(IndexRefusal::TableBroken),

@@ -2,7 +2,7 @@
 // enters what an outcome brings, or finds a number's entry. Here are the types, the refusals and the limit.
 // Relies on lines for the outcome and reports for kinds; specs/Indexing.antt says what a call answers and what the table then holds.
 ghost use Rattle.std.specs.Prelude.{◌≡◌};
-ghost use Rattle.index.specs.Numbers.{indexNumber};
+ghost use Rattle.index.specs.Numbers.{index_number};
 
 mod judging; // judging.rt: what the numbers of a table say
 mod table; // table.rt: the lent table, read and written
@@ -35,7 +35,7 @@ pub enum IndexRefusal {
 
 impl IndexRefusal {
     pub fn number(self) -> u8
-        ensures { result ≡ indexNumber self }
+        ensures { result ≡ index_number self }
     {
         match self {
             IndexRefusal::TableBroken => 50,

@@ -1,14 +1,14 @@
 // What an outcome brings to the index: the file number of an ATCRBS, MTD or RDAS report, and number 0 for every other outcome.
 // Relies on lines and reports; specs/Entries.antt says which outcome brings what.
 ghost use Rattle.std.specs.Prelude.{◌≡◌};
-ghost use Rattle.index.specs.Entries.{fileOf, number_in, kindIn, entryOf};
+ghost use Rattle.index.specs.Entries.{file_of, number_in, kind_in, entry_of};
 
 use crate::{Entry, UNCORRELATED};
 use lines::{Outcome, What};
 use reports::{Report, kinds};
 
 fn file_of(report: Report) -> u16
-    ensures { result ≡ fileOf report }
+    ensures { result ≡ file_of report }
 {
     match report {
         Report::Atcrbs(a) => a.file,
@@ -34,7 +34,7 @@ fn number_in(what: What) -> u16
 }
 
 fn kind_in(what: What) -> u16
-    ensures { result ≡ kindIn what }
+    ensures { result ≡ kind_in what }
 {
     match what {
         What::Accepted(report) => kinds::kind_of(report).number() as u16,
@@ -44,7 +44,7 @@ fn kind_in(what: What) -> u16
 }
 
 pub fn entry_of(o: Outcome, scan: u32) -> Entry
-    ensures { result ≡ entryOf o scan }
+    ensures { result ≡ entry_of o scan }
 {
     let what = o.what;
     let number = number_in(what);

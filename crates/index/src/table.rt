@@ -2,7 +2,7 @@
 // walks by hand, and there are few functions: one that reads the numbers of the entries, and one that writes an entry.
 // Relies on nothing else of the crate.
 ghost use Rattle.std.specs.Prelude.{◌≡◌, ◌≤◌, length, set, take};
-ghost use Rattle.index.specs.Table.{most, numbersOf};
+ghost use Rattle.index.specs.Table.{most, numbers_of};
 ghost use Rattle.index.specs.Steps.{onto};
 
 use crate::{Entry, MOST};
@@ -10,7 +10,7 @@ use crate::{Entry, MOST};
 // The numbers of the first n entries, put over the first of ns.
 pub fn numbers(table: &[Entry], n: usize, ns: [u16; MOST]) -> [u16; MOST]
     requires { (n ≤ length table.now) × (n ≤ most) }
-    ensures { result ≡ onto (numbersOf (take n table.now)) ns }
+    ensures { result ≡ onto (numbers_of (take n table.now)) ns }
 {
     let mut ns = ns;
     let mut i = 0;

@@ -4,7 +4,7 @@
 ghost use Rattle.std.specs.Prelude.{◌≡◌};
 ghost use Rattle.index.specs.Indexing.{found};
 ghost use Rattle.reports.specs.Altitude.{chosen};
-ghost use Rattle.index_host.specs.Calls.{answerNumber, foundNumber, fileNumber, entry_at, Enters};
+ghost use Rattle.index_host.specs.Calls.{answer_number, found_number, file_number, entry_at, Enters};
 
 use index::{Entry, Found, Indexed, entering, seen};
 use reports::altitude::Form;
@@ -24,7 +24,7 @@ const MISSING: u32 = 127;
 const STEP: u32 = 256;
 
 fn answer_number(answer: Indexed) -> u32
-    ensures { result ≡ answerNumber answer }
+    ensures { result ≡ answer_number answer }
 {
     match answer {
         Indexed::Entered(i) => ENTERED + STEP * (i as u32),
@@ -35,7 +35,7 @@ fn answer_number(answer: Indexed) -> u32
 }
 
 fn found_number(answer: Found) -> u32
-    ensures { result ≡ foundNumber answer }
+    ensures { result ≡ found_number answer }
 {
     match answer {
         Found::At(i) => FOUND + STEP * (i as u32),
@@ -77,14 +77,14 @@ pub extern "C" fn siamrung_index_enter(
 const NUMBERS: u32 = 65536;
 
 fn file_number(number: u32) -> u16
-    ensures { result ≡ fileNumber number }
+    ensures { result ≡ file_number number }
 {
     if number < NUMBERS { number as u16 } else { 0 }
 }
 
 #[unsafe(no_mangle)]
 pub extern "C" fn siamrung_index_find(table: &[Entry], number: u32) -> u32
-    ensures { result ≡ foundNumber (found table.now (fileNumber number)) }
+    ensures { result ≡ found_number (found table.now (file_number number)) }
 {
     let x = file_number(number);
     let answer = entering::find(table, x);

@@ -2,11 +2,11 @@
 // Relies on run for what a search stops at, what is remembered of a run, and its answer.
 ghost use Rattle.std.specs.Prelude.{◌≡◌, ◌*◌, ◌≤◌, ◌<◌, length, get_or};
 ghost use Rattle.reports.specs.Altitude.{form_of};
-ghost use Rattle.reports.specs.Runs.{readRun};
+ghost use Rattle.reports.specs.Runs.{read_run};
 ghost use Rattle.lines.specs.Line.{run_at};
-ghost use Rattle.lines.specs.Bytes.{words_in, readBytes};
-ghost use Rattle.lines.specs.Links.{readBytesOn};
-ghost use Rattle.line_reader.specs.Places.{Ended, RunPlaces, runWords};
+ghost use Rattle.lines.specs.Bytes.{words_in, read_bytes};
+ghost use Rattle.lines.specs.Links.{read_bytes_on};
+ghost use Rattle.line_reader.specs.Places.{Ended, RunPlaces, run_words};
 
 use crate::run::{Places, Stop, no_such_link, not_taken, stops};
 use lines::{LAST_LINK, MOST_BYTES, Outcome, Received};
@@ -72,7 +72,7 @@ fn places(bytes: &[u8], place: usize) -> Places
 // Word k of a run, 0 past its end.
 fn word(bytes: &[u8], run: Places, k: usize) -> u16
     requires { (run.first ≤ run.after) × (run.after ≤ length (words_in bytes.now)) }
-    ensures { result ≡ get_or (runWords (words_in bytes.now) run) k 0 }
+    ensures { result ≡ get_or (run_words (words_in bytes.now) run) k 0 }
 {
     let first = run.first;
     if k < run.after - first {
@@ -84,7 +84,7 @@ fn word(bytes: &[u8], run: Places, k: usize) -> u16
 // The answer to the run at a place, or behind the idle words there.
 fn run_at(bytes: &[u8], place: usize, form: Form) -> Outcome
     requires { place ≤ length (words_in bytes.now) }
-    ensures { result ≡ run_at (readRun (form_of form)) (words_in bytes.now) place }
+    ensures { result ≡ run_at (read_run (form_of form)) (words_in bytes.now) place }
 {
     let run = places(bytes, place);
     // a run with a fault is refused whatever its words hold, so they are not fetched
@@ -105,7 +105,7 @@ fn run_at(bytes: &[u8], place: usize, form: Form) -> Outcome
 
 // What is found at a place; altitudes are read in the form.
 fn found_at(bytes: &[u8], place: usize, form: Form) -> Outcome
-    ensures { result ≡ readBytes (form_of form) bytes.now place }
+    ensures { result ≡ read_bytes (form_of form) bytes.now place }
 {
     if MOST_BYTES < bytes.len() {
         return not_taken(LineRefusal::LineTooLong, place);
@@ -121,7 +121,7 @@ fn found_at(bytes: &[u8], place: usize, form: Form) -> Outcome
 
 // The answer at a place, with the number of the link that the line came on.
 pub fn read(bytes: &[u8], place: usize, form: Form, link: u32) -> Received
-    ensures { result ≡ readBytesOn (form_of form) link bytes.now place }
+    ensures { result ≡ read_bytes_on (form_of form) link bytes.now place }
 {
     if LAST_LINK < link {
         return no_such_link(place);

@@ -3,11 +3,11 @@
 // Relies on words for the tests of a word, report_reader for the answer to a run. specs/Places.antt says what each function computes.
 ghost use Rattle.std.specs.Prelude.{◌≡◌, [], ◌∷◌, ◌+◌, ◌≤◌, ◌<◌, ◌^◌};
 ghost use Rattle.reports.specs.Altitude.{form_of};
-ghost use Rattle.reports.specs.Runs.{answerOffset};
+ghost use Rattle.reports.specs.Runs.{answer_offset};
 ghost use Rattle.refusals.specs.declared.LineRefusal.TheVariants.{NoSuchLink};
-ghost use Rattle.lines.specs.Line.{placed, notTaken};
-ghost use Rattle.lines.specs.Links.{no_link, receivedOn};
-ghost use Rattle.line_reader.specs.Places.{stopsAt, answered};
+ghost use Rattle.lines.specs.Line.{placed, not_taken_at};
+ghost use Rattle.lines.specs.Links.{no_link, received_on};
+ghost use Rattle.line_reader.specs.Places.{stops_at, answered};
 
 use lines::{Outcome, Received, What};
 use refusals::LineRefusal;
@@ -36,7 +36,7 @@ pub struct Places {
 
 // Whether a search stops at a word.
 pub fn stops(stop: Stop, w: u16) -> bool
-    ensures { result ≡ stopsAt stop w }
+    ensures { result ≡ stops_at stop w }
 {
     match stop {
         Stop::NotIdle => !words::is_idle(w),
@@ -53,7 +53,7 @@ pub fn stops(stop: Stop, w: u16) -> bool
 
 // A link number, a line or a place that is not taken: the caller's place for all three.
 pub fn not_taken(why: LineRefusal, place: usize) -> Outcome
-    ensures { result ≡ notTaken why place }
+    ensures { result ≡ not_taken_at why place }
 {
     Outcome::new(What::Refused(why), place, place, place)
 }
@@ -63,14 +63,14 @@ const NO_LINK: u32 = 0;
 
 // A number that no link has.
 pub fn no_such_link(place: usize) -> Received
-    ensures { result ≡ receivedOn no_link (notTaken NoSuchLink place) }
+    ensures { result ≡ received_on no_link (not_taken_at NoSuchLink place) }
 {
     Received::new(NO_LINK, not_taken(LineRefusal::NoSuchLink, place))
 }
 
 // The answer to a run of n words, at its place in the line.
 fn set_at(first: usize, n: usize, answer: RunAnswer) -> Outcome
-    requires { (first + n < 2 ^ 64) × (answerOffset answer ≤ n) }
+    requires { (first + n < 2 ^ 64) × (answer_offset answer ≤ n) }
     ensures { result ≡ placed first n answer }
 {
     match answer {

@@ -2,10 +2,10 @@
 // Relies on run for what a search stops at, what is remembered of a run, and its answer.
 ghost use Rattle.std.specs.Prelude.{◌≡◌, ◌≤◌, ◌<◌, length, get_or};
 ghost use Rattle.reports.specs.Altitude.{form_of};
-ghost use Rattle.reports.specs.Runs.{readRun};
-ghost use Rattle.lines.specs.Line.{run_at, readAt};
+ghost use Rattle.reports.specs.Runs.{read_run};
+ghost use Rattle.lines.specs.Line.{run_at, read_at};
 ghost use Rattle.lines.specs.Links.{read_on};
-ghost use Rattle.line_reader.specs.Places.{Ended, RunPlaces, runWords};
+ghost use Rattle.line_reader.specs.Places.{Ended, RunPlaces, run_words};
 
 use crate::run::{Places, Stop, no_such_link, not_taken, stops};
 use lines::{LAST_LINK, MOST, Outcome, Received};
@@ -57,7 +57,7 @@ fn places(line: &[u16], place: usize) -> Places
 // Word k of a run, 0 past its end.
 fn word(line: &[u16], run: Places, k: usize) -> u16
     requires { (run.first ≤ run.after) × (run.after ≤ length line.now) }
-    ensures { result ≡ get_or (runWords line.now run) k 0 }
+    ensures { result ≡ get_or (run_words line.now run) k 0 }
 {
     let first = run.first;
     if k < run.after - first {
@@ -69,7 +69,7 @@ fn word(line: &[u16], run: Places, k: usize) -> u16
 // The answer to the run at a place, or behind the idle words there.
 fn run_at(line: &[u16], place: usize, form: Form) -> Outcome
     requires { place ≤ length line.now }
-    ensures { result ≡ run_at (readRun (form_of form)) line.now place }
+    ensures { result ≡ run_at (read_run (form_of form)) line.now place }
 {
     let run = places(line, place);
     // a run with a fault is refused whatever its words hold, so they are not fetched
@@ -90,7 +90,7 @@ fn run_at(line: &[u16], place: usize, form: Form) -> Outcome
 
 // What is found at a place; altitudes are read in the form.
 fn found_at(line: &[u16], place: usize, form: Form) -> Outcome
-    ensures { result ≡ readAt (form_of form) line.now place }
+    ensures { result ≡ read_at (form_of form) line.now place }
 {
     let n = line.len();
     if MOST < n {

@@ -10,8 +10,8 @@ use Rattle.words.specs.Word.{idle}
 use Rattle.lines.specs.declared.Wrote.TheVariants as W
 use Rattle.lines.specs.Bytes.{bytes_of}
 use Rattle.lines.specs.Claims.{put}
-use Rattle.lines.proofs.ByteWords.{bytes-length}
-use Rattle.lines.proofs.Puts.{put-put}
+use Rattle.lines.proofs.ByteWords.{bytes_length}
+use Rattle.lines.proofs.Puts.{put_put}
 use Rattle.line_writer.specs.Deciding.{Puts, PutsBytes}
 
 -- ---- a leaf's loop
@@ -28,8 +28,8 @@ fill_more part ws i h k =
 -- ---- a part that was lent and came back
 
 -- the part of a line from a place on
-part-is : (line : List ℕ) (place : ℕ) → take (length line - place) (drop place line) ≡ drop place line
-part-is line place = take_all (length line - place) (drop place line) (let n = length-drop place line in omega arith)
+part_is : (line : List ℕ) (place : ℕ) → take (length line - place) (drop place line) ≡ drop place line
+part_is line place = take_all (length line - place) (drop place line) (let n = length-drop place line in omega arith)
 
 pub put_back : (line : List ℕ) (place n : ℕ) (ws part : List ℕ) → length ws ≡ n
     → part ≡ ws ++ drop n (take (length line - place) (drop place line))
@@ -38,14 +38,14 @@ put_back line place n ws part z e =
     let d = length-drop place line in
     ap (λ (l : List ℕ). take place line ++ (part ++ l)) (drop_of_length-le (drop place line) {i = length line - place} (omega arith))
     ∙ ap (λ (l : List ℕ). take place line ++ l)
-    (append-nil part ∙ e ∙ ap (λ (l : List ℕ). ws ++ drop n l) (part-is line place) ∙ ap (λ (k : ℕ). ws ++ drop k (drop place line)) (sym z))
+    (append-nil part ∙ e ∙ ap (λ (l : List ℕ). ws ++ drop n l) (part_is line place) ∙ ap (λ (k : ℕ). ws ++ drop k (drop place line)) (sym z))
 
 -- ---- the bytes of words
 
-bytes-append : (ws vs : List ℕ) → bytes_of (ws ++ vs) ≡ bytes_of ws ++ bytes_of vs
+bytes_append : (ws vs : List ℕ) → bytes_of (ws ++ vs) ≡ bytes_of ws ++ bytes_of vs
 unfolding bytes_of
-bytes-append [] vs = refl
-bytes-append (w ∷ ws) vs = ap (λ (l : List ℕ). w / 256 % 256 ∷ w % 256 ∷ l) (bytes-append ws vs)
+bytes_append [] vs = refl
+bytes_append (w ∷ ws) vs = ap (λ (l : List ℕ). w / 256 % 256 ∷ w % 256 ∷ l) (bytes_append ws vs)
 
 -- ---- the leaf's loop: one word more is two bytes more
 
@@ -56,48 +56,48 @@ pair_set front x y a b rest n e =
     ∙ set_at (front ++ (a ∷ [])) y rest b (n + 1) (omega arith)
     ∙ append_snoc front a (b ∷ rest)
 
-two-left : (part : List ℕ) (n : ℕ) → n + 1 < length part → drop n part ≡ get_or part n 0 ∷ get_or part (n + 1) 0 ∷ drop (n + 2) part
-two-left part n h =
+two_left : (part : List ℕ) (n : ℕ) → n + 1 < length part → drop n part ≡ get_or part n 0 ∷ get_or part (n + 1) 0 ∷ drop (n + 2) part
+two_left part n h =
     let e : suc n ≡ n + 1 = omega arith in
     let f : suc (n + 1) ≡ n + 2 = omega arith in
     drop-cons part n 0 (omega arith)
     ∙ ap (λ (k : ℕ). get_or part n 0 ∷ drop k part) e
     ∙ ap (λ (l : List ℕ). get_or part n 0 ∷ l) (drop-cons part (n + 1) 0 h ∙ ap (λ (k : ℕ). get_or part (n + 1) 0 ∷ drop k part) f)
 
-pub pair-more : (part ws : List ℕ) (i : ℕ) → i * 2 + 1 < length part → i < length ws
+pub pair_more : (part ws : List ℕ) (i : ℕ) → i * 2 + 1 < length part → i < length ws
     → set (set (bytes_of (take i ws) ++ drop (i * 2) part) (i * 2) (get_or ws i 0 / 256 % 256)) (i * 2 + 1) (get_or ws i 0 % 256)
     ≡ bytes_of (take (i + 1) ws) ++ drop ((i + 1) * 2) part
 unfolding bytes_of
-pair-more part ws i h k =
+pair_more part ws i h k =
     let w = get_or ws i 0 in
     let front = bytes_of (take i ws) in
     let n : length (take i ws) ≡ i = length-take-le i ws (omega arith) in
-    let m : length front ≡ i * 2 = bytes-length (take i ws) ∙ ap (λ (j : ℕ). j * 2) n in
+    let m : length front ≡ i * 2 = bytes_length (take i ws) ∙ ap (λ (j : ℕ). j * 2) n in
     let rest = drop (i * 2 + 2) part in
     let more : take (i + 1) ws ≡ take i ws ++ (w ∷ []) = ap (λ (j : ℕ). take j ws) (add-one i) ∙ take-suc ws i 0 k in
-    ap (λ (l : List ℕ). set (set (front ++ l) (i * 2) (w / 256 % 256)) (i * 2 + 1) (w % 256)) (two-left part (i * 2) h)
+    ap (λ (l : List ℕ). set (set (front ++ l) (i * 2) (w / 256 % 256)) (i * 2 + 1) (w % 256)) (two_left part (i * 2) h)
     ∙ pair_set front (get_or part (i * 2) 0) (get_or part (i * 2 + 1) 0) (w / 256 % 256) (w % 256) rest (i * 2) m
     ∙ sym (append_assoc front (w / 256 % 256 ∷ w % 256 ∷ []) rest)
-    ∙ ap (λ (l : List ℕ). l ++ rest) (sym (bytes-append (take i ws) (w ∷ [])) ∙ ap bytes_of (sym more))
+    ∙ ap (λ (l : List ℕ). l ++ rest) (sym (bytes_append (take i ws) (w ∷ [])) ∙ ap bytes_of (sym more))
     ∙ ap (λ (j : ℕ). bytes_of (take (i + 1) ws) ++ drop j part) (let z : i * 2 + 2 ≡ (i + 1) * 2 = omega arith in z)
 
 -- ---- words and an idle word behind them
 
-pub puts-words : (line : List ℕ) (place n : ℕ) (ws exit : List ℕ) → length ws ≡ n → place ≤ length line
+pub puts_words : (line : List ℕ) (place n : ℕ) (ws exit : List ℕ) → length ws ≡ n → place ≤ length line
     → exit ≡ put (put line place ws) (place + n) (idle ∷ [])
     → Puts line place ws (W.Next (place + n + 1)) exit
-puts-words line place n ws exit e h f =
+puts_words line place n ws exit e h f =
     record {
       answers = ap (λ (k : ℕ). W.Next (place + k + 1)) (sym e);
-      leaves = f ∙ ap (λ (k : ℕ). put (put line place ws) (place + k) (idle ∷ [])) (sym e) ∙ put-put line place ws (idle ∷ []) h;
+      leaves = f ∙ ap (λ (k : ℕ). put (put line place ws) (place + k) (idle ∷ [])) (sym e) ∙ put_put line place ws (idle ∷ []) h;
     }
 
-pub puts-bytes : (bytes : List ℕ) (place n : ℕ) (ws exit : List ℕ) → length ws ≡ n → place * 2 ≤ length bytes
+pub puts_bytes : (bytes : List ℕ) (place n : ℕ) (ws exit : List ℕ) → length ws ≡ n → place * 2 ≤ length bytes
     → exit ≡ put (put bytes (place * 2) (bytes_of ws)) ((place + n) * 2) (bytes_of (idle ∷ []))
     → PutsBytes bytes place ws (W.Next (place + n + 1)) exit
 unfolding bytes_of
-puts-bytes bytes place n ws exit e h f =
-    let m = bytes-length ws in
+puts_bytes bytes place n ws exit e h f =
+    let m = bytes_length ws in
     let at : (place + n) * 2 ≡ place * 2 + length (bytes_of ws) = omega arith in
     let next : place * 2 + length (bytes_of ws) + 2 ≡ (place + length ws + 1) * 2 = omega arith in
     record {
@@ -105,9 +105,9 @@ puts-bytes bytes place n ws exit e h f =
       leaves =
           f
           ∙ ap (λ (k : ℕ). put (put bytes (place * 2) (bytes_of ws)) k (bytes_of (idle ∷ []))) at
-          ∙ put-put bytes (place * 2) (bytes_of ws) (bytes_of (idle ∷ [])) h
+          ∙ put_put bytes (place * 2) (bytes_of ws) (bytes_of (idle ∷ [])) h
           ∙ ap (λ (l : List ℕ). take (place * 2) bytes ++ l)
           (sym (append_assoc (bytes_of ws) (bytes_of (idle ∷ [])) (drop (place * 2 + length (bytes_of ws) + 2) bytes))
-          ∙ ap (λ (l : List ℕ). l ++ drop (place * 2 + length (bytes_of ws) + 2) bytes) (sym (bytes-append ws (idle ∷ []))))
+          ∙ ap (λ (l : List ℕ). l ++ drop (place * 2 + length (bytes_of ws) + 2) bytes) (sym (bytes_append ws (idle ∷ []))))
           ∙ ap (λ (k : ℕ). take (place * 2) bytes ++ (bytes_of (ws ++ (idle ∷ [])) ++ drop k bytes)) next;
     }

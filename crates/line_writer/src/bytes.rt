@@ -4,8 +4,8 @@ ghost use Rattle.std.specs.Prelude.{◌≡◌, ◌++◌, ◌+◌, ◌*◌, ◌/�
 ghost use Rattle.reports.specs.Altitude.{form_of};
 ghost use Rattle.words.specs.Word.{idle};
 ghost use Rattle.lines.specs.Bytes.{bytes_of};
-ghost use Rattle.lines.specs.ByteWriting.{writeBytes, WritesBytes};
-ghost use Rattle.line_writer.specs.Deciding.{byteAnswer, PutsBytes};
+ghost use Rattle.lines.specs.ByteWriting.{write_bytes, WritesBytes};
+ghost use Rattle.line_writer.specs.Deciding.{byte_answer, PutsBytes};
 
 use crate::deciding;
 use lines::{MOST_BYTES, Wrote};
@@ -62,7 +62,7 @@ fn put(bytes: &mut [u8], place: usize, ws: [u16; 7], n: usize) -> Wrote
 
 // The answer to so many bytes, a place and what a report was made into: rows 2 and 14, then those of every form.
 fn answer_to(size: usize, place: usize, made: Written) -> Wrote
-    ensures { result ≡ byteAnswer size place made }
+    ensures { result ≡ byte_answer size place made }
 {
     if MOST_BYTES < size {
         return Wrote::Refused(LineRefusal::LineTooLong, place);
@@ -75,7 +75,7 @@ fn answer_to(size: usize, place: usize, made: Written) -> Wrote
 
 // What `write` answers to the same arguments; nothing is written.
 pub fn answer(bytes: &[u8], place: usize, form: Form, report: Report) -> Wrote
-    ensures { result ≡ writeBytes (form_of form) bytes.now place report }
+    ensures { result ≡ write_bytes (form_of form) bytes.now place report }
 {
     let made = report_writer::words_of(report, form);
     answer_to(bytes.len(), place, made)

@@ -4,7 +4,7 @@ ghost use Rattle.std.specs.Prelude.{◌≡◌, ◌++◌, ◌+◌, ◌≤◌, ◌
 ghost use Rattle.reports.specs.Altitude.{form_of};
 ghost use Rattle.words.specs.Word.{idle};
 ghost use Rattle.lines.specs.Writing.{Writes};
-ghost use Rattle.line_writer.specs.Deciding.{wideAnswer, Puts};
+ghost use Rattle.line_writer.specs.Deciding.{wide_answer, Puts};
 
 use crate::deciding;
 use lines::{MOST, Wrote};
@@ -55,7 +55,7 @@ fn put(line: &mut [u16], place: usize, ws: [u16; 7], n: usize) -> Wrote
 
 // The answer to so many words, a place and what a report was made into: row 2, then those of every form.
 fn answer_to(size: usize, place: usize, made: Written) -> Wrote
-    ensures { result ≡ wideAnswer size place made }
+    ensures { result ≡ wide_answer size place made }
 {
     if MOST < size {
         return Wrote::Refused(LineRefusal::LineTooLong, place);

@@ -10,21 +10,21 @@ use lib.ListN.{length, get_or}
 use borrow.Author.Tests.{le-ltb, ne_eqb}
 use Rattle.words.proofs.Tests.{passed}
 use Rattle.lines.specs.Line.{most, read_by}
-use Rattle.lines.specs.Bytes.{mostBytes, words_in, bytes_of, readBytes}
-use Rattle.lines.specs.Writing.{writeAt}
-use Rattle.lines.specs.ByteWriting.{writeBytes}
+use Rattle.lines.specs.Bytes.{most_bytes, words_in, bytes_of, read_bytes}
+use Rattle.lines.specs.Writing.{write_at}
+use Rattle.lines.specs.ByteWriting.{write_bytes}
 use Rattle.lines.specs.Claims.{BytesAsWords}
 
-pub words-length : (bs : List ℕ) → length (words_in bs) ≡ length bs / 2
+pub words_length : (bs : List ℕ) → length (words_in bs) ≡ length bs / 2
 unfolding words_in
-words-length [] = refl
-words-length (a ∷ []) = refl
-words-length (a ∷ b ∷ bs) = let h = words-length bs in omega arith
+words_length [] = refl
+words_length (a ∷ []) = refl
+words_length (a ∷ b ∷ bs) = let h = words_length bs in omega arith
 
-pub bytes-length : (ws : List ℕ) → length (bytes_of ws) ≡ length ws * 2
+pub bytes_length : (ws : List ℕ) → length (bytes_of ws) ≡ length ws * 2
 unfolding bytes_of
-bytes-length [] = refl
-bytes-length (w ∷ ws) = let h = bytes-length ws in omega arith
+bytes_length [] = refl
+bytes_length (w ∷ ws) = let h = bytes_length ws in omega arith
 
 pub word_at : (bs : List ℕ) (i : ℕ) → i < length (words_in bs) → get_or (words_in bs) i 0 ≡ get_or bs (i * 2) 0 * 256 + get_or bs (i * 2 + 1) 0
 unfolding words_in
@@ -38,11 +38,11 @@ word_at (a ∷ b ∷ bs) (suc i) h =
     ∙ ap (λ (k : ℕ). get_or (a ∷ b ∷ bs) k 0 * 256 + get_or bs (i * 2 + 1) 0) (sym e)
     ∙ ap (λ (k : ℕ). get_or (a ∷ b ∷ bs) (suc i * 2) 0 * 256 + get_or (a ∷ b ∷ bs) k 0) (sym f)
 
-pub bytes-as-words : BytesAsWords
-unfolding read_by readBytes writeAt writeBytes
-bytes-as-words form bytes place r few even =
-    let n = words-length bytes in
-    let two = le-ltb mostBytes (length bytes) few in
+pub bytes_as_words : BytesAsWords
+unfolding read_by read_bytes write_at write_bytes
+bytes_as_words form bytes place r few even =
+    let n = words_length bytes in
+    let two = le-ltb most_bytes (length bytes) few in
     let fourteen : eqb (length bytes % 2) 1 ≡ false = ne_eqb (length bytes % 2) 1 (λ q. omega arith) in
     let words = le-ltb most (length (words_in bytes)) (omega arith) in (
       passed _ _ two ∙ passed _ _ fourteen ∙ sym (passed _ _ words),

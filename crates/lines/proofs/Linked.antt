@@ -13,142 +13,142 @@ use Rattle.rows.specs.Rows.{Row, first_of}
 use Rattle.rows.specs.Claims.{Refusing}
 use Rattle.rows.proofs.Claims.{differ}
 use Rattle.refusals.specs.declared.LineRefusal.TheVariants.{NoSuchLink}
-use Rattle.refusals.specs.Numbers.{lineNumber}
-use Rattle.words.proofs.Tests.{picked, passed, by-test}
+use Rattle.refusals.specs.Numbers.{line_number}
+use Rattle.words.proofs.Tests.{picked, passed, by_test}
 use Rattle.reports.specs.Altitude.{AltitudeForm}
-use Rattle.reports.specs.Records.{reportOf}
-use Rattle.reports.specs.Runs.{readRun}
+use Rattle.reports.specs.Records.{report_of}
+use Rattle.reports.specs.Runs.{read_run}
 use Rattle.lines.specs.declared.What.{What}
 use Rattle.lines.specs.declared.What.TheVariants as W
 use Rattle.lines.specs.declared.Outcome.{Outcome}
 use Rattle.lines.specs.declared.Received.{Received}
-use Rattle.lines.specs.Line.{notTaken, isEnd, gap, runIn, outcomeAt, lineRows, read_by, readAt, calls}
-use Rattle.lines.specs.Bytes.{words_in, byteRows, readBytes}
-use Rattle.lines.specs.Rows.{runRows}
-use Rattle.lines.specs.Links.{lastLink, no_link, receivedOn, onLink, callsOn}
+use Rattle.lines.specs.Line.{not_taken_at, is_end, gap, run_in, outcome_at, line_rows, read_by, read_at, calls}
+use Rattle.lines.specs.Bytes.{words_in, byte_rows, read_bytes}
+use Rattle.lines.specs.Rows.{run_rows}
+use Rattle.lines.specs.Links.{last_link, no_link, received_on, on_link, calls_on}
 use Rattle.lines.specs.Claims.{Answer, WithItsNumber, DifferInTheNumber, NumberInRange, NoSuchLinkExactly, NoSuchLinkGives, BytesAsTheirWords, OnOneLink}
-use Rattle.lines.proofs.ByteWords.{bytes-as-words}
-use Rattle.lines.proofs.Refused.{other, by-run}
+use Rattle.lines.proofs.ByteWords.{bytes_as_words}
+use Rattle.lines.proofs.Refused.{other, by_run}
 
 -- ---- whatever is found
 
 module _ (link place : ℕ) (found : Outcome) where
-  pub given : link ≤ lastLink → onLink link place found ≡ receivedOn link found
+  pub given : link ≤ last_link → on_link link place found ≡ received_on link found
   given h = passed _ _ (le-ltb _ _ h)
 
-  pub refused : lastLink < link → onLink link place found ≡ receivedOn no_link (notTaken NoSuchLink place)
+  pub refused : last_link < link → on_link link place found ≡ received_on no_link (not_taken_at NoSuchLink place)
   refused h = picked _ _ (lt-ltb _ _ h)
 
-  in-range : (onLink link place found).link ≤ lastLink
-  in-range =
-      by-test (ltb lastLink link)
-      (λ e. let k : (onLink link place found).link ≡ 0 = ap (λ (r : Received). r.link) (picked _ _ e) in omega arith)
-      (λ e. let k : (onLink link place found).link ≡ link = ap (λ (r : Received). r.link) (passed _ _ e) in
-      let h = ltb-false lastLink link e in omega arith)
+  in_range : (on_link link place found).link ≤ last_link
+  in_range =
+      by_test (ltb last_link link)
+      (λ e. let k : (on_link link place found).link ≡ 0 = ap (λ (r : Received). r.link) (picked _ _ e) in omega arith)
+      (λ e. let k : (on_link link place found).link ≡ link = ap (λ (r : Received). r.link) (passed _ _ e) in
+      let h = ltb-false last_link link e in omega arith)
 
-pub with-its-number : WithItsNumber
-with-its-number = record {
+pub with_its_number : WithItsNumber
+with_its_number = record {
   any = λ answer link line place. given link place (read_by answer line place);
-  words = λ form link line place. given link place (readAt form line place);
-  bytes = λ form link bytes place. given link place (readBytes form bytes place);
+  words = λ form link line place. given link place (read_at form line place);
+  bytes = λ form link bytes place. given link place (read_bytes form bytes place);
 }
 
-number-alone : (link other place : ℕ) (found : Outcome) → link ≤ lastLink → other ≤ lastLink
-    → onLink other place found ≡ receivedOn other (onLink link place found).outcome
-number-alone link other place found h k = given other place found k ∙ sym (ap (λ (r : Received). receivedOn other r.outcome) (given link place found h))
+number_alone : (link other place : ℕ) (found : Outcome) → link ≤ last_link → other ≤ last_link
+    → on_link other place found ≡ received_on other (on_link link place found).outcome
+number_alone link other place found h k = given other place found k ∙ sym (ap (λ (r : Received). received_on other r.outcome) (given link place found h))
 
-pub differ-in-the-number : DifferInTheNumber
-differ-in-the-number = record {
-  words = λ form link other line place. number-alone link other place (readAt form line place);
-  bytes = λ form link other bytes place. number-alone link other place (readBytes form bytes place);
+pub differ_in_the_number : DifferInTheNumber
+differ_in_the_number = record {
+  words = λ form link other line place. number_alone link other place (read_at form line place);
+  bytes = λ form link other bytes place. number_alone link other place (read_bytes form bytes place);
 }
 
-pub number-in-range : NumberInRange
-number-in-range = record {
-  words = λ form link line place. in-range link place (readAt form line place);
-  bytes = λ form link bytes place. in-range link place (readBytes form bytes place);
+pub number_in_range : NumberInRange
+number_in_range = record {
+  words = λ form link line place. in_range link place (read_at form line place);
+  bytes = λ form link bytes place. in_range link place (read_bytes form bytes place);
 }
 
-pub no-such-link-gives : NoSuchLinkGives
-no-such-link-gives = record {
-  words = λ form link line place. refused link place (readAt form line place);
-  bytes = λ form link bytes place. refused link place (readBytes form bytes place);
+pub no_such_link_gives : NoSuchLinkGives
+no_such_link_gives = record {
+  words = λ form link line place. refused link place (read_at form line place);
+  bytes = λ form link bytes place. refused link place (read_bytes form bytes place);
 }
 
 -- ---- 13 is not found on a line
 
 -- by its number
-abbrev isThirteenIn : What → Bool
-isThirteenIn (W.Accepted r) = false
-isThirteenIn (W.Refused q) = eqb (lineNumber q) (lineNumber NoSuchLink)
-isThirteenIn W.End = false
+abbrev is_thirteen_in : What → Bool
+is_thirteen_in (W.Accepted r) = false
+is_thirteen_in (W.Refused q) = eqb (line_number q) (line_number NoSuchLink)
+is_thirteen_in W.End = false
 
-abbrev isThirteen : Outcome → Bool
-isThirteen o = isThirteenIn o.what
+abbrev is_thirteen : Outcome → Bool
+is_thirteen o = is_thirteen_in o.what
 
 -- no row answers 13, and the other answer is not 13
-no_row : (rows : List (Row Outcome)) (o : Outcome) → Refusing isThirteen rows → isThirteen o ≡ false → isThirteen (first_of rows o) ≡ false
+no_row : (rows : List (Row Outcome)) (o : Outcome) → Refusing is_thirteen rows → is_thirteen o ≡ false → is_thirteen (first_of rows o) ≡ false
 no_row [] o h k = k
 no_row (x ∷ rows) o h k =
-    by-test x.holds (λ e. ap isThirteen (picked _ _ e) ∙ h.0) (λ e. ap isThirteen (passed _ _ e) ∙ no_row rows o h.1 k)
+    by_test x.holds (λ e. ap is_thirteen (picked _ _ e) ∙ h.0) (λ e. ap is_thirteen (passed _ _ e) ∙ no_row rows o h.1 k)
 
 -- a run is refused by document 01's table, which has no 13
-run-not : (form : AltitudeForm) (n f : ℕ) (run : List ℕ) → isThirteen (outcomeAt (readRun form) n f run) ≡ false
-run-not form n f [] = refl
-run-not form n f (w ∷ ws) =
-    ap isThirteen (sym (by-run form n f (w ∷ ws)))
-    ∙ no_row (runRows form f (w ∷ ws)) (other form n f (w ∷ ws)) (refl, (refl, (refl, (refl, (refl, (refl, (refl, tt))))))) refl
+run_not : (form : AltitudeForm) (n f : ℕ) (run : List ℕ) → is_thirteen (outcome_at (read_run form) n f run) ≡ false
+run_not form n f [] = refl
+run_not form n f (w ∷ ws) =
+    ap is_thirteen (sym (by_run form n f (w ∷ ws)))
+    ∙ no_row (run_rows form f (w ∷ ws)) (other form n f (w ∷ ws)) (refl, (refl, (refl, (refl, (refl, (refl, (refl, tt))))))) refl
 
-words-not : (form : AltitudeForm) (line : List ℕ) (place : ℕ) → isThirteen (readAt form line place) ≡ false
+words_not : (form : AltitudeForm) (line : List ℕ) (place : ℕ) → is_thirteen (read_at form line place) ≡ false
 unfolding read_by
-words-not form line place =
+words_not form line place =
     let rest = drop place line in
-    no_row (lineRows line place) _ (refl, (refl, tt)) (run-not form (length line) (place + gap rest) (runIn rest))
+    no_row (line_rows line place) _ (refl, (refl, tt)) (run_not form (length line) (place + gap rest) (run_in rest))
 
-bytes-not : (form : AltitudeForm) (bytes : List ℕ) (place : ℕ) → isThirteen (readBytes form bytes place) ≡ false
-unfolding readBytes
-bytes-not form bytes place =
+bytes_not : (form : AltitudeForm) (bytes : List ℕ) (place : ℕ) → is_thirteen (read_bytes form bytes place) ≡ false
+unfolding read_bytes
+bytes_not form bytes place =
     let rest = drop place (words_in bytes) in
-    no_row (byteRows bytes place) _ (refl, (refl, (refl, tt))) (run-not form (length (words_in bytes)) (place + gap rest) (runIn rest))
+    no_row (byte_rows bytes place) _ (refl, (refl, (refl, tt))) (run_not form (length (words_in bytes)) (place + gap rest) (run_in rest))
 
-exactly : (link place : ℕ) (found : Outcome) → isThirteen found ≡ false
-    → ((onLink link place found).outcome.what ≡ W.Refused NoSuchLink) ↔ (lastLink < link)
+exactly : (link place : ℕ) (found : Outcome) → is_thirteen found ≡ false
+    → ((on_link link place found).outcome.what ≡ W.Refused NoSuchLink) ↔ (last_link < link)
 exactly link place found n = (there, λ h. ap (λ (r : Received). r.outcome.what) (refused link place found h))
   where
-    there : (onLink link place found).outcome.what ≡ W.Refused NoSuchLink → lastLink < link
+    there : (on_link link place found).outcome.what ≡ W.Refused NoSuchLink → last_link < link
     there e =
-        by-test (ltb lastLink link)
-        (λ t. ltb-true lastLink link t)
-        (λ t. let k = given link place found (ltb-false lastLink link t) in
-        differ (sym (ap isThirteenIn e) ∙ ap (λ (r : Received). isThirteen r.outcome) k ∙ n))
+        by_test (ltb last_link link)
+        (λ t. ltb-true last_link link t)
+        (λ t. let k = given link place found (ltb-false last_link link t) in
+        differ (sym (ap is_thirteen_in e) ∙ ap (λ (r : Received). is_thirteen r.outcome) k ∙ n))
 
-pub no-such-link-exactly : NoSuchLinkExactly
-no-such-link-exactly = record {
-  words = λ form link line place. exactly link place (readAt form line place) (words-not form line place);
-  bytes = λ form link bytes place. exactly link place (readBytes form bytes place) (bytes-not form bytes place);
+pub no_such_link_exactly : NoSuchLinkExactly
+no_such_link_exactly = record {
+  words = λ form link line place. exactly link place (read_at form line place) (words_not form line place);
+  bytes = λ form link bytes place. exactly link place (read_bytes form bytes place) (bytes_not form bytes place);
 }
 
 -- ---- bytes and words
 
-pub bytes-as-their-words : BytesAsTheirWords
-bytes-as-their-words form link bytes place few even = ap (onLink link place) (bytes-as-words form bytes place (reportOf form []) few even).0
+pub bytes_as_their_words : BytesAsTheirWords
+bytes_as_their_words form link bytes place few even = ap (on_link link place) (bytes_as_words form bytes place (report_of form []) few even).0
 
 -- ---- the calls with one number
 
-calls_are : (answer : Answer) (link k : ℕ) (line : List ℕ) (place : ℕ) → link ≤ lastLink
-    → callsOn answer link k line place ≡ map (receivedOn link) (calls answer k line place)
-unfolding callsOn calls
+calls_are : (answer : Answer) (link k : ℕ) (line : List ℕ) (place : ℕ) → link ≤ last_link
+    → calls_on answer link k line place ≡ map (received_on link) (calls answer k line place)
+unfolding calls_on calls
 calls_are answer link zero line place h = refl
 calls_are answer link (suc k) line place h =
     let o = read_by answer line place in
     let e = given link place o h in
-    (λ i. e i ∷ cond (isEnd (e i).outcome.what) [] (callsOn answer link k line (e i).outcome.after))
-    ∙ ap (λ (rs : List Received). receivedOn link o ∷ rs)
-    (ap (cond (isEnd o.what) []) (calls_are answer link k line o.after h) ∙ go (isEnd o.what) (calls answer k line o.after))
+    (λ i. e i ∷ cond (is_end (e i).outcome.what) [] (calls_on answer link k line (e i).outcome.after))
+    ∙ ap (λ (rs : List Received). received_on link o ∷ rs)
+    (ap (cond (is_end o.what) []) (calls_are answer link k line o.after h) ∙ go (is_end o.what) (calls answer k line o.after))
   where
-    go : (b : Bool) (os : List Outcome) → cond b [] (map (receivedOn link) os) ≡ map (receivedOn link) (cond b [] os)
+    go : (b : Bool) (os : List Outcome) → cond b [] (map (received_on link) os) ≡ map (received_on link) (cond b [] os)
     go true os = refl
     go false os = refl
 
-pub on-one-link : OnOneLink
-on-one-link = record { calls_are = calls_are; outcomes-are = λ answer link line. calls_are answer link (suc (length line)) line 0 }
+pub on_one_link : OnOneLink
+on_one_link = record { calls_are = calls_are; outcomes_are = λ answer link line. calls_are answer link (suc (length line)) line 0 }

@@ -12,43 +12,43 @@ use lib.ListN.{length, length-append}
 use borrow.Author.Tests.{le-ltb, lt-ltb}
 use Rattle.words.specs.Word.{idle}
 use Rattle.lines.specs.declared.Outcome.{Outcome}
-use Rattle.lines.specs.Line.{most, outcomeOf, end_of, isEnd, read_by, outcomes}
-use Rattle.lines.specs.Stretches.{Run, runsFrom, runs}
-use Rattle.lines.specs.Claims.{Answer, moved, alone, beforeEnd, Splits, outside, Replaced}
+use Rattle.lines.specs.Line.{most, outcome_of, end_of, is_end, read_by, outcomes}
+use Rattle.lines.specs.Stretches.{Run, runs_from, runs}
+use Rattle.lines.specs.Claims.{Answer, moved, alone, before_end, Splits, outside, Replaced}
 use Rattle.words.proofs.Tests.{picked, passed}
-use Rattle.lines.proofs.Runs.{All, all_runs, along, runs-along, runs-three}
+use Rattle.lines.proofs.Runs.{All, all_runs, along, runs_along, runs_three}
 use Rattle.lines.proofs.Walked.{goes_on}
-use Rattle.lines.proofs.Outcomes.{alone-free, one_each}
+use Rattle.lines.proofs.Outcomes.{alone_free, one_each}
 
 -- ---- the outcomes before the end are those of the runs
 
 -- what is known of a run's outcome: it is no end, and its first word is the run's
 pub record Inside (answer : Answer) (lo hi : ℕ) (r : Run) : Type 0 where
-  pub lasts : isEnd (alone answer r).what ≡ false
+  pub lasts : is_end (alone answer r).what ≡ false
   pub from : lo ≤ (alone answer r).first
   pub below : (alone answer r).first < hi
 
-inside : (answer : Answer) (p : ℕ) (ws : List ℕ) → length ws ≤ most → All (Inside answer p (p + length ws)) (runsFrom p [] ws)
+inside : (answer : Answer) (p : ℕ) (ws : List ℕ) → length ws ≤ most → All (Inside answer p (p + length ws)) (runs_from p [] ws)
 inside answer p ws m =
     all_runs (Inside answer p (p + length ws)) p (p + length ws)
     (λ q w l f a b.
-    let e = alone-free answer q w l (omega arith) f in
+    let e = alone_free answer q w l (omega arith) f in
     let s : (alone answer (record { place = q; words = w ∷ l })).first ≡ q = ap (λ (o : Outcome). o.first) e in
     record {
-      lasts = ap (λ (o : Outcome). isEnd o.what) e ∙ goes_on (answer (w ∷ l));
+      lasts = ap (λ (o : Outcome). is_end o.what) e ∙ goes_on (answer (w ∷ l));
       from = omega arith;
       below = omega arith;
     })
     p [] ws tt (omega arith) (omega arith)
 
-before-runs : (answer : Answer) (lo hi n : ℕ) (rs : List Run) → All (Inside answer lo hi) rs → beforeEnd (map (alone answer) rs ++ (end_of n ∷ [])) ≡ map (alone answer) rs
-unfolding beforeEnd
-before-runs answer lo hi n [] h = refl
-before-runs answer lo hi n (r ∷ rs) h = passed _ _ h.0.lasts ∙ ap (λ (os : List Outcome). alone answer r ∷ os) (before-runs answer lo hi n rs h.1)
+before_runs : (answer : Answer) (lo hi n : ℕ) (rs : List Run) → All (Inside answer lo hi) rs → before_end (map (alone answer) rs ++ (end_of n ∷ [])) ≡ map (alone answer) rs
+unfolding before_end
+before_runs answer lo hi n [] h = refl
+before_runs answer lo hi n (r ∷ rs) h = passed _ _ h.0.lasts ∙ ap (λ (os : List Outcome). alone answer r ∷ os) (before_runs answer lo hi n rs h.1)
 
-before-end : (answer : Answer) (line : List ℕ) → length line ≤ most → beforeEnd (outcomes answer line) ≡ map (alone answer) (runs line)
+before-end : (answer : Answer) (line : List ℕ) → length line ≤ most → before_end (outcomes answer line) ≡ map (alone answer) (runs line)
 before-end answer line m =
-    ap beforeEnd (one_each answer line m) ∙ before-runs answer 0 (0 + length line) (length line) (runs line) (inside answer 0 line m)
+    ap before_end (one_each answer line m) ∙ before_runs answer 0 (0 + length line) (length line) (runs line) (inside answer 0 line m)
 
 -- ---- moved along
 
@@ -57,17 +57,17 @@ map-append f [] ys = refl
 map-append f (x ∷ xs) ys = ap (λ (l : List _). f x ∷ l) (map-append f xs ys)
 
 moved_twice : (p q : ℕ) (o : Outcome) → moved (p + q) o ≡ moved p (moved q o)
-moved_twice p q o = λ i. outcomeOf o.what (add_assoc p q o.first i) (add_assoc p q o.after i) (add_assoc p q o.named i)
+moved_twice p q o = λ i. outcome_of o.what (add_assoc p q o.first i) (add_assoc p q o.after i) (add_assoc p q o.named i)
 
-alone-along : (answer : Answer) (q : ℕ) (rs : List Run) → map (alone answer) (map (along q) rs) ≡ map (moved q) (map (alone answer) rs)
-alone-along answer q [] = refl
-alone-along answer q (r ∷ rs) = λ i. moved_twice q r.place (read_by answer r.words 0) i ∷ alone-along answer q rs i
+alone_along : (answer : Answer) (q : ℕ) (rs : List Run) → map (alone answer) (map (along q) rs) ≡ map (moved q) (map (alone answer) rs)
+alone_along answer q [] = refl
+alone_along answer q (r ∷ rs) = λ i. moved_twice q r.place (read_by answer r.words 0) i ∷ alone_along answer q rs i
 
-runs_moved : (answer : Answer) (q : ℕ) (ws : List ℕ) → map (alone answer) (runsFrom q [] ws) ≡ map (moved q) (map (alone answer) (runs ws))
+runs_moved : (answer : Answer) (q : ℕ) (ws : List ℕ) → map (alone answer) (runs_from q [] ws) ≡ map (moved q) (map (alone answer) (runs ws))
 runs_moved answer q ws =
-    ap (λ (k : ℕ). map (alone answer) (runsFrom k [] ws)) (sym (add-zero q))
-    ∙ ap (map (alone answer)) (runs-along q 0 [] ws)
-    ∙ alone-along answer q (runs ws)
+    ap (λ (k : ℕ). map (alone answer) (runs_from k [] ws)) (sym (add-zero q))
+    ∙ ap (map (alone answer)) (runs_along q 0 [] ws)
+    ∙ alone_along answer q (runs ws)
 
 -- ---- a line in three parts
 
@@ -78,15 +78,15 @@ splits answer pre mid post a b m =
     let q = p + length mid in
     let one = alone answer in
     let size : length line ≡ q + length post = length-append pre (mid ++ post) ∙ (let z = length-append mid post in omega arith) in
-    let rs = runs-three pre mid post a b in
+    let rs = runs_three pre mid post a b in
     let end = end_of (length line) ∷ [] in
     let M = map (moved p) (map one (runs mid)) in
     let P = map (moved q) (map one (runs post)) in
     let parts : map one (runs line) ≡ map one (runs pre) ++ (M ++ P) =
     ap (map one) rs
-    ∙ map-append one (runs pre) (runsFrom p [] mid ++ runsFrom q [] post)
+    ∙ map-append one (runs pre) (runs_from p [] mid ++ runs_from q [] post)
     ∙ ap (λ (os : List Outcome). map one (runs pre) ++ os)
-    (map-append one (runsFrom p [] mid) (runsFrom q [] post) ∙ (λ i. runs_moved answer p mid i ++ runs_moved answer q post i)) in
+    (map-append one (runs_from p [] mid) (runs_from q [] post) ∙ (λ i. runs_moved answer p mid i ++ runs_moved answer q post i)) in
     let last : P ++ end ≡ map (moved q) (outcomes answer post) =
     ap (λ (k : ℕ). P ++ (end_of k ∷ [])) size
     ∙ sym (map-append (moved q) (map one (runs post)) (end_of (length post) ∷ []))
@@ -100,11 +100,11 @@ splits answer pre mid post a b m =
 
 -- ---- what stands outside
 
-outside-append : (lo hi : ℕ) (os qs : List Outcome) → outside lo hi (os ++ qs) ≡ outside lo hi os ++ outside lo hi qs
+outside_append : (lo hi : ℕ) (os qs : List Outcome) → outside lo hi (os ++ qs) ≡ outside lo hi os ++ outside lo hi qs
 unfolding outside
-outside-append lo hi [] qs = refl
-outside-append lo hi (o ∷ os) qs =
-    ap (λ (l : List Outcome). cond (ltb o.first lo) (o ∷ l) (cond (ltb o.first hi) l (o ∷ l))) (outside-append lo hi os qs)
+outside_append lo hi [] qs = refl
+outside_append lo hi (o ∷ os) qs =
+    ap (λ (l : List Outcome). cond (ltb o.first lo) (o ∷ l) (cond (ltb o.first hi) l (o ∷ l))) (outside_append lo hi os qs)
     ∙ kept (ltb o.first lo) (ltb o.first hi)
   where
     kept : (s t : Bool) → cond s (o ∷ (outside lo hi os ++ outside lo hi qs)) (cond t (outside lo hi os ++ outside lo hi qs) (o ∷ (outside lo hi os ++ outside lo hi qs)))
@@ -113,18 +113,18 @@ outside-append lo hi (o ∷ os) qs =
     kept false true = refl
     kept false false = refl
 
-none-outside : (answer : Answer) (lo hi : ℕ) (rs : List Run) → All (Inside answer lo hi) rs → outside lo hi (map (alone answer) rs) ≡ []
+none_outside : (answer : Answer) (lo hi : ℕ) (rs : List Run) → All (Inside answer lo hi) rs → outside lo hi (map (alone answer) rs) ≡ []
 unfolding outside
-none-outside answer lo hi [] h = refl
-none-outside answer lo hi (r ∷ rs) h =
+none_outside answer lo hi [] h = refl
+none_outside answer lo hi (r ∷ rs) h =
     passed _ _ (le-ltb (alone answer r).first lo h.0.from)
     ∙ picked _ _ (lt-ltb (alone answer r).first hi h.0.below)
-    ∙ none-outside answer lo hi rs h.1
+    ∙ none_outside answer lo hi rs h.1
 
 -- what is left outside depends on how many words stand between, and on nothing else of them
 between : (answer : Answer) (a x b : List ℕ) (n : ℕ) → length x ≡ n → length (a ++ (idle ∷ (x ++ (idle ∷ b)))) ≤ most
     → outside (length a + 1) (length a + 1 + n) (outcomes answer (a ++ (idle ∷ (x ++ (idle ∷ b)))))
-    ≡ outside (length a + 1) (length a + 1 + n) (beforeEnd (outcomes answer (a ++ (idle ∷ []))))
+    ≡ outside (length a + 1) (length a + 1 + n) (before_end (outcomes answer (a ++ (idle ∷ []))))
     ++ outside (length a + 1) (length a + 1 + n) (map (moved (length a + 1 + n)) (outcomes answer (idle ∷ b)))
 between answer a x b n k m =
     let pre = a ++ (idle ∷ []) in
@@ -136,22 +136,22 @@ between answer a x b n k m =
     let same : a ++ (idle ∷ (x ++ post)) ≡ pre ++ (x ++ post) = sym (append_assoc a (idle ∷ []) (x ++ post)) in
     let size = length-append a (idle ∷ (x ++ post)) in
     let part = length-append x post in
-    let top = beforeEnd (outcomes answer pre) in
+    let top = before_end (outcomes answer pre) in
     let behind = map (moved hi) (outcomes answer post) in
-    let inner : map (moved lo) (beforeEnd (outcomes answer x)) ≡ map (alone answer) (runsFrom lo [] x) =
+    let inner : map (moved lo) (before_end (outcomes answer x)) ≡ map (alone answer) (runs_from lo [] x) =
     ap (map (moved lo)) (before-end answer x (omega arith)) ∙ sym (runs_moved answer lo x) in
-    let none : out (map (moved lo) (beforeEnd (outcomes answer x))) ≡ [] =
+    let none : out (map (moved lo) (before_end (outcomes answer x))) ≡ [] =
     ap out inner
-    ∙ ap (λ (j : ℕ). outside lo (lo + j) (map (alone answer) (runsFrom lo [] x))) (sym k)
-    ∙ none-outside answer lo (lo + length x) (runsFrom lo [] x) (inside answer lo x (omega arith)) in
+    ∙ ap (λ (j : ℕ). outside lo (lo + j) (map (alone answer) (runs_from lo [] x))) (sym k)
+    ∙ none_outside answer lo (lo + length x) (runs_from lo [] x) (inside answer lo x (omega arith)) in
     ap (λ (l : List ℕ). out (outcomes answer l)) same
     ∙ ap out
     (splits answer pre x post (inr (a, refl)) (inr (b, refl)) (let z = ap length same in omega arith)
-    ∙ ap (λ (j : ℕ). top ++ (map (moved j) (beforeEnd (outcomes answer x)) ++ map (moved (j + length x)) (outcomes answer post))) p
-    ∙ ap (λ (j : ℕ). top ++ (map (moved lo) (beforeEnd (outcomes answer x)) ++ map (moved (lo + j)) (outcomes answer post))) k)
-    ∙ outside-append lo hi top (map (moved lo) (beforeEnd (outcomes answer x)) ++ behind)
+    ∙ ap (λ (j : ℕ). top ++ (map (moved j) (before_end (outcomes answer x)) ++ map (moved (j + length x)) (outcomes answer post))) p
+    ∙ ap (λ (j : ℕ). top ++ (map (moved lo) (before_end (outcomes answer x)) ++ map (moved (lo + j)) (outcomes answer post))) k)
+    ∙ outside_append lo hi top (map (moved lo) (before_end (outcomes answer x)) ++ behind)
     ∙ ap (λ (os : List Outcome). out top ++ os)
-    (outside-append lo hi (map (moved lo) (beforeEnd (outcomes answer x))) behind ∙ ap (λ (os : List Outcome). os ++ out behind) none)
+    (outside_append lo hi (map (moved lo) (before_end (outcomes answer x))) behind ∙ ap (λ (os : List Outcome). os ++ out behind) none)
 
 pub replaced : Replaced
 replaced answer a x y b e m =

@@ -18,11 +18,11 @@ use Rattle.reports.specs.Layouts.{words_of, takes, Takes}
 use Rattle.lines.specs.declared.Wrote.{Wrote}
 use Rattle.lines.specs.declared.Wrote.TheVariants as W
 use Rattle.lines.specs.Line.{most}
-use Rattle.lines.specs.Bytes.{mostBytes, words_in}
-use Rattle.lines.specs.Writing.{placeRows, wroteAfter, writeAt}
-use Rattle.lines.specs.ByteWriting.{writeBytes}
+use Rattle.lines.specs.Bytes.{most_bytes, words_in}
+use Rattle.lines.specs.Writing.{place_rows, wrote_after, write_at}
+use Rattle.lines.specs.ByteWriting.{write_bytes}
 use Rattle.lines.specs.Claims.{put}
-use Rattle.words.proofs.Tests.{picked, passed, by-test, holds}
+use Rattle.words.proofs.Tests.{picked, passed, by_test, holds}
 
 -- ---- words and then others right behind them
 
@@ -30,9 +30,9 @@ use Rattle.words.proofs.Tests.{picked, passed, by-test, holds}
 front_rest : (line : List ℕ) (place : ℕ) (ws : List ℕ) → put line place ws ≡ (take place line ++ ws) ++ drop (length ws) (drop place line)
 front_rest line place ws = sym (append_assoc (take place line) ws (drop (length ws) (drop place line)))
 
-pub put-put : (line : List ℕ) (place : ℕ) (ws vs : List ℕ) → place ≤ length line
+pub put_put : (line : List ℕ) (place : ℕ) (ws vs : List ℕ) → place ≤ length line
     → put (put line place ws) (place + length ws) vs ≡ take place line ++ (ws ++ (vs ++ drop (place + length ws + length vs) line))
-put-put line place ws vs h =
+put_put line place ws vs h =
     let front = take place line ++ ws in
     let rest = drop (length ws) (drop place line) in
     let n : length front ≡ place + length ws = length-append (take place line) ws ∙ ap (λ (k : ℕ). k + length ws) (length-take-le place line h) in
@@ -48,14 +48,14 @@ put-put line place ws vs h =
 abbrev Cases : AltitudeForm → ℕ → ℕ → Report → Wrote → Type 0
 Cases form n place r w =
     ((q : LineRefusal) × (w ≡ W.Refused q place))
-    ⊎ (Takes form r × (place ≤ n) × (length (words_of form r) < n - place) × (w ≡ wroteAfter form place r))
+    ⊎ (Takes form r × (place ≤ n) × (length (words_of form r) < n - place) × (w ≡ wrote_after form place r))
 
-place-cases : (form : AltitudeForm) (n place : ℕ) (r : Report) → Cases form n place r (first_of (placeRows form n place r) (wroteAfter form place r))
-place-cases form n place r =
+place_cases : (form : AltitudeForm) (n place : ℕ) (r : Report) → Cases form n place r (first_of (place_rows form n place r) (wrote_after form place r))
+place_cases form n place r =
     let k = length (words_of form r) in
-    by-test (ltb n place) (λ b. inl (PlaceBeyondLine, picked _ _ b))
-    (λ b. by-test (not (takes form r)) (λ c. inl (ValueTooLarge, passed _ _ b ∙ picked _ _ c))
-    (λ c. by-test (ltb (n - place) (k + 1)) (λ d. inl (NoRoom, passed _ _ b ∙ passed _ _ c ∙ picked _ _ d))
+    by_test (ltb n place) (λ b. inl (PlaceBeyondLine, picked _ _ b))
+    (λ b. by_test (not (takes form r)) (λ c. inl (ValueTooLarge, passed _ _ b ∙ picked _ _ c))
+    (λ c. by_test (ltb (n - place) (k + 1)) (λ d. inl (NoRoom, passed _ _ b ∙ passed _ _ c ∙ picked _ _ d))
     (λ d. inr (
       holds (takes form r) c,
       ltb-false n place b,
@@ -68,13 +68,13 @@ one_more : (form : AltitudeForm) (n place : ℕ) (r : Report) (b : Bool) (q : Li
 one_more form n place r true q w h = inl (q, refl)
 one_more form n place r false q w h = h
 
-pub write-cases : (form : AltitudeForm) (line : List ℕ) (place : ℕ) (r : Report) → Cases form (length line) place r (writeAt form line place r)
-unfolding writeAt
-write-cases form line place r = one_more form (length line) place r (ltb most (length line)) LineTooLong _ (place-cases form (length line) place r)
+pub write_cases : (form : AltitudeForm) (line : List ℕ) (place : ℕ) (r : Report) → Cases form (length line) place r (write_at form line place r)
+unfolding write_at
+write_cases form line place r = one_more form (length line) place r (ltb most (length line)) LineTooLong _ (place_cases form (length line) place r)
 
-pub byte-cases : (form : AltitudeForm) (bytes : List ℕ) (place : ℕ) (r : Report) → Cases form (length (words_in bytes)) place r (writeBytes form bytes place r)
-unfolding writeBytes
-byte-cases form bytes place r =
+pub byte_cases : (form : AltitudeForm) (bytes : List ℕ) (place : ℕ) (r : Report) → Cases form (length (words_in bytes)) place r (write_bytes form bytes place r)
+unfolding write_bytes
+byte_cases form bytes place r =
     let n = length (words_in bytes) in
-    one_more form n place r (ltb mostBytes (length bytes)) LineTooLong _
-    (one_more form n place r (eqb (length bytes % 2) 1) OddByteCount _ (place-cases form n place r))
+    one_more form n place r (ltb most_bytes (length bytes)) LineTooLong _
+    (one_more form n place r (eqb (length bytes % 2) 1) OddByteCount _ (place_cases form n place r))

@@ -12,13 +12,13 @@ use Rattle.words.specs.Word.{idle}
 use Rattle.reports.specs.declared.Report.{Report}
 use Rattle.reports.specs.Altitude.{AltitudeForm}
 use Rattle.reports.specs.Layouts.{words_of}
-use Rattle.reports.proofs.Demand2.{takes-fits}
+use Rattle.reports.proofs.Demand2.{takes_fits}
 use Rattle.lines.specs.declared.Wrote.{Wrote}
 use Rattle.lines.specs.declared.Wrote.TheVariants as W
-use Rattle.lines.specs.Writing.{writeAt, leftBy, next, puts, among, taken}
-use Rattle.lines.specs.Spaced.{Spaced, line_of, reportsOf, AllFit, Parted, Apart}
+use Rattle.lines.specs.Writing.{write_at, left_as, next, puts, among, taken}
+use Rattle.lines.specs.Spaced.{Spaced, line_of, reports_of, AllFit, Parted, Apart}
 use Rattle.lines.specs.Claims.{WrittenSo, Composed, OnlyItsWords, RefusedLeaves}
-use Rattle.lines.proofs.Puts.{put-put, write-cases}
+use Rattle.lines.proofs.Puts.{put_put, write_cases}
 
 -- ---- one call
 
@@ -27,22 +27,22 @@ pub record Accepts (form : AltitudeForm) (line : List ℕ) (place next : ℕ) (r
   pub room : length (words_of form r) < length line - place
   pub there : next ≡ place + length (words_of form r) + 1
 
-accepts : (form : AltitudeForm) (line : List ℕ) (place p : ℕ) (r : Report) → writeAt form line place r ≡ W.Next p → Accepts form line place p r
+accepts : (form : AltitudeForm) (line : List ℕ) (place p : ℕ) (r : Report) → write_at form line place r ≡ W.Next p → Accepts form line place p r
 accepts form line place p r e =
     ⊎_elim
     (λ h. let f = h.1 in let z : ◌≡◌ {A = ℕ} 0 1 = cc in absurd (omega arith))
     (λ h. let f = h.3 in record { room = h.2; there = cc })
-    (write-cases form line place r)
+    (write_cases form line place r)
 
 pub composed : Composed
 composed form line place p r e =
     let a = accepts form line place p r e in
     let n = a.room in
-    ap (λ (k : ℕ). leftBy (W.Next k) line place (words_of form r)) a.there
-    ∙ sym (put-put line place (words_of form r) (idle ∷ []) (omega arith))
+    ap (λ (k : ℕ). left_as (W.Next k) line place (words_of form r)) a.there
+    ∙ sym (put_put line place (words_of form r) (idle ∷ []) (omega arith))
 
-pub only-its-words : OnlyItsWords
-only-its-words form line place p r e =
+pub only_its_words : OnlyItsWords
+only_its_words form line place p r e =
     let a = accepts form line place p r e in
     let n = a.room in
     let at = a.there in
@@ -63,10 +63,10 @@ only-its-words form line place p r e =
       ap (drop p) regroup ∙ drop_at front rest p (omega arith),
     )
 
-pub refused-leaves : RefusedLeaves
-refused-leaves form line place p r q e = (
-  ⊎_elim (λ h. let f = h.1 in cc) (λ h. let f = h.3 in let z : ◌≡◌ {A = ℕ} 0 1 = cc in absurd (omega arith)) (write-cases form line place r),
-  ap (λ (w : Wrote). leftBy w line place (words_of form r)) e,
+pub refused_leaves : RefusedLeaves
+refused_leaves form line place p r q e = (
+  ⊎_elim (λ h. let f = h.1 in cc) (λ h. let f = h.3 in let z : ◌≡◌ {A = ℕ} 0 1 = cc in absurd (omega arith)) (write_cases form line place r),
+  ap (λ (w : Wrote). left_as w line place (words_of form r)) e,
 )
 
 -- ---- calls one after the other on idle words
@@ -74,17 +74,17 @@ refused-leaves form line place p r q e = (
 abbrev idles : ℕ → List ℕ
 idles n = replicate n idle
 
-drop-idles : (j m : ℕ) → drop j (idles m) ≡ idles (m - j)
-drop-idles zero m = ap idles (let z : m ≡ m - 0 = omega arith in z)
-drop-idles (suc j) zero = ap idles (let z : 0 ≡ 0 - suc j = omega arith in z)
-drop-idles (suc j) (suc m) = drop-idles j m ∙ ap idles (let z : m - j ≡ suc m - suc j = omega arith in z)
+drop_idles : (j m : ℕ) → drop j (idles m) ≡ idles (m - j)
+drop_idles zero m = ap idles (let z : m ≡ m - 0 = omega arith in z)
+drop_idles (suc j) zero = ap idles (let z : 0 ≡ 0 - suc j = omega arith in z)
+drop_idles (suc j) (suc m) = drop_idles j m ∙ ap idles (let z : m - j ≡ suc m - suc j = omega arith in z)
 
 -- words before the place, so many idle words, and idle words from the place on
 abbrev spread : List ℕ → ℕ → ℕ → List ℕ
 spread pre g m = pre ++ (idles g ++ idles m)
 
 line_after : (form : AltitudeForm) (pre : List ℕ) (g m : ℕ) (r : Report)
-    → leftBy (W.Next (length pre + g + length (words_of form r) + 1)) (spread pre g m) (length pre + g) (words_of form r)
+    → left_as (W.Next (length pre + g + length (words_of form r) + 1)) (spread pre g m) (length pre + g) (words_of form r)
     ≡ spread (pre ++ (idles g ++ words_of form r)) 1 (m - (length (words_of form r) + 1))
 line_after form pre g m r =
     let ws = words_of form r in
@@ -97,7 +97,7 @@ line_after form pre g m r =
     ∙ drop-append-add pre (idles g ++ idles m) (g + (k + 1))
     ∙ ap (λ (j : ℕ). drop (j + (k + 1)) (idles g ++ idles m)) (sym (length-replicate g idle))
     ∙ drop-append-add (idles g) (idles m) (k + 1)
-    ∙ drop-idles (k + 1) m in
+    ∙ drop_idles (k + 1) m in
     ap (λ (l : List ℕ). l ++ (ws ++ (idle ∷ drop (length pre + g + k + 1) (spread pre g m)))) front
     ∙ ap (λ (l : List ℕ). (pre ++ idles g) ++ (ws ++ (idle ∷ l))) behind
     ∙ append_assoc pre (idles g) (ws ++ rest)
@@ -109,9 +109,9 @@ abbrev Ahead : ℕ → List Spaced → Type 0
 Ahead g [] = Unit {0}
 Ahead g (s ∷ ss) = (s.ahead ≡ g) × Parted ss
 
-ahead-one : (ss : List Spaced) → Ahead 1 ss → Parted ss
-ahead-one [] h = tt
-ahead-one (s ∷ ss) h = (let e = h.0 in omega arith, h.1)
+ahead_one : (ss : List Spaced) → Ahead 1 ss → Parted ss
+ahead_one [] h = tt
+ahead_one (s ∷ ss) h = (let e = h.0 in omega arith, h.1)
 
 ahead_apart : (g : ℕ) (ss : List Spaced) → Ahead g ss → Apart ss
 ahead_apart g [] h = tt
@@ -122,7 +122,7 @@ put_all : (form : AltitudeForm) (rs : List Report) (pre : List ℕ) (g m : ℕ)
     × (tail : ℕ)
     × AllFit form ss
     × Ahead g ss
-    × (reportsOf ss ≡ taken form (spread pre g m) (length pre + g) rs)
+    × (reports_of ss ≡ taken form (spread pre g m) (length pre + g) rs)
     × (puts form (spread pre g m) (length pre + g) rs ≡ pre ++ line_of form ss tail)
 unfolding puts taken line_of
 put_all form [] pre g m = ([], g + m, tt, tt, refl, ap (λ (l : List ℕ). pre ++ l) (replicate-append-replicate g m idle))
@@ -137,8 +137,8 @@ put_all form (r ∷ rs) pre g m =
       k.1,
       k.2,
       k.3,
-      k.4 ∙ sym (ap (λ (w : Wrote). among w r (taken form (leftBy w line place (words_of form r)) (next w) rs)) h.1),
-      ap (λ (w : Wrote). puts form (leftBy w line place (words_of form r)) (next w) rs) h.1 ∙ k.5,
+      k.4 ∙ sym (ap (λ (w : Wrote). among w r (taken form (left_as w line place (words_of form r)) (next w) rs)) h.1),
+      ap (λ (w : Wrote). puts form (left_as w line place (words_of form r)) (next w) rs) h.1 ∙ k.5,
     ))
     (λ h.
     let pre' = pre ++ (idles g ++ ws) in
@@ -146,25 +146,25 @@ put_all form (r ∷ rs) pre g m =
     let k = put_all form rs pre' 1 m' in
     let there : place + length ws + 1 ≡ length pre' + 1 =
     (let a = length-append pre (idles g ++ ws) in let b = length-append (idles g) ws in let c = length-replicate g idle in omega arith) in
-    let e : leftBy (W.Next (place + length ws + 1)) line place (words_of form r) ≡ spread pre' 1 m' = line_after form pre g m r in (
+    let e : left_as (W.Next (place + length ws + 1)) line place (words_of form r) ≡ spread pre' 1 m' = line_after form pre g m r in (
       record { ahead = g; report = r } ∷ k.0,
       k.1,
-      (takes-fits form r h.0, k.2),
-      (refl, ahead-one k.0 k.3),
+      (takes_fits form r h.0, k.2),
+      (refl, ahead_one k.0 k.3),
       ap (λ (l : List Report). r ∷ l)
           (k.4 ∙ sym (ap (λ (l : List ℕ). taken form l (place + length ws + 1) rs) e ∙ ap (λ (p : ℕ). taken form (spread pre' 1 m') p rs) there))
-          ∙ sym (ap (λ (w : Wrote). among w r (taken form (leftBy w line place (words_of form r)) (next w) rs)) h.3),
-      ap (λ (w : Wrote). puts form (leftBy w line place (words_of form r)) (next w) rs) h.3
+          ∙ sym (ap (λ (w : Wrote). among w r (taken form (left_as w line place (words_of form r)) (next w) rs)) h.3),
+      ap (λ (w : Wrote). puts form (left_as w line place (words_of form r)) (next w) rs) h.3
           ∙ ap (λ (l : List ℕ). puts form l (place + length ws + 1) rs) e
           ∙ ap (λ (p : ℕ). puts form (spread pre' 1 m') p rs) there
           ∙ k.5
           ∙ append_assoc pre (idles g ++ ws) (line_of form k.0 k.1)
           ∙ ap (λ (l : List ℕ). pre ++ l) (append_assoc (idles g) ws (line_of form k.0 k.1)),
     ))
-    (write-cases form line place r)
+    (write_cases form line place r)
 
-pub written-so : WrittenSo
-written-so form n place rs h =
+pub written_so : WrittenSo
+written_so form n place rs h =
     let k = put_all form rs [] place (n - place) in
     let e : idles n ≡ spread [] place (n - place) =
     ap idles (let z : n ≡ place + (n - place) = omega arith in z) ∙ sym (replicate-append-replicate place (n - place) idle) in (

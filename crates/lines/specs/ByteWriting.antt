@@ -8,27 +8,27 @@ use Rattle.reports.specs.Altitude.{AltitudeForm}
 use Rattle.reports.specs.Layouts.{words_of}
 use Rattle.lines.specs.declared.Wrote.{Wrote}
 use Rattle.lines.specs.declared.Wrote.TheVariants as W
-use Rattle.lines.specs.Bytes.{mostBytes, words_in, bytes_of}
-use Rattle.lines.specs.Writing.{placeRows, wroteAfter}
+use Rattle.lines.specs.Bytes.{most_bytes, words_in, bytes_of}
+use Rattle.lines.specs.Writing.{place_rows, wrote_after}
 
 -- the writer's rows: 2, 14, then 1, 11 and 10
-abbrev pub byteWriterRows : AltitudeForm → List ℕ → ℕ → Report → List (Row Wrote)
-byteWriterRows form bytes place r =
-    row (ltb mostBytes (length bytes)) (W.Refused LineTooLong place)
+abbrev pub byte_writer_rows : AltitudeForm → List ℕ → ℕ → Report → List (Row Wrote)
+byte_writer_rows form bytes place r =
+    row (ltb most_bytes (length bytes)) (W.Refused LineTooLong place)
     ∷ row (eqb (length bytes % 2) 1) (W.Refused OddByteCount place)
-    ∷ placeRows form (length (words_in bytes)) place r
+    ∷ place_rows form (length (words_in bytes)) place r
 
 -- the writer's answer
-unfoldable pub writeBytes : AltitudeForm → List ℕ → ℕ → Report → Wrote
-writeBytes form bytes place r = first_of (byteWriterRows form bytes place r) (wroteAfter form place r)
+unfoldable pub write_bytes : AltitudeForm → List ℕ → ℕ → Report → Wrote
+write_bytes form bytes place r = first_of (byte_writer_rows form bytes place r) (wrote_after form place r)
 
 -- the bytes that a call leaves: what stood before the place, the words' bytes, the idle word's, what stood behind; refused, nothing has
 -- changed
-abbrev pub bytesLeft : Wrote → List ℕ → ℕ → List ℕ → List ℕ
-bytesLeft (W.Next next) bytes place ws = take (place * 2) bytes ++ (bytes_of (ws ++ (idle ∷ [])) ++ drop (next * 2) bytes)
-bytesLeft (W.Refused q p) bytes place ws = bytes
+abbrev pub bytes_left : Wrote → List ℕ → ℕ → List ℕ → List ℕ
+bytes_left (W.Next next) bytes place ws = take (place * 2) bytes ++ (bytes_of (ws ++ (idle ∷ [])) ++ drop (next * 2) bytes)
+bytes_left (W.Refused q p) bytes place ws = bytes
 
 -- what a call of the writer answers, and the bytes that it leaves
 pub record WritesBytes (form : AltitudeForm) (bytes : List ℕ) (place : ℕ) (r : Report) (answer : Wrote) (exit : List ℕ) : Type 0 where
-  pub answers : answer ≡ writeBytes form bytes place r
-  pub leaves : exit ≡ bytesLeft (writeBytes form bytes place r) bytes place (words_of form r)
+  pub answers : answer ≡ write_bytes form bytes place r
+  pub leaves : exit ≡ bytes_left (write_bytes form bytes place r) bytes place (words_of form r)

@@ -10,23 +10,23 @@ use Rattle.reports.specs.declared.RunAnswer.{RunAnswer}
 use Rattle.reports.specs.declared.RunAnswer.TheVariants as A
 use Rattle.reports.specs.declared.kinds.Kind.TheVariants as K
 use Rattle.reports.specs.Kinds.{kind_of}
-use Rattle.reports.specs.Altitude.{AltitudeForm, Sound, signMagnitude}
+use Rattle.reports.specs.Altitude.{AltitudeForm, Sound, sign_magnitude}
 use Rattle.reports.specs.Layouts.{words_of, Fits}
-use Rattle.reports.specs.Records.{reportOf}
-use Rattle.reports.specs.Runs.{readRun}
+use Rattle.reports.specs.Records.{report_of}
+use Rattle.reports.specs.Runs.{read_run}
 use Rattle.lines.specs.declared.What.{What}
 use Rattle.lines.specs.declared.What.TheVariants as W
 use Rattle.lines.specs.declared.Outcome.{Outcome}
 use Rattle.lines.specs.declared.Received.{Received}
 use Rattle.lines.specs.declared.Wrote.TheVariants as P
-use Rattle.lines.specs.Line.{most, outcomeOf, end_of, notTaken, placed, isReport, isRefusal, isEnd, read_by, readAt, calls, outcomes}
-use Rattle.lines.specs.Bytes.{mostBytes, words_in, readBytes}
-use Rattle.lines.specs.Links.{lastLink, receivedOn, readByOn, read_on, readBytesOn, callsOn, outcomesOn}
-use Rattle.lines.specs.ByteWriting.{byteWriterRows, writeBytes, bytesLeft}
-use Rattle.lines.specs.Stretches.{Run, runs, runsAt, gathered, idleWords, reportedWords, refusedWords}
-use Rattle.lines.specs.Spaced.{Spaced, line_of, reportsOf, AllFit, Apart, back}
-use Rattle.lines.specs.Rows.{rowsOn, byteRowsOn}
-use Rattle.lines.specs.Writing.{writerRows, writeAt, leftBy, puts, taken}
+use Rattle.lines.specs.Line.{most, outcome_of, end_of, not_taken_at, placed, is_report, is_refusal, is_end, read_by, read_at, calls, outcomes}
+use Rattle.lines.specs.Bytes.{most_bytes, words_in, read_bytes}
+use Rattle.lines.specs.Links.{last_link, received_on, read_by_on, read_on, read_bytes_on, calls_on, outcomes_on}
+use Rattle.lines.specs.ByteWriting.{byte_writer_rows, write_bytes, bytes_left}
+use Rattle.lines.specs.Stretches.{Run, runs, runs_at, gathered, idle_words, reported_words, refused_words}
+use Rattle.lines.specs.Spaced.{Spaced, line_of, reports_of, AllFit, Apart, back}
+use Rattle.lines.specs.Rows.{rows_on, byte_rows_on}
+use Rattle.lines.specs.Writing.{writer_rows, write_at, left_as, puts, taken}
 
 -- what looks at the words of a run
 abbrev pub Answer : Type 0
@@ -37,80 +37,80 @@ Answer = List ℕ → RunAnswer
 -- a refusal is given, with all its places and its link, exactly where its row is the first of the table that holds
 abbrev pub ReaderRefuses : Type 0
 ReaderRefuses =
-    (form : AltitudeForm) (link : ℕ) (line : List ℕ) (place : ℕ) (r : Received) → isRefusal r.outcome.what ≡ true
-    → (read_on form link line place ≡ r) ↔ FirstIs (rowsOn form link line place) r
+    (form : AltitudeForm) (link : ℕ) (line : List ℕ) (place : ℕ) (r : Received) → is_refusal r.outcome.what ≡ true
+    → (read_on form link line place ≡ r) ↔ FirstIs (rows_on form link line place) r
 
 abbrev pub ByteReaderRefuses : Type 0
 ByteReaderRefuses =
-    (form : AltitudeForm) (link : ℕ) (bytes : List ℕ) (place : ℕ) (r : Received) → isRefusal r.outcome.what ≡ true
-    → (readBytesOn form link bytes place ≡ r) ↔ FirstIs (byteRowsOn form link bytes place) r
+    (form : AltitudeForm) (link : ℕ) (bytes : List ℕ) (place : ℕ) (r : Received) → is_refusal r.outcome.what ≡ true
+    → (read_bytes_on form link bytes place ≡ r) ↔ FirstIs (byte_rows_on form link bytes place) r
 
 abbrev pub WriterRefuses : Type 0
 WriterRefuses =
     (form : AltitudeForm) (line : List ℕ) (place : ℕ) (r : Report) (q : LineRefusal) (p : ℕ)
-    → (writeAt form line place r ≡ P.Refused q p) ↔ FirstIs (writerRows form line place r) (P.Refused q p)
+    → (write_at form line place r ≡ P.Refused q p) ↔ FirstIs (writer_rows form line place r) (P.Refused q p)
 
 abbrev pub ByteWriterRefuses : Type 0
 ByteWriterRefuses =
     (form : AltitudeForm) (bytes : List ℕ) (place : ℕ) (r : Report) (q : LineRefusal) (p : ℕ)
-    → (writeBytes form bytes place r ≡ P.Refused q p) ↔ FirstIs (byteWriterRows form bytes place r) (P.Refused q p)
+    → (write_bytes form bytes place r ≡ P.Refused q p) ↔ FirstIs (byte_writer_rows form bytes place r) (P.Refused q p)
 
 -- and these are the places: of a run the place of its first word, the place after its last, and the word that is named, at the refusal's
 -- offset or, of a report, its first; of a link number, a line or a place that is not taken the caller's place three times
 pub record PlacesGiven : Type 0 where
-  pub refused-run : (first n o : ℕ) (q : LineRefusal) → placed first n (A.Refused q o) ≡ outcomeOf (W.Refused q) first (first + n) (first + o)
-  pub report : (first n : ℕ) (r : Report) → placed first n (A.Accepted r) ≡ outcomeOf (W.Accepted r) first (first + n) (first + 0)
-  pub not_taken : (q : LineRefusal) (place : ℕ) → notTaken q place ≡ outcomeOf (W.Refused q) place place place
+  pub refused_run : (first n o : ℕ) (q : LineRefusal) → placed first n (A.Refused q o) ≡ outcome_of (W.Refused q) first (first + n) (first + o)
+  pub report : (first n : ℕ) (r : Report) → placed first n (A.Accepted r) ≡ outcome_of (W.Accepted r) first (first + n) (first + 0)
+  pub not_taken : (q : LineRefusal) (place : ℕ) → not_taken_at q place ≡ outcome_of (W.Refused q) place place place
 
 -- ---- the link (document 02, Ticket 7; proofs/Linked.antt)
 
 -- with a number from 0 to 15 a reader answers what is found at the place, and that number
 pub record WithItsNumber : Type 0 where
-  pub any : (answer : Answer) (link : ℕ) (line : List ℕ) (place : ℕ) → link ≤ lastLink
-      → readByOn answer link line place ≡ receivedOn link (read_by answer line place)
-  pub words : (form : AltitudeForm) (link : ℕ) (line : List ℕ) (place : ℕ) → link ≤ lastLink
-      → read_on form link line place ≡ receivedOn link (readAt form line place)
-  pub bytes : (form : AltitudeForm) (link : ℕ) (bytes : List ℕ) (place : ℕ) → link ≤ lastLink
-      → readBytesOn form link bytes place ≡ receivedOn link (readBytes form bytes place)
+  pub any : (answer : Answer) (link : ℕ) (line : List ℕ) (place : ℕ) → link ≤ last_link
+      → read_by_on answer link line place ≡ received_on link (read_by answer line place)
+  pub words : (form : AltitudeForm) (link : ℕ) (line : List ℕ) (place : ℕ) → link ≤ last_link
+      → read_on form link line place ≡ received_on link (read_at form line place)
+  pub bytes : (form : AltitudeForm) (link : ℕ) (bytes : List ℕ) (place : ℕ) → link ≤ last_link
+      → read_bytes_on form link bytes place ≡ received_on link (read_bytes form bytes place)
 
 -- so two readings with two such numbers differ in the number alone
 pub record DifferInTheNumber : Type 0 where
-  pub words : (form : AltitudeForm) (link other : ℕ) (line : List ℕ) (place : ℕ) → link ≤ lastLink → other ≤ lastLink
-      → read_on form other line place ≡ receivedOn other (read_on form link line place).outcome
-  pub bytes : (form : AltitudeForm) (link other : ℕ) (bytes : List ℕ) (place : ℕ) → link ≤ lastLink → other ≤ lastLink
-      → readBytesOn form other bytes place ≡ receivedOn other (readBytesOn form link bytes place).outcome
+  pub words : (form : AltitudeForm) (link other : ℕ) (line : List ℕ) (place : ℕ) → link ≤ last_link → other ≤ last_link
+      → read_on form other line place ≡ received_on other (read_on form link line place).outcome
+  pub bytes : (form : AltitudeForm) (link other : ℕ) (bytes : List ℕ) (place : ℕ) → link ≤ last_link → other ≤ last_link
+      → read_bytes_on form other bytes place ≡ received_on other (read_bytes_on form link bytes place).outcome
 
 -- the number of an outcome is always one from 0 to 15
 pub record NumberInRange : Type 0 where
-  pub words : (form : AltitudeForm) (link : ℕ) (line : List ℕ) (place : ℕ) → (read_on form link line place).link ≤ lastLink
-  pub bytes : (form : AltitudeForm) (link : ℕ) (bytes : List ℕ) (place : ℕ) → (readBytesOn form link bytes place).link ≤ lastLink
+  pub words : (form : AltitudeForm) (link : ℕ) (line : List ℕ) (place : ℕ) → (read_on form link line place).link ≤ last_link
+  pub bytes : (form : AltitudeForm) (link : ℕ) (bytes : List ℕ) (place : ℕ) → (read_bytes_on form link bytes place).link ≤ last_link
 
 -- 13 is given exactly for a number above 15
 pub record NoSuchLinkExactly : Type 0 where
   pub words : (form : AltitudeForm) (link : ℕ) (line : List ℕ) (place : ℕ)
-      → ((read_on form link line place).outcome.what ≡ W.Refused NoSuchLink) ↔ (lastLink < link)
+      → ((read_on form link line place).outcome.what ≡ W.Refused NoSuchLink) ↔ (last_link < link)
   pub bytes : (form : AltitudeForm) (link : ℕ) (bytes : List ℕ) (place : ℕ)
-      → ((readBytesOn form link bytes place).outcome.what ≡ W.Refused NoSuchLink) ↔ (lastLink < link)
+      → ((read_bytes_on form link bytes place).outcome.what ≡ W.Refused NoSuchLink) ↔ (last_link < link)
 
 -- whatever the line is, the outcome then has the caller's place for all three places, and link 0
 pub record NoSuchLinkGives : Type 0 where
-  pub words : (form : AltitudeForm) (link : ℕ) (line : List ℕ) (place : ℕ) → lastLink < link
-      → read_on form link line place ≡ receivedOn 0 (outcomeOf (W.Refused NoSuchLink) place place place)
-  pub bytes : (form : AltitudeForm) (link : ℕ) (bytes : List ℕ) (place : ℕ) → lastLink < link
-      → readBytesOn form link bytes place ≡ receivedOn 0 (outcomeOf (W.Refused NoSuchLink) place place place)
+  pub words : (form : AltitudeForm) (link : ℕ) (line : List ℕ) (place : ℕ) → last_link < link
+      → read_on form link line place ≡ received_on 0 (outcome_of (W.Refused NoSuchLink) place place place)
+  pub bytes : (form : AltitudeForm) (link : ℕ) (bytes : List ℕ) (place : ℕ) → last_link < link
+      → read_bytes_on form link bytes place ≡ received_on 0 (outcome_of (W.Refused NoSuchLink) place place place)
 
 -- bytes that are few enough and even in number are read as the words that they hold, with every number
 abbrev pub BytesAsTheirWords : Type 0
 BytesAsTheirWords =
-    (form : AltitudeForm) (link : ℕ) (bytes : List ℕ) (place : ℕ) → length bytes ≤ mostBytes → length bytes % 2 ≡ 0
-    → readBytesOn form link bytes place ≡ read_on form link (words_in bytes) place
+    (form : AltitudeForm) (link : ℕ) (bytes : List ℕ) (place : ℕ) → length bytes ≤ most_bytes → length bytes % 2 ≡ 0
+    → read_bytes_on form link bytes place ≡ read_on form link (words_in bytes) place
 
 -- a line that is read with one number from 0 to 15 has the outcomes of which the laws below speak, each with that number
 pub record OnOneLink : Type 0 where
-  pub calls_are : (answer : Answer) (link k : ℕ) (line : List ℕ) (place : ℕ) → link ≤ lastLink
-      → callsOn answer link k line place ≡ map (receivedOn link) (calls answer k line place)
-  pub outcomes-are : (answer : Answer) (link : ℕ) (line : List ℕ) → link ≤ lastLink
-      → outcomesOn answer link line ≡ map (receivedOn link) (outcomes answer line)
+  pub calls_are : (answer : Answer) (link k : ℕ) (line : List ℕ) (place : ℕ) → link ≤ last_link
+      → calls_on answer link k line place ≡ map (received_on link) (calls answer k line place)
+  pub outcomes_are : (answer : Answer) (link : ℕ) (line : List ℕ) → link ≤ last_link
+      → outcomes_on answer link line ≡ map (received_on link) (outcomes answer line)
 
 -- ---- demand 1: the calls come to an end (proofs/Walked.antt, proofs/Outcomes.antt)
 
@@ -119,7 +119,7 @@ abbrev pub Onward : Type 0
 Onward =
     (answer : Answer) (line : List ℕ) (place : ℕ) → length line ≤ most → place ≤ length line →
     (read_by answer line place ≡ end_of (length line))
-    ⊎ ((isEnd (read_by answer line place).what ≡ false) × (place < (read_by answer line place).after) × ((read_by answer line place).after ≤ length line))
+    ⊎ ((is_end (read_by answer line place).what ≡ false) × (place < (read_by answer line place).after) × ((read_by answer line place).after ≤ length line))
 
 -- continuing from the place given, a line of n words is finished within (n + 1) / 2 rounded down, plus one, calls
 abbrev pub CallsEnough : Type 0
@@ -150,8 +150,8 @@ RunsAre = (line : List ℕ) → Stretches 0 (runs line) × (shown 0 (runs line) 
 -- ---- the walk from outcome to outcome (proofs/Walked.antt): whatever is worked out of a line by reading it run after run goes by these two laws
 
 -- the outcome of a run on its line
-abbrev pub outcomeOfRun : Answer → Run → Outcome
-outcomeOfRun answer r = placed r.place (length r.words) (answer r.words)
+abbrev pub outcome_of_run : Answer → Run → Outcome
+outcome_of_run answer r = placed r.place (length r.words) (answer r.words)
 
 -- the run that reading at a place meets: idle words up to it, its words there, an outcome that it gets from the place and from its own
 pub record Meets (answer : Answer) (line : List ℕ) (place : ℕ) (r : Run) : Type 0 where
@@ -159,10 +159,10 @@ pub record Meets (answer : Answer) (line : List ℕ) (place : ℕ) (r : Run) : T
   pub some : 0 < length r.words
   pub solid : Solid r.words
   pub inside : r.place + length r.words ≤ length line
-  pub idle-before : take (r.place - place) (drop place line) ≡ replicate (r.place - place) idle
+  pub idle_before : take (r.place - place) (drop place line) ≡ replicate (r.place - place) idle
   pub there : take (length r.words) (drop r.place line) ≡ r.words
-  pub outcome : read_by answer line place ≡ outcomeOfRun answer r
-  pub again : read_by answer line r.place ≡ outcomeOfRun answer r
+  pub outcome : read_by answer line place ≡ outcome_of_run answer r
+  pub again : read_by answer line r.place ≡ outcome_of_run answer r
 
 -- the induction. Let P speak of a place and of the runs from there on. It holds at the end, where no run is left. It holds at a place if it holds behind
 -- the run that is met there. Then it holds at every place
@@ -170,23 +170,23 @@ abbrev pub AlongTheWalk : Type 1
 AlongTheWalk =
     (answer : Answer) (line : List ℕ) → length line ≤ most → (P : ℕ → List Run → Type 0) →
     ((place : ℕ) → place ≤ length line → read_by answer line place ≡ end_of (length line) → P place []) →
-    ((place : ℕ) (r : Run) → Meets answer line place r → let behind = r.place + length r.words in P behind (runsAt line behind) → P place (r ∷ runsAt line behind)) →
-    (place : ℕ) → place ≤ length line → P place (runsAt line place)
+    ((place : ℕ) (r : Run) → Meets answer line place r → let behind = r.place + length r.words in P behind (runs_at line behind) → P place (r ∷ runs_at line behind)) →
+    (place : ℕ) → place ≤ length line → P place (runs_at line place)
 
 -- the step: what the runs from a place on bring is what the outcome there brings, and behind it what the runs from the place after it bring. `ofRun`
 -- says what a run brings; `ofOutcome` says the same from its outcome; the end brings nothing
 abbrev pub StepByStep : Type 1
 StepByStep =
     (answer : Answer) (line : List ℕ) → length line ≤ most → (X : Type 0) (ofRun : Run → List X) (ofOutcome : Outcome → List X) →
-    ofOutcome (end_of (length line)) ≡ [] → ((r : Run) → ofOutcome (outcomeOfRun answer r) ≡ ofRun r) →
+    ofOutcome (end_of (length line)) ≡ [] → ((r : Run) → ofOutcome (outcome_of_run answer r) ≡ ofRun r) →
     (place : ℕ) → place ≤ length line →
-    gathered ofRun (runsAt line place) ≡ ofOutcome (read_by answer line place) ++ gathered ofRun (runsAt line (read_by answer line place).after)
+    gathered ofRun (runs_at line place) ≡ ofOutcome (read_by answer line place) ++ gathered ofRun (runs_at line (read_by answer line place).after)
 
 -- ---- demand 3: one outcome for each stretch (proofs/Outcomes.antt)
 
 -- an outcome with its places moved along
 abbrev pub moved : ℕ → Outcome → Outcome
-moved p o = outcomeOf o.what (p + o.first) (p + o.after) (p + o.named)
+moved p o = outcome_of o.what (p + o.first) (p + o.after) (p + o.named)
 
 -- what the words of a run get alone, as a line of their own, places moved along
 abbrev pub alone : Answer → Run → Outcome
@@ -213,17 +213,17 @@ abbrev pub BeginsIdle : List ℕ → Type 0
 BeginsIdle ws = (ws ≡ []) ⊎ ((rest : List ℕ) × (ws ≡ idle ∷ rest))
 
 -- the outcomes before the end
-unfoldable pub beforeEnd : List Outcome → List Outcome
-beforeEnd [] = []
-beforeEnd (o ∷ os) = cond (isEnd o.what) [] (o ∷ beforeEnd os)
+unfoldable pub before_end : List Outcome → List Outcome
+before_end [] = []
+before_end (o ∷ os) = cond (is_end o.what) [] (o ∷ before_end os)
 
 -- a line in three parts that meet at idle words has the outcomes of the parts, moved along
 abbrev pub Splits : Type 0
 Splits =
     (answer : Answer) (pre mid post : List ℕ) → EndsIdle pre → BeginsIdle post → length (pre ++ (mid ++ post)) ≤ most →
     outcomes answer (pre ++ (mid ++ post))
-    ≡ beforeEnd (outcomes answer pre)
-    ++ (map (moved (length pre)) (beforeEnd (outcomes answer mid)) ++ map (moved (length pre + length mid)) (outcomes answer post))
+    ≡ before_end (outcomes answer pre)
+    ++ (map (moved (length pre)) (before_end (outcomes answer mid)) ++ map (moved (length pre + length mid)) (outcomes answer post))
 
 -- the outcomes whose first word does not lie from one place up to another
 unfoldable pub outside : ℕ → ℕ → List Outcome → List Outcome
@@ -241,24 +241,24 @@ Replaced =
 -- document 01, "Three easy errors": a flipped bit is not always seen. In an ATCRBS report bit 13 of 1022 is flipped, which makes it idle; what
 -- was one report is then a refused run and the Search report of the last four words (proofs/Flipped.antt)
 pub record FlippedBit : Type 0 where
-  pub before : outcomes (readRun signMagnitude) (3333 ∷ 1281 ∷ 1022 ∷ 868 ∷ 1281 ∷ 2048 ∷ 647 ∷ [])
-      ≡ outcomeOf (W.Accepted (reportOf signMagnitude (3333 ∷ 1281 ∷ 1022 ∷ 868 ∷ 1281 ∷ 2048 ∷ 647 ∷ []))) 0 7 0
+  pub before : outcomes (read_run sign_magnitude) (3333 ∷ 1281 ∷ 1022 ∷ 868 ∷ 1281 ∷ 2048 ∷ 647 ∷ [])
+      ≡ outcome_of (W.Accepted (report_of sign_magnitude (3333 ∷ 1281 ∷ 1022 ∷ 868 ∷ 1281 ∷ 2048 ∷ 647 ∷ []))) 0 7 0
       ∷ end_of 7
       ∷ []
-  pub of-atcrbs : kind_of (reportOf signMagnitude (3333 ∷ 1281 ∷ 1022 ∷ 868 ∷ 1281 ∷ 2048 ∷ 647 ∷ [])) ≡ K.Atcrbs
+  pub of_atcrbs : kind_of (report_of sign_magnitude (3333 ∷ 1281 ∷ 1022 ∷ 868 ∷ 1281 ∷ 2048 ∷ 647 ∷ [])) ≡ K.Atcrbs
   pub one_bit : flipped 13 1022 ≡ idle
-  pub after : outcomes (readRun signMagnitude) (3333 ∷ 1281 ∷ 1023 ∷ 868 ∷ 1281 ∷ 2048 ∷ 647 ∷ [])
-      ≡ outcomeOf (W.Refused WrongLength) 0 2 0
-      ∷ outcomeOf (W.Accepted (reportOf signMagnitude (868 ∷ 1281 ∷ 2048 ∷ 647 ∷ []))) 3 7 3
+  pub after : outcomes (read_run sign_magnitude) (3333 ∷ 1281 ∷ 1023 ∷ 868 ∷ 1281 ∷ 2048 ∷ 647 ∷ [])
+      ≡ outcome_of (W.Refused WrongLength) 0 2 0
+      ∷ outcome_of (W.Accepted (report_of sign_magnitude (868 ∷ 1281 ∷ 2048 ∷ 647 ∷ []))) 3 7 3
       ∷ end_of 7
       ∷ []
-  pub of-search : kind_of (reportOf signMagnitude (868 ∷ 1281 ∷ 2048 ∷ 647 ∷ [])) ≡ K.Search
+  pub of_search : kind_of (report_of sign_magnitude (868 ∷ 1281 ∷ 2048 ∷ 647 ∷ [])) ≡ K.Search
 
 -- ---- totals (proofs/Totals.antt)
 
 -- every word is idle, in a report or in a refused run
 abbrev pub TotalsAdd : Type 0
-TotalsAdd = (answer : Answer) (line : List ℕ) → idleWords line + reportedWords answer line + refusedWords answer line ≡ length line
+TotalsAdd = (answer : Answer) (line : List ℕ) → idle_words line + reported_words answer line + refused_words answer line ≡ length line
 
 -- the words of the outcomes of a kind
 unfoldable pub spanned : (What → Bool) → List Outcome → ℕ
@@ -269,7 +269,7 @@ spanned test (o ∷ os) = cond (test o.what) (o.after - o.first) 0 + spanned tes
 abbrev pub TotalsCounted : Type 0
 TotalsCounted =
     (answer : Answer) (line : List ℕ) → length line ≤ most →
-    (spanned isReport (outcomes answer line) ≡ reportedWords answer line) × (spanned isRefusal (outcomes answer line) ≡ refusedWords answer line)
+    (spanned is_report (outcomes answer line) ≡ reported_words answer line) × (spanned is_refusal (outcomes answer line) ≡ refused_words answer line)
 
 -- ---- demand 3: lists of reports (proofs/Back.antt, proofs/Written.antt)
 
@@ -286,13 +286,13 @@ ReadsBack =
 
 -- the reader in a sound form of the altitude is such an answer
 abbrev pub ReaderReturns : Type 0
-ReaderReturns = (form : AltitudeForm) → Sound form → Returns (readRun form) form
+ReaderReturns = (form : AltitudeForm) → Sound form → Returns (read_run form) form
 
 -- two such lists whose lines are equal are equal
 abbrev pub EqualListsIn : AltitudeForm → Type 0
 EqualListsIn form =
     (ss ts : List Spaced) (m n : ℕ) → AllFit form ss → Apart ss → AllFit form ts → Apart ts →
-    length (line_of form ss m) ≤ most → line_of form ss m ≡ line_of form ts n → reportsOf ss ≡ reportsOf ts
+    length (line_of form ss m) ≤ most → line_of form ss m ≡ line_of form ts n → reports_of ss ≡ reports_of ts
 
 abbrev pub EqualLists : Type 0
 EqualLists = (form : AltitudeForm) → Sound form → EqualListsIn form
@@ -305,7 +305,7 @@ WrittenSo =
     × (tail : ℕ)
     × AllFit form ss
     × Apart ss
-    × (reportsOf ss ≡ taken form (replicate n idle) place rs)
+    × (reports_of ss ≡ taken form (replicate n idle) place rs)
     × (puts form (replicate n idle) place rs ≡ line_of form ss tail)
 
 -- ---- the writer (proofs/Written.antt)
@@ -317,33 +317,33 @@ put line place ws = take place line ++ (ws ++ drop (length ws) (drop place line)
 -- an accepted call is its two leaves: the words, and then one idle word right behind them
 abbrev pub Composed : Type 0
 Composed =
-    (form : AltitudeForm) (line : List ℕ) (place next : ℕ) (r : Report) → writeAt form line place r ≡ P.Next next →
-    leftBy (P.Next next) line place (words_of form r)
+    (form : AltitudeForm) (line : List ℕ) (place next : ℕ) (r : Report) → write_at form line place r ≡ P.Next next →
+    left_as (P.Next next) line place (words_of form r)
     ≡ put (put line place (words_of form r)) (place + length (words_of form r)) (replicate 1 idle)
 
 -- an accepted call changes nothing outside its words, from the place up to the one that it gives; a refused one changes nothing
 abbrev pub OnlyItsWords : Type 0
 OnlyItsWords =
-    (form : AltitudeForm) (line : List ℕ) (place next : ℕ) (r : Report) → writeAt form line place r ≡ P.Next next →
-    (length (leftBy (P.Next next) line place (words_of form r)) ≡ length line)
-    × (take place (leftBy (P.Next next) line place (words_of form r)) ≡ take place line)
-    × (drop next (leftBy (P.Next next) line place (words_of form r)) ≡ drop next line)
+    (form : AltitudeForm) (line : List ℕ) (place next : ℕ) (r : Report) → write_at form line place r ≡ P.Next next →
+    (length (left_as (P.Next next) line place (words_of form r)) ≡ length line)
+    × (take place (left_as (P.Next next) line place (words_of form r)) ≡ take place line)
+    × (drop next (left_as (P.Next next) line place (words_of form r)) ≡ drop next line)
 
 abbrev pub RefusedLeaves : Type 0
 RefusedLeaves =
-    (form : AltitudeForm) (line : List ℕ) (place p : ℕ) (r : Report) (q : LineRefusal) → writeAt form line place r ≡ P.Refused q p →
-    (p ≡ place) × (leftBy (writeAt form line place r) line place (words_of form r) ≡ line)
+    (form : AltitudeForm) (line : List ℕ) (place p : ℕ) (r : Report) (q : LineRefusal) → write_at form line place r ≡ P.Refused q p →
+    (p ≡ place) × (left_as (write_at form line place r) line place (words_of form r) ≡ line)
 
 -- ---- bytes
 
 -- bytes that are few enough and even in number are read, and written, as the line of the words that they hold (proofs/ByteWords.antt)
 abbrev pub BytesAsWords : Type 0
 BytesAsWords =
-    (form : AltitudeForm) (bytes : List ℕ) (place : ℕ) (r : Report) → length bytes ≤ mostBytes → length bytes % 2 ≡ 0 →
-    (readBytes form bytes place ≡ readAt form (words_in bytes) place) × (writeBytes form bytes place r ≡ writeAt form (words_in bytes) place r)
+    (form : AltitudeForm) (bytes : List ℕ) (place : ℕ) (r : Report) → length bytes ≤ most_bytes → length bytes % 2 ≡ 0 →
+    (read_bytes form bytes place ≡ read_at form (words_in bytes) place) × (write_bytes form bytes place r ≡ write_at form (words_in bytes) place r)
 
 -- the bytes that a call leaves hold the words that it would leave of the words that they held (proofs/ByteLeft.antt)
 abbrev pub SameWords : Type 0
 SameWords =
     (form : AltitudeForm) (bytes : List ℕ) (place : ℕ) (r : Report) →
-    words_in (bytesLeft (writeBytes form bytes place r) bytes place (words_of form r)) ≡ leftBy (writeBytes form bytes place r) (words_in bytes) place (words_of form r)
+    words_in (bytes_left (write_bytes form bytes place r) bytes place (words_of form r)) ≡ left_as (write_bytes form bytes place r) (words_in bytes) place (words_of form r)

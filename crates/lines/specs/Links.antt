@@ -6,54 +6,54 @@ use Rattle.rows.specs.Rows.{Row, row, first_of}
 use Rattle.refusals.specs.declared.LineRefusal.TheVariants.{NoSuchLink}
 use Rattle.reports.specs.declared.RunAnswer.{RunAnswer}
 use Rattle.reports.specs.Altitude.{AltitudeForm}
-use Rattle.reports.specs.Runs.{readRun}
+use Rattle.reports.specs.Runs.{read_run}
 use Rattle.lines.specs.declared.Outcome.{Outcome}
 use Rattle.lines.specs.declared.Received.{Received}
-use Rattle.lines.specs.Line.{notTaken, isEnd, read_by}
-use Rattle.lines.specs.Bytes.{readBytes}
+use Rattle.lines.specs.Line.{not_taken_at, is_end, read_by}
+use Rattle.lines.specs.Bytes.{read_bytes}
 
 -- the last link number; the first is 0
-abbrev pub lastLink : ℕ
-lastLink = 15
+abbrev pub last_link : ℕ
+last_link = 15
 
 -- the number of an outcome that came on no link: 0, which is the first link's number too
 abbrev pub no_link : ℕ
 no_link = 0
 
 -- an outcome, with the number of its link
-abbrev pub receivedOn : ℕ → Outcome → Received
-receivedOn link o = record { link = link; outcome = o }
+abbrev pub received_on : ℕ → Outcome → Received
+received_on link o = record { link = link; outcome = o }
 
 -- 13: link number above 15; the caller's place for all three places, and link 0
-abbrev pub aboveLast : ℕ → ℕ → Row Received
-aboveLast link place = row (ltb lastLink link) (receivedOn no_link (notTaken NoSuchLink place))
+abbrev pub above_last : ℕ → ℕ → Row Received
+above_last link place = row (ltb last_link link) (received_on no_link (not_taken_at NoSuchLink place))
 
 -- ---- the readers: 13 first; else what is found at the place, with the number that was given
 
 -- whatever is found
-abbrev pub onLink : ℕ → ℕ → Outcome → Received
-onLink link place found = first_of (aboveLast link place ∷ []) (receivedOn link found)
+abbrev pub on_link : ℕ → ℕ → Outcome → Received
+on_link link place found = first_of (above_last link place ∷ []) (received_on link found)
 
 -- of words, for any answer to a run
-abbrev pub readByOn : (List ℕ → RunAnswer) → ℕ → List ℕ → ℕ → Received
-readByOn answer link line place = onLink link place (read_by answer line place)
+abbrev pub read_by_on : (List ℕ → RunAnswer) → ℕ → List ℕ → ℕ → Received
+read_by_on answer link line place = on_link link place (read_by answer line place)
 
 -- of words
 abbrev pub read_on : AltitudeForm → ℕ → List ℕ → ℕ → Received
-read_on form link line place = readByOn (readRun form) link line place
+read_on form link line place = read_by_on (read_run form) link line place
 
 -- of bytes
-abbrev pub readBytesOn : AltitudeForm → ℕ → List ℕ → ℕ → Received
-readBytesOn form link bytes place = onLink link place (readBytes form bytes place)
+abbrev pub read_bytes_on : AltitudeForm → ℕ → List ℕ → ℕ → Received
+read_bytes_on form link bytes place = on_link link place (read_bytes form bytes place)
 
 -- ---- the calls, all with one number
 
 -- at most k of them, the first from a place, each other from the place after the one before it, up to the end
-unfoldable pub callsOn : (List ℕ → RunAnswer) → ℕ → ℕ → List ℕ → ℕ → List Received
-callsOn answer link zero line place = []
-callsOn answer link (suc k) line place =
-    let r = readByOn answer link line place in r ∷ cond (isEnd r.outcome.what) [] (callsOn answer link k line r.outcome.after)
+unfoldable pub calls_on : (List ℕ → RunAnswer) → ℕ → ℕ → List ℕ → ℕ → List Received
+calls_on answer link zero line place = []
+calls_on answer link (suc k) line place =
+    let r = read_by_on answer link line place in r ∷ cond (is_end r.outcome.what) [] (calls_on answer link k line r.outcome.after)
 
 -- a line of at most `most` words read from its start, as `outcomes` does it
-abbrev pub outcomesOn : (List ℕ → RunAnswer) → ℕ → List ℕ → List Received
-outcomesOn answer link line = callsOn answer link (suc (length line)) line 0
+abbrev pub outcomes_on : (List ℕ → RunAnswer) → ℕ → List ℕ → List Received
+outcomes_on answer link line = calls_on answer link (suc (length line)) line 0

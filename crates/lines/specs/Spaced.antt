@@ -7,7 +7,7 @@ use Rattle.reports.specs.Altitude.{AltitudeForm}
 use Rattle.reports.specs.Layouts.{words_of, Fits}
 use Rattle.lines.specs.declared.What.TheVariants as W
 use Rattle.lines.specs.declared.Outcome.{Outcome}
-use Rattle.lines.specs.Line.{outcomeOf}
+use Rattle.lines.specs.Line.{outcome_of}
 
 -- a report, and how many idle words stand before it
 pub record Spaced : Type 0 where
@@ -19,9 +19,9 @@ unfoldable pub line_of : AltitudeForm → List Spaced → ℕ → List ℕ
 line_of form [] tail = replicate tail idle
 line_of form (s ∷ ss) tail = replicate s.ahead idle ++ (words_of form s.report ++ line_of form ss tail)
 
-abbrev pub reportsOf : List Spaced → List Report
-reportsOf [] = []
-reportsOf (s ∷ ss) = s.report ∷ reportsOf ss
+abbrev pub reports_of : List Spaced → List Report
+reports_of [] = []
+reports_of (s ∷ ss) = s.report ∷ reports_of ss
 
 -- every report fits its layout
 abbrev pub AllFit : AltitudeForm → List Spaced → Type 0
@@ -44,4 +44,4 @@ back form place [] = []
 back form place (s ∷ ss) =
     let first = place + s.ahead in
     let next = first + length (words_of form s.report) in
-    outcomeOf (W.Accepted s.report) first next first ∷ back form next ss
+    outcome_of (W.Accepted s.report) first next first ∷ back form next ss

@@ -3,7 +3,7 @@
 use Rattle.std.specs.Prelude.{ℕ, suc, ◌+◌, Bool, not, cond, List, [], ◌∷◌, ◌++◌, eqb, length, drop}
 use Rattle.words.specs.Word.{idle}
 use Rattle.reports.specs.declared.RunAnswer.{RunAnswer}
-use Rattle.reports.specs.Runs.{isAccepted}
+use Rattle.reports.specs.Runs.{is_accepted}
 
 -- an unbroken stretch of words that are not idle, and the place of its first word
 pub record Run : Type 0 where
@@ -16,18 +16,18 @@ closed place [] rs = rs
 closed place (w ∷ ws) rs = record { place = place; words = w ∷ ws } ∷ rs
 
 -- along the line, with the stretch that is open (from its place on): an idle word closes it, another word belongs to it
-unfoldable pub runsFrom : ℕ → List ℕ → List ℕ → List Run
-runsFrom place open' [] = closed place open' []
-runsFrom place open' (w ∷ ws) =
-    cond (eqb w idle) (closed place open' (runsFrom (place + length open' + 1) [] ws)) (runsFrom place (open' ++ (w ∷ [])) ws)
+unfoldable pub runs_from : ℕ → List ℕ → List ℕ → List Run
+runs_from place open' [] = closed place open' []
+runs_from place open' (w ∷ ws) =
+    cond (eqb w idle) (closed place open' (runs_from (place + length open' + 1) [] ws)) (runs_from place (open' ++ (w ∷ [])) ws)
 
 -- the stretches of a line, in order; RunsAre (Claims.antt) says what else they are
 abbrev pub runs : List ℕ → List Run
-runs line = runsFrom 0 [] line
+runs line = runs_from 0 [] line
 
 -- those from a place on, each at its place on the whole line; from a place inside a stretch the first begins there
-abbrev pub runsAt : List ℕ → ℕ → List Run
-runsAt line place = runsFrom place [] (drop place line)
+abbrev pub runs_at : List ℕ → ℕ → List Run
+runs_at line place = runs_from place [] (drop place line)
 
 -- what each of a list brings, one behind the other
 unfoldable pub gathered : {R X : Type 0} → (R → List X) → List R → List X
@@ -36,18 +36,18 @@ gathered brings (r ∷ rs) = brings r ++ gathered brings rs
 
 -- ---- totals
 
-unfoldable pub idleWords : List ℕ → ℕ
-idleWords [] = 0
-idleWords (w ∷ ws) = cond (eqb w idle) (suc (idleWords ws)) (idleWords ws)
+unfoldable pub idle_words : List ℕ → ℕ
+idle_words [] = 0
+idle_words (w ∷ ws) = cond (eqb w idle) (suc (idle_words ws)) (idle_words ws)
 
 -- the words of the runs whose answer passes a test
-unfoldable pub wordsWhere : (RunAnswer → Bool) → (List ℕ → RunAnswer) → List Run → ℕ
-wordsWhere test answer [] = 0
-wordsWhere test answer (r ∷ rs) = cond (test (answer r.words)) (length r.words) 0 + wordsWhere test answer rs
+unfoldable pub words_where : (RunAnswer → Bool) → (List ℕ → RunAnswer) → List Run → ℕ
+words_where test answer [] = 0
+words_where test answer (r ∷ rs) = cond (test (answer r.words)) (length r.words) 0 + words_where test answer rs
 
 -- the words in reports, and in refused runs
-abbrev pub reportedWords : (List ℕ → RunAnswer) → List ℕ → ℕ
-reportedWords answer line = wordsWhere isAccepted answer (runs line)
+abbrev pub reported_words : (List ℕ → RunAnswer) → List ℕ → ℕ
+reported_words answer line = words_where is_accepted answer (runs line)
 
-abbrev pub refusedWords : (List ℕ → RunAnswer) → List ℕ → ℕ
-refusedWords answer line = wordsWhere (λ a. not (isAccepted a)) answer (runs line)
+abbrev pub refused_words : (List ℕ → RunAnswer) → List ℕ → ℕ
+refused_words answer line = words_where (λ a. not (is_accepted a)) answer (runs line)

@@ -13,34 +13,34 @@ use Rattle.lines.specs.Line.{most}
 -- ---- one call
 
 -- 1, 11 and 10, on a line of n words
-abbrev pub placeRows : AltitudeForm → ℕ → ℕ → Report → List (Row Wrote)
-placeRows form n place r =
+abbrev pub place_rows : AltitudeForm → ℕ → ℕ → Report → List (Row Wrote)
+place_rows form n place r =
     row (ltb n place) (W.Refused PlaceBeyondLine place)
     ∷ row (not (takes form r)) (W.Refused ValueTooLarge place)
     ∷ row (ltb (n - place) (length (words_of form r) + 1)) (W.Refused NoRoom place)
     ∷ []
 
 -- the writer's rows: 2, then 1, 11 and 10
-abbrev pub writerRows : AltitudeForm → List ℕ → ℕ → Report → List (Row Wrote)
-writerRows form line place r = row (ltb most (length line)) (W.Refused LineTooLong place) ∷ placeRows form (length line) place r
+abbrev pub writer_rows : AltitudeForm → List ℕ → ℕ → Report → List (Row Wrote)
+writer_rows form line place r = row (ltb most (length line)) (W.Refused LineTooLong place) ∷ place_rows form (length line) place r
 
 -- the place after a report's words and one idle word
-abbrev pub wroteAfter : AltitudeForm → ℕ → Report → Wrote
-wroteAfter form place r = W.Next (place + length (words_of form r) + 1)
+abbrev pub wrote_after : AltitudeForm → ℕ → Report → Wrote
+wrote_after form place r = W.Next (place + length (words_of form r) + 1)
 
 -- the writer's answer
-unfoldable pub writeAt : AltitudeForm → List ℕ → ℕ → Report → Wrote
-writeAt form line place r = first_of (writerRows form line place r) (wroteAfter form place r)
+unfoldable pub write_at : AltitudeForm → List ℕ → ℕ → Report → Wrote
+write_at form line place r = first_of (writer_rows form line place r) (wrote_after form place r)
 
 -- the line that a call leaves: what stood before the place, the words, the idle word, what stood behind; refused, nothing has changed
-abbrev pub leftBy : Wrote → List ℕ → ℕ → List ℕ → List ℕ
-leftBy (W.Next next) line place ws = take place line ++ (ws ++ (idle ∷ drop next line))
-leftBy (W.Refused q p) line place ws = line
+abbrev pub left_as : Wrote → List ℕ → ℕ → List ℕ → List ℕ
+left_as (W.Next next) line place ws = take place line ++ (ws ++ (idle ∷ drop next line))
+left_as (W.Refused q p) line place ws = line
 
 -- what a call of the writer answers, and the line that it leaves
 pub record Writes (form : AltitudeForm) (line : List ℕ) (place : ℕ) (r : Report) (answer : Wrote) (exit : List ℕ) : Type 0 where
-  pub answers : answer ≡ writeAt form line place r
-  pub leaves : exit ≡ leftBy (writeAt form line place r) line place (words_of form r)
+  pub answers : answer ≡ write_at form line place r
+  pub leaves : exit ≡ left_as (write_at form line place r) line place (words_of form r)
 
 -- ---- calls one after the other
 
@@ -52,7 +52,7 @@ next (W.Refused q p) = p
 -- each at the place that the one before it gave: the line that they leave
 unfoldable pub puts : AltitudeForm → List ℕ → ℕ → List Report → List ℕ
 puts form line place [] = line
-puts form line place (r ∷ rs) = let w = writeAt form line place r in puts form (leftBy w line place (words_of form r)) (next w) rs
+puts form line place (r ∷ rs) = let w = write_at form line place r in puts form (left_as w line place (words_of form r)) (next w) rs
 
 -- a report is among those written if its call was not refused
 abbrev pub among : Wrote → Report → List Report → List Report
@@ -63,4 +63,4 @@ among (W.Refused q p) r rs = rs
 unfoldable pub taken : AltitudeForm → List ℕ → ℕ → List Report → List Report
 taken form line place [] = []
 taken form line place (r ∷ rs) =
-    let w = writeAt form line place r in among w r (taken form (leftBy w line place (words_of form r)) (next w) rs)
+    let w = write_at form line place r in among w r (taken form (left_as w line place (words_of form r)) (next w) rs)

@@ -3,8 +3,8 @@
 // The reader stands in line_reader, the writer in line_writer; what both mean, and the laws on whole lines, stand here in specs/ and proofs/.
 // Relies on reports for the records, refusals for names.
 ghost use Rattle.std.specs.Prelude.{◌≡◌};
-ghost use Rattle.lines.specs.Line.{outcomeOf};
-ghost use Rattle.lines.specs.Links.{receivedOn};
+ghost use Rattle.lines.specs.Line.{outcome_of};
+ghost use Rattle.lines.specs.Links.{received_on};
 
 use refusals::LineRefusal;
 use reports::Report;
@@ -36,7 +36,7 @@ pub struct Outcome {
 impl Outcome {
     // Every outcome is made here.
     pub fn new(what: What, first: usize, after: usize, named: usize) -> Self
-        ensures { result ≡ outcomeOf what first after named }
+        ensures { result ≡ outcome_of what first after named }
     {
         Outcome {
             what,
@@ -60,7 +60,7 @@ pub struct Received {
 impl Received {
     // Each is made here.
     pub fn new(link: u32, outcome: Outcome) -> Self
-        ensures { result ≡ receivedOn link outcome }
+        ensures { result ≡ received_on link outcome }
     {
         Received { link, outcome }
     }

@@ -5,14 +5,14 @@ use mathlib.Core.Logic.{◌⊎◌, ⊎_elim}
 use mathlib.Core.List.{List, [], ◌∷◌}
 use native.Mathlib.Omega.{arith}
 use lib.ListN.{length, drop}
-use Rattle.reports.specs.Records.{reportOf}
+use Rattle.reports.specs.Records.{report_of}
 use Rattle.lines.specs.declared.Outcome.{Outcome}
-use Rattle.lines.specs.Bytes.{mostBytes, words_in, readBytes}
-use Rattle.lines.specs.Line.{most, end_of, gap, runIn, placed, outcomeAt, read_by}
-use Rattle.lines.proofs.ByteWords.{words-length, bytes-as-words}
-use Rattle.lines.proofs.Walked.{read-there, onward}
+use Rattle.lines.specs.Bytes.{most_bytes, words_in, read_bytes}
+use Rattle.lines.specs.Line.{most, end_of, gap, run_in, placed, outcome_at, read_by}
+use Rattle.lines.proofs.ByteWords.{words_length, bytes_as_words}
+use Rattle.lines.proofs.Walked.{read_there, onward}
 use Rattle.listing.specs.declared.Walk.{Walk}
-use Rattle.listing.specs.Listing.{listerForm, answer}
+use Rattle.listing.specs.Listing.{lister_form, answer}
 use Rattle.listing.specs.Bounds.{Within}
 
 -- from a place up to the end of a line of n words
@@ -23,15 +23,15 @@ pub record Between (p n : ℕ) (o : Outcome) : Type 0 where
 
 pub between : (line : List ℕ) (p : ℕ) → length line ≤ most → p ≤ length line → Between p (length line) (read_by answer line p)
 between line p m h =
-    byRun (runIn (drop p line)) refl
+    by_run (run_in (drop p line)) refl
   where
-    byRun : (run : List ℕ) → runIn (drop p line) ≡ run → Between p (length line) (read_by answer line p)
-    byRun [] e =
-        let o : read_by answer line p ≡ end_of (length line) = read-there answer line p m h ∙ ap (outcomeAt answer (length line) (p + gap (drop p line))) e in
+    by_run : (run : List ℕ) → run_in (drop p line) ≡ run → Between p (length line) (read_by answer line p)
+    by_run [] e =
+        let o : read_by answer line p ≡ end_of (length line) = read_there answer line p m h ∙ ap (outcome_at answer (length line) (p + gap (drop p line))) e in
         subst (Between p (length line)) (sym o) (record { behind = h; forward = omega arith; inside = omega arith })
-    byRun (w ∷ l) e =
+    by_run (w ∷ l) e =
         let f = p + gap (drop p line) in
-        let o : read_by answer line p ≡ placed f (length (w ∷ l)) (answer (w ∷ l)) = read-there answer line p m h ∙ ap (outcomeAt answer (length line) f) e in
+        let o : read_by answer line p ≡ placed f (length (w ∷ l)) (answer (w ∷ l)) = read_there answer line p m h ∙ ap (outcome_at answer (length line) f) e in
         let first : (read_by answer line p).first ≡ f = ap (λ (x : Outcome). x.first) o in
         let after : (read_by answer line p).after ≡ f + length (w ∷ l) = ap (λ (x : Outcome). x.after) o in
         record {
@@ -45,15 +45,15 @@ between line p m h =
         }
 
 -- within 65,536 bytes, an even number, the reader of bytes is that of words
-pub by-words : (bytes : List ℕ) (p : ℕ) → length bytes ≤ mostBytes → (length bytes % 2 ≡ 1 → ⊥) → readBytes listerForm bytes p ≡ read_by answer (words_in bytes) p
-by-words bytes p s e = (bytes-as-words listerForm bytes p (reportOf listerForm []) s (omega arith)).0
+pub by_words : (bytes : List ℕ) (p : ℕ) → length bytes ≤ most_bytes → (length bytes % 2 ≡ 1 → ⊥) → read_bytes lister_form bytes p ≡ read_by answer (words_in bytes) p
+by_words bytes p s e = (bytes_as_words lister_form bytes p (report_of lister_form []) s (omega arith)).0
 
-pub within : (bytes : List ℕ) (w : Walk) (n : ℕ) (o : Outcome) → length bytes ≤ mostBytes → (length bytes % 2 ≡ 1 → ⊥) → n ≡ length bytes / 2
-    → w.place ≤ n → w.reported ≤ w.place → w.refused ≤ w.place - w.reported → o ≡ readBytes listerForm bytes w.place → Within n w o
+pub within : (bytes : List ℕ) (w : Walk) (n : ℕ) (o : Outcome) → length bytes ≤ most_bytes → (length bytes % 2 ≡ 1 → ⊥) → n ≡ length bytes / 2
+    → w.place ≤ n → w.reported ≤ w.place → w.refused ≤ w.place - w.reported → o ≡ read_bytes lister_form bytes w.place → Within n w o
 within bytes w n o s e size a b c is =
-    let k = words-length bytes in
+    let k = words_length bytes in
     let t = between (words_in bytes) w.place (omega arith) (omega arith) in
-    let i = is ∙ by-words bytes w.place s e in
+    let i = is ∙ by_words bytes w.place s e in
     let first = ap (λ (x : Outcome). x.first) i in
     let after = ap (λ (x : Outcome). x.after) i in
     record {

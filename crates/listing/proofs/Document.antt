@@ -2,12 +2,12 @@
 use mathlib.Core.Path.{refl}
 use lib.Count.{ones, ones_in}
 use Rattle.words.specs.Word.{first}
-use Rattle.reports.specs.Conditions.{zeros, fourZeros, heightSpares, sevenSpares}
+use Rattle.reports.specs.Conditions.{zeros, four_zeros, height_spares, seven_spares}
 use Rattle.listing.specs.Claims.{DocumentForm, LinkZero}
 
-pub document-form : DocumentForm
-unfolding ones ones_in first zeros fourZeros heightSpares sevenSpares
-document-form = refl
+pub document_form : DocumentForm
+unfolding ones ones_in first zeros four_zeros height_spares seven_spares
+document_form = refl
 
-pub link-zero : LinkZero
-link-zero = refl
+pub link_zero : LinkZero
+link_zero = refl

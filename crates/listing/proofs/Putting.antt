@@ -9,14 +9,14 @@ use lib.Seq.{drop-cons, set_at, set_split, append_snoc, drop-drop, length-take-l
 use Rattle.reports.specs.declared.kinds.Kind.{Kind}
 use Rattle.reports.specs.declared.kinds.Kind.TheVariants as K
 use Rattle.listing.specs.Letters.{decimal, name_of, put, Put}
-use Rattle.listing.proofs.Decimals.{one-digit, last-digit, length-one, length_last}
+use Rattle.listing.proofs.Decimals.{one_digit, last_digit, length_one, length_last}
 
 front_length : (l : List ℕ) (at : ℕ) (x : List ℕ) → at ≤ length l → length (take at l ++ x) ≡ at + length x
 front_length l at x h = length-append (take at l) x ∙ ap (λ (k : ℕ). k + length x) (length-take-le at l h)
 
 -- one byte more
-put-more : (l : List ℕ) (at : ℕ) (x : List ℕ) (b : ℕ) → at + length x < length l → set (put l at x) (at + length x) b ≡ put l at (x ++ (b ∷ []))
-put-more l at x b h =
+put_more : (l : List ℕ) (at : ℕ) (x : List ℕ) (b : ℕ) → at + length x < length l → set (put l at x) (at + length x) b ≡ put l at (x ++ (b ∷ []))
+put_more l at x b h =
     let n = at + length x in
     let front = take at l ++ x in
     let rest = drop (suc n) l in
@@ -27,8 +27,8 @@ put-more l at x b h =
     ∙ ap (λ (k : ℕ). take at l ++ (x ++ (b ∷ [])) ++ drop k l) (let e = length-append x (b ∷ []) in let z : suc n ≡ at + length (x ++ (b ∷ [])) = omega arith in z)
 
 -- and more behind it
-put-put : (l : List ℕ) (at : ℕ) (x y : List ℕ) → at ≤ length l → put (put l at x) (at + length x) y ≡ put l at (x ++ y)
-put-put l at x y h =
+put_put : (l : List ℕ) (at : ℕ) (x y : List ℕ) → at ≤ length l → put (put l at x) (at + length x) y ≡ put l at (x ++ y)
+put_put l at x y h =
     let n = at + length x in
     let front = take at l ++ x in
     let rest = drop n l in
@@ -50,7 +50,7 @@ then {e} {o} {p} {x} {y} {at} {a} {b} h f g =
           g.leaves
           ∙ ap (λ (k : ℕ). put o k y) f.answers
           ∙ ap (λ (l : List ℕ). put l (at + length x) y) f.leaves
-          ∙ put-put e at x y h;
+          ∙ put_put e at x y h;
     }
 
 -- from the buffer's start on
@@ -60,18 +60,18 @@ from_start {e} {p} {x} f = f.leaves ∙ ap (λ (k : ℕ). x ++ drop k e) (zero-a
 -- a number of one digit
 pub put_first : (l : List ℕ) (at n d : ℕ) → at + length (decimal n) ≤ 64 → 64 ≤ length l → n < 10 → d ≡ 48 + n → Put l at (decimal n) (at + 1) (set l at d)
 put_first l at n d h s b e =
-    let one = length-one n b in
+    let one = length_one n b in
     record {
       answers = omega arith;
       fits = omega arith;
       leaves =
-          set-put l at d (omega arith)
+          set_put l at d (omega arith)
           ∙ ap (λ (k : ℕ). put l at (k ∷ [])) e
-          ∙ ap (put l at) (sym (one-digit n b));
+          ∙ ap (put l at) (sym (one_digit n b));
     }
   where
-    set-put : (l : List ℕ) (at d : ℕ) → at < length l → set l at d ≡ put l at (d ∷ [])
-    set-put l at d h =
+    set_put : (l : List ℕ) (at d : ℕ) → at < length l → set l at d ≡ put l at (d ∷ [])
+    set_put l at d h =
         set_split l at d h
         ∙ sym (append_snoc (take at l) d (drop (suc at) l))
         ∙ ap (λ (k : ℕ). take at l ++ (d ∷ []) ++ drop k l) (let z : suc at ≡ at + 1 = omega arith in z)
@@ -87,28 +87,28 @@ put_last l o at a n d h s b e f =
       leaves =
           ap (λ (k : ℕ). set o k d) f.answers
           ∙ ap (λ (q : List ℕ). set q (at + length (decimal (n / 10))) d) f.leaves
-          ∙ put-more l at (decimal (n / 10)) d (omega arith)
+          ∙ put_more l at (decimal (n / 10)) d (omega arith)
           ∙ ap (λ (k : ℕ). put l at (decimal (n / 10) ++ (k ∷ []))) e
-          ∙ ap (put l at) (sym (last-digit n b));
+          ∙ ap (put l at) (sym (last_digit n b));
     }
 
 -- a kind's name, put for a kind that it is
 pub named : {e o : List ℕ} {at a : ℕ} {kind other : Kind} → kind ≡ other → Put e at (name_of other) a o → Put e at (name_of kind) a o
 named {e} {o} {at} {a} h f = subst (λ (k : Kind). Put e at (name_of k) a o) (sym h) f
 
-pub name-short : (kind : Kind) → length (name_of kind) ≤ 11
-name-short K.Search = omega arith
-name-short K.Strobe = omega arith
-name-short K.Map = omega arith
-name-short K.Status = omega arith
-name-short K.Rtqc = omega arith
-name-short K.Dabs = omega arith
-name-short K.DabsCd = omega arith
-name-short K.DabsMtd = omega arith
-name-short K.DabsRdas = omega arith
-name-short K.Atcrbs = omega arith
-name-short K.AtcrbsCd = omega arith
-name-short K.AtcrbsMtd = omega arith
-name-short K.AtcrbsRdas = omega arith
-name-short K.Mtd = omega arith
-name-short K.Rdas = omega arith
+pub name_short : (kind : Kind) → length (name_of kind) ≤ 11
+name_short K.Search = omega arith
+name_short K.Strobe = omega arith
+name_short K.Map = omega arith
+name_short K.Status = omega arith
+name_short K.Rtqc = omega arith
+name_short K.Dabs = omega arith
+name_short K.DabsCd = omega arith
+name_short K.DabsMtd = omega arith
+name_short K.DabsRdas = omega arith
+name_short K.Atcrbs = omega arith
+name_short K.AtcrbsCd = omega arith
+name_short K.AtcrbsMtd = omega arith
+name_short K.AtcrbsRdas = omega arith
+name_short K.Mtd = omega arith
+name_short K.Rdas = omega arith

@@ -3,7 +3,7 @@ use Rattle.std.specs.Prelude.{ℕ, ◌+◌, ◌/◌, ◌≤◌, ◌≡◌, true,
 use Rattle.lines.specs.Bytes.{words_in}
 use Rattle.refusals.specs.declared.LineRefusal.TheVariants.{MinusZero}
 use Rattle.reports.specs.declared.RunAnswer.TheVariants.{Refused}
-use Rattle.listing.specs.Listing.{listerLink, answer, listing}
+use Rattle.listing.specs.Listing.{lister_link, answer, listing}
 use Rattle.listing.specs.Walking.{start, fills, reached}
 
 -- the lister reads altitudes in document 01's form: C3, the run of its example, gets 9 (proofs/Document.antt)
@@ -12,7 +12,7 @@ DocumentForm = answer (3973 ∷ 1281 ∷ 256 ∷ 7 ∷ 5175 ∷ 1414 ∷ 4096 �
 
 -- it reads with link 0 (document 02, Ticket 7): a listing has no link number (proofs/Document.antt)
 abbrev pub LinkZero : Type 0
-LinkZero = listerLink ≡ 0
+LinkZero = lister_link ≡ 0
 
 -- successive fills, put one behind the other, are the whole listing, and then the walk is done: no run is skipped, none is said twice, and
 -- the totals are the words'. A recording of n words takes at most (n + 1) / 2 rounded down, plus one, calls (proofs/Whole.antt)

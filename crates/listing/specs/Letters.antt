@@ -43,16 +43,16 @@ name_of K.Mtd = text "MTD"
 name_of K.Rdas = text "RDAS"
 
 -- a report: its run's place, its kind, how many words
-abbrev pub reportLine : ℕ → Kind → ℕ → List ℕ
-reportLine place kind count = decimal place ++ text " " ++ name_of kind ++ item " " count ++ text "\n"
+abbrev pub report_line : ℕ → Kind → ℕ → List ℕ
+report_line place kind count = decimal place ++ text " " ++ name_of kind ++ item " " count ++ text "\n"
 
 -- a refused run: its place, the refusal's number, how many words, the place that the refusal names
-abbrev pub refusedLine : ℕ → ℕ → ℕ → ℕ → List ℕ
-refusedLine place number count named = decimal place ++ item " REFUSED " number ++ item " " count ++ item " " named ++ text "\n"
+abbrev pub refused_line : ℕ → ℕ → ℕ → ℕ → List ℕ
+refused_line place number count named = decimal place ++ item " REFUSED " number ++ item " " count ++ item " " named ++ text "\n"
 
 -- the words that are idle, in reports, in refused runs, and in all
-abbrev pub totalsLine : ℕ → ℕ → ℕ → ℕ → List ℕ
-totalsLine idle reported refused total =
+abbrev pub totals_line : ℕ → ℕ → ℕ → ℕ → List ℕ
+totals_line idle reported refused total =
     item "IDLE " idle ++ item " REPORTED " reported ++ item " REFUSED " refused ++ item " TOTAL " total ++ text "\n"
 
 -- ---- what is put into a lent buffer

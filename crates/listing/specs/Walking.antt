@@ -1,18 +1,18 @@
 -- The walk over a recording: what one call comes to, and calls one after the other. Definitions only.
 use Rattle.std.specs.Prelude.{ℕ, zero, suc, ◌+◌, ◌-◌, ◌%◌, ◌≤◌, ◌≡◌, true, false, List, [], ◌∷◌, ◌++◌, eqb, ltb, length, drop}
 use Rattle.rows.specs.Rows.{Row, row, first_of}
-use Rattle.refusals.specs.Numbers.{lineNumber}
+use Rattle.refusals.specs.Numbers.{line_number}
 use Rattle.reports.specs.Kinds.{kind_of}
 use Rattle.lines.specs.declared.What.{What}
 use Rattle.lines.specs.declared.What.TheVariants as W
 use Rattle.lines.specs.declared.Outcome.{Outcome}
-use Rattle.lines.specs.Bytes.{mostBytes, words_in}
-use Rattle.lines.specs.Links.{readBytesOn}
+use Rattle.lines.specs.Bytes.{most_bytes, words_in}
+use Rattle.lines.specs.Links.{read_bytes_on}
 use Rattle.listing.specs.declared.Walk.{Walk}
 use Rattle.listing.specs.declared.Piece.{Piece}
 use Rattle.listing.specs.declared.Piece.TheVariants as P
-use Rattle.listing.specs.Listing.{listerForm, listerLink}
-use Rattle.listing.specs.Letters.{text, reportLine, refusedLine, totalsLine}
+use Rattle.listing.specs.Listing.{lister_form, lister_link}
+use Rattle.listing.specs.Letters.{text, report_line, refused_line, totals_line}
 
 -- the place that the walk has come to, the words in reports and in refused runs before it
 abbrev pub at : ℕ → ℕ → ℕ → Walk
@@ -34,22 +34,22 @@ pub data Step : Type 0 where
   Cramped : Step
 
 -- one outcome of the reader on a line of n words: the line of a run, or, at the end, the totals
-abbrev pub stepFor : ℕ → Walk → What → ℕ → ℕ → ℕ → Step
-stepFor n w (W.Accepted r) first after named =
-    Says (reportLine first (kind_of r) (after - first)) (at after (w.reported + (after - first)) w.refused)
-stepFor n w (W.Refused q) first after named =
-    Says (refusedLine first (lineNumber q) (after - first) named) (at after w.reported (w.refused + (after - first)))
-stepFor n w W.End first after named = Says (totalsLine (n - w.reported - w.refused) w.reported w.refused n) (closed w)
+abbrev pub step_for : ℕ → Walk → What → ℕ → ℕ → ℕ → Step
+step_for n w (W.Accepted r) first after named =
+    Says (report_line first (kind_of r) (after - first)) (at after (w.reported + (after - first)) w.refused)
+step_for n w (W.Refused q) first after named =
+    Says (refused_line first (line_number q) (after - first) named) (at after w.reported (w.refused + (after - first)))
+step_for n w W.End first after named = Says (totals_line (n - w.reported - w.refused) w.reported w.refused n) (closed w)
 
-abbrev pub stepOn : ℕ → Walk → Outcome → Step
-stepOn n w o = stepFor n w o.what o.first o.after o.named
+abbrev pub step_on : ℕ → Walk → Outcome → Step
+step_on n w o = step_for n w o.what o.first o.after o.named
 
 -- a call's rows: a walk that is done says nothing; LONG and ODD are all that is said; a place beyond the line's end, or more words counted
 -- than lie before it, is no walk over this line
-abbrev stepRows : List ℕ → Walk → List (Row Step)
-stepRows bytes w =
+abbrev step_rows : List ℕ → Walk → List (Row Step)
+step_rows bytes w =
     row w.done Ended
-    ∷ row (ltb mostBytes (length bytes)) (Says (text "LONG\n") (closed w))
+    ∷ row (ltb most_bytes (length bytes)) (Says (text "LONG\n") (closed w))
     ∷ row (eqb (length bytes % 2) 1) (Says (text "ODD\n") (closed w))
     ∷ row (ltb (length (words_in bytes)) w.place) Astray
     ∷ row (ltb w.place w.reported) Astray
@@ -57,12 +57,12 @@ stepRows bytes w =
     ∷ []
 
 -- a call: where no row holds, the reader's outcome at the place
-unfoldable pub stepAt : List ℕ → Walk → Step
-stepAt bytes w = first_of (stepRows bytes w) (stepOn (length (words_in bytes)) w (readBytesOn listerForm listerLink bytes w.place).outcome)
+unfoldable pub step_at : List ℕ → Walk → Step
+step_at bytes w = first_of (step_rows bytes w) (step_on (length (words_in bytes)) w (read_bytes_on lister_form lister_link bytes w.place).outcome)
 
 -- the same into a buffer of so many bytes
-unfoldable pub stepIn : ℕ → List ℕ → Walk → Step
-stepIn room bytes w = first_of (row (ltb room 64) Cramped ∷ []) (stepAt bytes w)
+unfoldable pub step_in : ℕ → List ℕ → Walk → Step
+step_in room bytes w = first_of (row (ltb room 64) Cramped ∷ []) (step_at bytes w)
 
 -- ---- one call and the buffer
 
@@ -95,9 +95,9 @@ onward w Cramped = w
 -- what k calls put into a buffer of at least 64 bytes, one behind the other
 unfoldable pub fills : ℕ → List ℕ → Walk → List ℕ
 fills zero bytes w = []
-fills (suc k) bytes w = said (stepAt bytes w) ++ fills k bytes (onward w (stepAt bytes w))
+fills (suc k) bytes w = said (step_at bytes w) ++ fills k bytes (onward w (step_at bytes w))
 
 -- where the walk is after k calls
 unfoldable pub reached : ℕ → List ℕ → Walk → Walk
 reached zero bytes w = w
-reached (suc k) bytes w = reached k bytes (onward w (stepAt bytes w))
+reached (suc k) bytes w = reached k bytes (onward w (step_at bytes w))

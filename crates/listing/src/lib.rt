@@ -1,9 +1,9 @@
 // The listing of a recording (document 01, "The C host and the lister"), and the walk that puts it, line by line, into a lent buffer.
 // Relies on line_reader for the outcome at a place, reports for the kind of a report, refusals for a refusal's number.
 ghost use Rattle.std.specs.Prelude.{◌≡◌, ◌≤◌, length};
-ghost use Rattle.lines.specs.Links.{readBytesOn};
-ghost use Rattle.listing.specs.Listing.{listerForm, listerLink};
-ghost use Rattle.listing.specs.Walking.{start, closed, stepOn, stepIn, Tells};
+ghost use Rattle.lines.specs.Links.{read_bytes_on};
+ghost use Rattle.listing.specs.Listing.{lister_form, lister_link};
+ghost use Rattle.listing.specs.Walking.{start, closed, step_on, step_in, Tells};
 ghost use Rattle.listing.specs.Bounds.{Within};
 
 use line_reader::bytes;
@@ -74,7 +74,7 @@ impl Walk {
 
 // The outcome at a place of a recording.
 fn outcome_at(recording: &[u8], place: usize) -> Outcome
-    ensures { result ≡ (readBytesOn listerForm listerLink recording.now place).outcome }
+    ensures { result ≡ (read_bytes_on lister_form lister_link recording.now place).outcome }
 {
     let received = bytes::read(recording, place, FORM, LINK);
     received.outcome
@@ -83,7 +83,7 @@ fn outcome_at(recording: &[u8], place: usize) -> Outcome
 // The line for an outcome on a line of n words.
 fn say(walk: Walk, n: usize, o: Outcome, out: &mut [u8]) -> Piece
     requires { (64 ≤ length out.old) × Within n walk o }
-    ensures { Tells (stepOn n walk o) out.old result out.new }
+    ensures { Tells (step_on n walk o) out.old result out.new }
 {
     let what = o.what;
     let first = o.first;
@@ -124,7 +124,7 @@ fn say(walk: Walk, n: usize, o: Outcome, out: &mut [u8]) -> Piece
 
 // The next line of a recording's listing, into the buffer.
 pub fn next(recording: &[u8], walk: Walk, out: &mut [u8]) -> Piece
-    ensures { Tells (stepIn (length out.old) recording.now walk) out.old result out.new }
+    ensures { Tells (step_in (length out.old) recording.now walk) out.old result out.new }
 {
     if out.len() < LONGEST {
         return Piece::NoRoom;

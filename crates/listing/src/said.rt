@@ -1,6 +1,6 @@
 // The three kinds of line that a listing has, each from the buffer's start on. Relies on letters.
 ghost use Rattle.std.specs.Prelude.{◌≤◌, ◌<◌, length};
-ghost use Rattle.listing.specs.Letters.{name_of, reportLine, refusedLine, totalsLine, Put};
+ghost use Rattle.listing.specs.Letters.{name_of, report_line, refused_line, totals_line, Put};
 
 use crate::letters::{put_decimal, put_item, put_text};
 use reports::kinds::Kind;
@@ -32,7 +32,7 @@ fn put_name(out: &mut [u8], at: usize, kind: Kind) -> usize
 // The line of a report.
 pub fn report(out: &mut [u8], place: usize, kind: Kind, count: usize) -> usize
     requires { (64 ≤ length out.old) × (place < 100000) × (count < 100000) }
-    ensures { Put out.old 0 (reportLine place kind count) result out.new }
+    ensures { Put out.old 0 (report_line place kind count) result out.new }
 {
     let a = put_decimal(out, 0, place);
     let b = put_text(out, a, b" ");
@@ -44,7 +44,7 @@ pub fn report(out: &mut [u8], place: usize, kind: Kind, count: usize) -> usize
 // The line of a refused run.
 pub fn refused(out: &mut [u8], place: usize, number: u8, count: usize, named: usize) -> usize
     requires { (64 ≤ length out.old) × (place < 100000) × (count < 100000) }
-    ensures { Put out.old 0 (refusedLine place number count named) result out.new }
+    ensures { Put out.old 0 (refused_line place number count named) result out.new }
 {
     let a = put_decimal(out, 0, place);
     let b = put_item(out, a, b" REFUSED ", number as usize);
@@ -56,7 +56,7 @@ pub fn refused(out: &mut [u8], place: usize, number: u8, count: usize, named: us
 // The last line.
 pub fn totals(out: &mut [u8], idle: usize, reported: usize, refused: usize, total: usize) -> usize
     requires { (64 ≤ length out.old) × (idle < 100000) × (reported < 100000) × (refused < 100000) × (total < 100000) }
-    ensures { Put out.old 0 (totalsLine idle reported refused total) result out.new }
+    ensures { Put out.old 0 (totals_line idle reported refused total) result out.new }
 {
     let a = put_item(out, 0, b"IDLE ", idle);
     let b = put_item(out, a, b" REPORTED ", reported);

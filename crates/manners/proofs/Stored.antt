@@ -9,12 +9,12 @@ use lib.Seq.{sets-eq, length-take-le, take_at, drop_at, drop-drop}
 use Rattle.lines.specs.declared.Outcome.{Outcome}
 use Rattle.lines.specs.Bytes.{bytes_of}
 use Rattle.lines.specs.Claims.{put}
-use Rattle.lines.proofs.ByteWords.{bytes-length}
+use Rattle.lines.proofs.ByteWords.{bytes_length}
 use Rattle.manners.specs.declared.Found.{Found}
 use Rattle.manners.specs.declared.Found.TheVariants as F
-use Rattle.manners.specs.Numbers.{ruleNumber}
-use Rattle.manners.specs.Breaches.{Breach, numbersOf, foundIn, list_of, broughtBy}
-use Rattle.manners.specs.Steps.{countOf, Filling}
+use Rattle.manners.specs.Numbers.{rule_number}
+use Rattle.manners.specs.Breaches.{Breach, numbers_of, found_in, list_of, brought_by}
+use Rattle.manners.specs.Steps.{count_of, Filling}
 
 -- ---- numbers
 
@@ -22,12 +22,12 @@ put_is : (l : List ℕ) (i : ℕ) (vs : List ℕ) → take i l ++ vs ++ drop (i 
 put_is l i vs =
     ap (λ (r : List ℕ). take i l ++ vs ++ r) (sym (drop-drop (length vs) i l)) ∙ append_assoc (take i l) vs (drop (length vs) (drop i l))
 
-pub two-stores : (l : List ℕ) (i a b : ℕ) → i + 2 ≤ length l → set (set l i a) (i + 1) b ≡ put l i (a ∷ b ∷ [])
-two-stores l i a b h =
+pub two_stores : (l : List ℕ) (i a b : ℕ) → i + 2 ≤ length l → set (set l i a) (i + 1) b ≡ put l i (a ∷ b ∷ [])
+two_stores l i a b h =
     ap (λ (j : ℕ). set (set l i a) j b) (let z : i + 1 ≡ suc i = omega arith in z) ∙ sets-eq (a ∷ b ∷ []) l i h ∙ put_is l i (a ∷ b ∷ [])
 
-pub four-stores : (l : List ℕ) (i a b c d : ℕ) → i + 4 ≤ length l → set (set (set (set l i a) (i + 1) b) (i + 2) c) (i + 3) d ≡ put l i (a ∷ b ∷ c ∷ d ∷ [])
-four-stores l i a b c d h =
+pub four_stores : (l : List ℕ) (i a b c d : ℕ) → i + 4 ≤ length l → set (set (set (set l i a) (i + 1) b) (i + 2) c) (i + 3) d ≡ put l i (a ∷ b ∷ c ∷ d ∷ [])
+four_stores l i a b c d h =
     let e : i + 1 ≡ suc i = omega arith in
     let f : i + 2 ≡ suc (suc i) = omega arith in
     let g : i + 3 ≡ suc (suc (suc i)) = omega arith in
@@ -41,43 +41,43 @@ pub record Tells (numbers : List Breach → List ℕ) (width : ℕ) : Type 0 whe
   pub joins : (cs bs : List Breach) → numbers (cs ++ bs) ≡ numbers cs ++ numbers bs
   pub each : (bs : List Breach) → length (numbers bs) ≡ length bs * width
 
-pub bytes-append : (ws vs : List ℕ) → bytes_of (ws ++ vs) ≡ bytes_of ws ++ bytes_of vs
+pub bytes_append : (ws vs : List ℕ) → bytes_of (ws ++ vs) ≡ bytes_of ws ++ bytes_of vs
 unfolding bytes_of
-bytes-append [] vs = refl
-bytes-append (w ∷ ws) vs = ap (λ (l : List ℕ). w / 256 % 256 ∷ w % 256 ∷ l) (bytes-append ws vs)
+bytes_append [] vs = refl
+bytes_append (w ∷ ws) vs = ap (λ (l : List ℕ). w / 256 % 256 ∷ w % 256 ∷ l) (bytes_append ws vs)
 
-numbers-append : (cs bs : List Breach) → numbersOf (cs ++ bs) ≡ numbersOf cs ++ numbersOf bs
-unfolding numbersOf
-numbers-append [] bs = refl
-numbers-append (c ∷ cs) bs = ap (λ (l : List ℕ). c.place ∷ ruleNumber c.rule ∷ l) (numbers-append cs bs)
+numbers_append : (cs bs : List Breach) → numbers_of (cs ++ bs) ≡ numbers_of cs ++ numbers_of bs
+unfolding numbers_of
+numbers_append [] bs = refl
+numbers_append (c ∷ cs) bs = ap (λ (l : List ℕ). c.place ∷ rule_number c.rule ∷ l) (numbers_append cs bs)
 
-numbers-length : (bs : List Breach) → length (numbersOf bs) ≡ length bs * 2
-unfolding numbersOf
-numbers-length [] = refl
-numbers-length (b ∷ bs) = let h = numbers-length bs in omega arith
+numbers_length : (bs : List Breach) → length (numbers_of bs) ≡ length bs * 2
+unfolding numbers_of
+numbers_length [] = refl
+numbers_length (b ∷ bs) = let h = numbers_length bs in omega arith
 
-pub as-numbers : Tells numbersOf 2
-unfolding numbersOf
-as-numbers = record { none = refl; joins = numbers-append; each = numbers-length }
+pub as_numbers : Tells numbers_of 2
+unfolding numbers_of
+as_numbers = record { none = refl; joins = numbers_append; each = numbers_length }
 
-pub as_bytes : Tells (λ bs. bytes_of (numbersOf bs)) 4
-unfolding numbersOf bytes_of
+pub as_bytes : Tells (λ bs. bytes_of (numbers_of bs)) 4
+unfolding numbers_of bytes_of
 as_bytes = record {
   none = refl;
-  joins = λ cs bs. ap bytes_of (numbers-append cs bs) ∙ bytes-append (numbersOf cs) (numbersOf bs);
-  each = λ bs. bytes-length (numbersOf bs) ∙ (let h = numbers-length bs in let z : length (numbersOf bs) * 2 ≡ length bs * 4 = omega arith in z);
+  joins = λ cs bs. ap bytes_of (numbers_append cs bs) ∙ bytes_append (numbers_of cs) (numbers_of bs);
+  each = λ bs. bytes_length (numbers_of bs) ∙ (let h = numbers_length bs in let z : length (numbers_of bs) * 2 ≡ length bs * 4 = omega arith in z);
 }
 
 -- what is found is so many breaches
-pub count-listed : (p : ℕ) (x : Found) → length (list_of p x) ≡ countOf x
-count-listed p F.NoBreach = refl
-count-listed p (F.Breach rule) = refl
+pub count_listed : (p : ℕ) (x : Found) → length (list_of p x) ≡ count_of x
+count_listed p F.NoBreach = refl
+count_listed p (F.Breach rule) = refl
 
 -- ---- the list, breach after breach
 
 -- nothing found, nothing stored
-pub put-none : {numbers : List Breach → List ℕ} {width : ℕ} → Tells numbers width → (list : List ℕ) (i p : ℕ) {x : Found} → x ≡ F.NoBreach → list ≡ put list i (numbers (list_of p x))
-put-none {numbers} tells list i p {x} e =
+pub put_none : {numbers : List Breach → List ℕ} {width : ℕ} → Tells numbers width → (list : List ℕ) (i p : ℕ) {x : Found} → x ≡ F.NoBreach → list ≡ put list i (numbers (list_of p x))
+put_none {numbers} tells list i p {x} e =
     sym (ap (λ (y : Found). put list i (numbers (list_of p y))) e ∙ ap (put list i) tells.none ∙ take-append-drop i list)
 
 module _ {numbers : List Breach → List ℕ} {width : ℕ} (tells : Tells numbers width) {all : List Breach} {entry : List ℕ} where
@@ -119,14 +119,14 @@ module _ {numbers : List Breach → List ℕ} {width : ℕ} (tells : Tells numbe
       }
 
   -- the same as the code has it: the outcome's place and what was found in it
-  pub more-found : {left rest : List Breach} {k j : ℕ} {list after : List ℕ} (o : Outcome) {x : Found} → Filling numbers width all left entry k list
-      → left ≡ broughtBy o ++ rest → x ≡ foundIn o.what → (k + countOf x) * width ≤ length list → j ≡ k + countOf x
+  pub more_found : {left rest : List Breach} {k j : ℕ} {list after : List ℕ} (o : Outcome) {x : Found} → Filling numbers width all left entry k list
+      → left ≡ brought_by o ++ rest → x ≡ found_in o.what → (k + count_of x) * width ≤ length list → j ≡ k + count_of x
       → after ≡ put list (k * width) (numbers (list_of o.first x)) → Filling numbers width all rest entry j after
-  more-found {left} {rest} {k} {j} {list} {after} o {x} f e found room count is =
-      let n : countOf x ≡ length (broughtBy o) = ap countOf found ∙ sym (count-listed o.first (foundIn o.what)) in
+  more_found {left} {rest} {k} {j} {list} {after} o {x} f e found room count is =
+      let n : count_of x ≡ length (brought_by o) = ap count_of found ∙ sym (count_listed o.first (found_in o.what)) in
       subst (λ (i : ℕ). Filling numbers width all rest entry i after) (sym (count ∙ ap (λ (i : ℕ). k + i) n))
-      (subst (Filling numbers width all rest entry (k + length (broughtBy o))) (sym (is ∙ ap (λ (y : Found). put list (k * width) (numbers (list_of o.first y))) found))
-      (more (broughtBy o) f e (subst (λ (i : ℕ). (k + i) * width ≤ length list) n room)))
+      (subst (Filling numbers width all rest entry (k + length (brought_by o))) (sym (is ∙ ap (λ (y : Found). put list (k * width) (numbers (list_of o.first y))) found))
+      (more (brought_by o) f e (subst (λ (i : ℕ). (k + i) * width ≤ length list) n room)))
 
   -- where none is left all are in the list, and behind them is what was there
   pub full : {left : List Breach} {k : ℕ} {list : List ℕ} → Filling numbers width all left entry k list → length left ≡ 0 → list ≡ numbers all ++ drop (k * width) entry

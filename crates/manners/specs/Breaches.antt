@@ -3,7 +3,7 @@ use Rattle.std.specs.Prelude.{ℕ, Bool, cond, List, [], ◌∷◌, map}
 use Rattle.rows.specs.Rows.{Row, row, first_of}
 use Rattle.reports.specs.declared.Report.{Report}
 use Rattle.reports.specs.Altitude.{AltitudeForm}
-use Rattle.reports.specs.Runs.{readRun, isAccepted}
+use Rattle.reports.specs.Runs.{read_run, is_accepted}
 use Rattle.lines.specs.declared.What.{What}
 use Rattle.lines.specs.declared.What.TheVariants as W
 use Rattle.lines.specs.declared.Outcome.{Outcome}
@@ -12,7 +12,7 @@ use Rattle.manners.specs.declared.Rule.{Rule}
 use Rattle.manners.specs.declared.Rule.TheVariants as R
 use Rattle.manners.specs.declared.Found.{Found}
 use Rattle.manners.specs.declared.Found.TheVariants as F
-use Rattle.manners.specs.Numbers.{ruleNumber}
+use Rattle.manners.specs.Numbers.{rule_number}
 use Rattle.manners.specs.Rules.{broken, breaks}
 
 -- a breach: the place of its run's first word, and the rule
@@ -35,45 +35,45 @@ passing test [] = []
 passing test (rule ∷ more) = cond (test rule) (rule ∷ passing test more) (passing test more)
 
 -- the rules that words break, in their order
-abbrev pub brokenBy : List ℕ → List Rule
-brokenBy ws = passing (λ rule. broken rule ws) rules
+abbrev pub broken_by : List ℕ → List Rule
+broken_by ws = passing (λ rule. broken rule ws) rules
 
 -- an accepted run has a breach for each rule that its words break; a refused run has none
-abbrev pub breachesOf : AltitudeForm → Run → List Breach
-breachesOf form r = cond (isAccepted (readRun form r.words)) (map (breach r.place) (brokenBy r.words)) []
+abbrev pub breaches_of : AltitudeForm → Run → List Breach
+breaches_of form r = cond (is_accepted (read_run form r.words)) (map (breach r.place) (broken_by r.words)) []
 
 -- "The list has exactly the breaches, by place and then in this order."
 abbrev pub breaches : AltitudeForm → List ℕ → List Breach
-breaches form line = gathered (breachesOf form) (runs line)
+breaches form line = gathered (breaches_of form) (runs line)
 
 -- the numbers of a list: two a breach, the place and the rule's number
-unfoldable pub numbersOf : List Breach → List ℕ
-numbersOf [] = []
-numbersOf (b ∷ bs) = b.place ∷ ruleNumber b.rule ∷ numbersOf bs
+unfoldable pub numbers_of : List Breach → List ℕ
+numbers_of [] = []
+numbers_of (b ∷ bs) = b.place ∷ rule_number b.rule ∷ numbers_of bs
 
 -- ---- from what the reader answers
 
 -- it is asked with link 0: a breach has no link number (document 02, Ticket 7)
-abbrev pub mannersLink : ℕ
-mannersLink = 0
+abbrev pub manners_link : ℕ
+manners_link = 0
 
 -- the first rule that a record breaks; AtMostOneOfRecord (Claims.antt) says that it breaks no other
-abbrev pub ruleRows : Report → List (Row Found)
-ruleRows r = map (λ rule. row (breaks r rule) (F.Breach rule)) rules
+abbrev pub rule_rows : Report → List (Row Found)
+rule_rows r = map (λ rule. row (breaks r rule) (F.Breach rule)) rules
 
-abbrev pub foundOf : Report → Found
-foundOf r = first_of (ruleRows r) F.NoBreach
+abbrev pub found_of : Report → Found
+found_of r = first_of (rule_rows r) F.NoBreach
 
 -- a refused run, a line that is not taken and the end have no breach
-abbrev pub foundIn : What → Found
-foundIn (W.Accepted r) = foundOf r
-foundIn (W.Refused q) = F.NoBreach
-foundIn W.End = F.NoBreach
+abbrev pub found_in : What → Found
+found_in (W.Accepted r) = found_of r
+found_in (W.Refused q) = F.NoBreach
+found_in W.End = F.NoBreach
 
 abbrev pub list_of : ℕ → Found → List Breach
 list_of place F.NoBreach = []
 list_of place (F.Breach rule) = breach place rule ∷ []
 
 -- what an outcome brings to the list
-abbrev pub broughtBy : Outcome → List Breach
-broughtBy o = list_of o.first (foundIn o.what)
+abbrev pub brought_by : Outcome → List Breach
+brought_by o = list_of o.first (found_in o.what)

@@ -5,29 +5,29 @@ use Rattle.words.specs.Word.{idle}
 use Rattle.reports.specs.declared.Report.{Report}
 use Rattle.reports.specs.declared.RunAnswer.TheVariants as A
 use Rattle.reports.specs.declared.altitude.Form.{Form}
-use Rattle.reports.specs.Altitude.{AltitudeForm, signMagnitude, twosComplement, form_of}
-use Rattle.reports.specs.Runs.{readRun, isAccepted}
+use Rattle.reports.specs.Altitude.{AltitudeForm, sign_magnitude, twos_complement, form_of}
+use Rattle.reports.specs.Runs.{read_run, is_accepted}
 use Rattle.lines.specs.declared.What.TheVariants as W
 use Rattle.lines.specs.declared.Received.{Received}
-use Rattle.lines.specs.Line.{most, outcomeOf}
-use Rattle.lines.specs.Bytes.{mostBytes, words_in, bytes_of}
-use Rattle.lines.specs.Links.{lastLink, receivedOn, read_on, outcomesOn}
+use Rattle.lines.specs.Line.{most, outcome_of}
+use Rattle.lines.specs.Bytes.{most_bytes, words_in, bytes_of}
+use Rattle.lines.specs.Links.{last_link, received_on, read_on, outcomes_on}
 use Rattle.lines.specs.Stretches.{Run, runs, gathered}
 use Rattle.lines.specs.Claims.{EndsIdle, BeginsIdle}
 use Rattle.manners.specs.declared.Rule.{Rule}
 use Rattle.manners.specs.declared.Found.TheVariants as F
 use Rattle.manners.specs.declared.Listed.{Listed}
 use Rattle.manners.specs.declared.Listed.TheVariants as L
-use Rattle.manners.specs.Numbers.{ruleNumber}
+use Rattle.manners.specs.Numbers.{rule_number}
 use Rattle.manners.specs.Rules.{broken, breaks}
-use Rattle.manners.specs.Breaches.{Breach, breach, rules, breachesOf, breaches, numbersOf, foundOf, mannersLink, broughtBy}
-use Rattle.manners.specs.Listing.{mostIn, mostBreaches, listRows, listed, Lists, byteListRows, listedBytes, ListsBytes}
+use Rattle.manners.specs.Breaches.{Breach, breach, rules, breaches_of, breaches, numbers_of, found_of, manners_link, brought_by}
+use Rattle.manners.specs.Listing.{most_in, most_breaches, list_rows, listed, Lists, byte_list_rows, listed_bytes, ListsBytes}
 
 -- ---- the rules (proofs/Broken.antt)
 
 -- a rule is the same over the words and over the record, for every accepted run
 abbrev pub SameOfRecord : Type 0
-SameOfRecord = (f : Form) (ws : List ℕ) (r : Report) → readRun (form_of f) ws ≡ A.Accepted r → (rule : Rule) → broken rule ws ≡ breaks r rule
+SameOfRecord = (f : Form) (ws : List ℕ) (r : Report) → read_run (form_of f) ws ≡ A.Accepted r → (rule : Rule) → broken rule ws ≡ breaks r rule
 
 -- no run can have two of the four, accepted or not; nor can a record
 abbrev pub AtMostOne : Type 0
@@ -39,8 +39,8 @@ AtMostOneOfRecord = (r : Report) (a b : Rule) → breaks r a ≡ true → breaks
 -- so what the code finds in an accepted run's record is the one rule that its words break
 abbrev pub FoundExactly : Type 0
 FoundExactly =
-    (f : Form) (ws : List ℕ) (r : Report) → readRun (form_of f) ws ≡ A.Accepted r → (rule : Rule) →
-    (foundOf r ≡ F.Breach rule) ↔ (broken rule ws ≡ true)
+    (f : Form) (ws : List ℕ) (r : Report) → read_run (form_of f) ws ≡ A.Accepted r → (rule : Rule) →
+    (found_of r ≡ F.Breach rule) ↔ (broken rule ws ≡ true)
 
 -- ---- the list (proofs/Exactly.antt)
 
@@ -51,16 +51,16 @@ Among x (y ∷ ys) = (x ≡ y) ⊎ Among x ys
 
 -- the rules in their order have the numbers 1 to 4, and there is no other; a number names one rule
 pub record RulesNumbered : Type 0 where
-  pub in_order : map ruleNumber rules ≡ 1 ∷ 2 ∷ 3 ∷ 4 ∷ []
+  pub in_order : map rule_number rules ≡ 1 ∷ 2 ∷ 3 ∷ 4 ∷ []
   pub all : (rule : Rule) → Among rule rules
-  pub differ : (a b : Rule) → ruleNumber a ≡ ruleNumber b → a ≡ b
+  pub differ : (a b : Rule) → rule_number a ≡ rule_number b → a ≡ b
 
 -- "The list has exactly the breaches": a place and a rule are in it exactly where a run begins at the place, is accepted, and breaks the rule
 abbrev pub ExactlyTheBreaches : Type 0
 ExactlyTheBreaches =
     (form : AltitudeForm) (line : List ℕ) (place : ℕ) (rule : Rule) →
     Among (breach place rule) (breaches form line)
-    ↔ ((ws : List ℕ) × Among (record { place = place; words = ws }) (runs line) × (isAccepted (readRun form ws) ≡ true) × (broken rule ws ≡ true))
+    ↔ ((ws : List ℕ) × Among (record { place = place; words = ws }) (runs line) × (is_accepted (read_run form ws) ≡ true) × (broken rule ws ≡ true))
 
 -- the places rise, from one on
 abbrev pub RisingFrom : ℕ → List Breach → Type 0
@@ -77,33 +77,33 @@ ReadThere =
     (f : Form) (line : List ℕ) (place : ℕ) (rule : Rule) → length line ≤ most → Among (breach place rule) (breaches (form_of f) line) →
     (r : Report)
     × (after : ℕ)
-    × ((link : ℕ) → link ≤ lastLink → read_on (form_of f) link line place ≡ receivedOn link (outcomeOf (W.Accepted r) place after place))
+    × ((link : ℕ) → link ≤ last_link → read_on (form_of f) link line place ≡ received_on link (outcome_of (W.Accepted r) place after place))
     × (breaks r rule ≡ true)
 
 -- it is what the outcomes of the line bring, of which demand 3 speaks; the line is read with link 0
 abbrev pub FromTheOutcomes : Type 0
 FromTheOutcomes =
     (f : Form) (line : List ℕ) → length line ≤ most →
-    breaches (form_of f) line ≡ gathered broughtBy (map (λ (r : Received). r.outcome) (outcomesOn (readRun (form_of f)) mannersLink line))
+    breaches (form_of f) line ≡ gathered brought_by (map (λ (r : Received). r.outcome) (outcomes_on (read_run (form_of f)) manners_link line))
 
 -- a run that only one form of the altitude accepts breaks no rule: the list is the same in both
 abbrev pub SameInBothForms : Type 0
-SameInBothForms = (line : List ℕ) → breaches signMagnitude line ≡ breaches twosComplement line
+SameInBothForms = (line : List ℕ) → breaches sign_magnitude line ≡ breaches twos_complement line
 
 -- a line has no more breaches than this, so that a list with room for as many is never too small
 pub record NoMore : Type 0 where
-  pub in_words : (form : AltitudeForm) (line : List ℕ) → length (breaches form line) ≤ mostIn (length line)
-  pub in-any : (form : AltitudeForm) (line : List ℕ) → length line ≤ most → length (breaches form line) ≤ mostBreaches
-  pub enough : (form : AltitudeForm) (line : List ℕ) (room : ℕ) → length line ≤ most → mostBreaches * 2 ≤ room
+  pub in_words : (form : AltitudeForm) (line : List ℕ) → length (breaches form line) ≤ most_in (length line)
+  pub in_any : (form : AltitudeForm) (line : List ℕ) → length line ≤ most → length (breaches form line) ≤ most_breaches
+  pub enough : (form : AltitudeForm) (line : List ℕ) (room : ℕ) → length line ≤ most → most_breaches * 2 ≤ room
       → listed form line room ≡ L.Breaches (length (breaches form line))
-  pub enough-bytes : (form : AltitudeForm) (bytes : List ℕ) (room : ℕ) → length bytes ≤ mostBytes → length bytes % 2 ≡ 0 → mostBreaches * 4 ≤ room
-      → listedBytes form bytes room ≡ L.Breaches (length (breaches form (words_in bytes)))
+  pub enough_bytes : (form : AltitudeForm) (bytes : List ℕ) (room : ℕ) → length bytes ≤ most_bytes → length bytes % 2 ≡ 0 → most_breaches * 4 ≤ room
+      → listed_bytes form bytes room ≡ L.Breaches (length (breaches form (words_in bytes)))
 
 -- worked runs (proofs/Worked.antt). At 1 an ATCRBS-CD report with bit 5 set. At 9 a relayed DABS report with bit 6 zero, and at 17 a DABS-CD report of
 -- that kind. At 25 a Map with its stop below its start, refused for an even word. At 31 an ATCRBS report with bit 6 one and bits 79-90 all zeros, and at
 -- 39 a relayed DABS report like it, which breaks no rule. At 47 a Map with start and stop equal, and at 52 a Map with its stop below its start
-abbrev pub workedRuns : List Run
-workedRuns =
+abbrev pub worked_runs : List Run
+worked_runs =
     record { place = 1; words = 3331 ∷ 1 ∷ 1 ∷ 1 ∷ 1281 ∷ 38 ∷ 3080 ∷ [] }
     ∷ record { place = 9; words = 3584 ∷ 1 ∷ 1 ∷ 32 ∷ 334 ∷ 1030 ∷ 1 ∷ [] }
     ∷ record { place = 17; words = 3587 ∷ 1 ∷ 1 ∷ 32 ∷ 334 ∷ 1030 ∷ 8 ∷ [] }
@@ -115,7 +115,7 @@ workedRuns =
     ∷ []
 
 abbrev pub Worked : Type 0
-Worked = (f : Form) → numbersOf (gathered (breachesOf (form_of f)) workedRuns) ≡ 1 ∷ 1 ∷ 9 ∷ 2 ∷ 17 ∷ 2 ∷ 31 ∷ 3 ∷ 52 ∷ 4 ∷ []
+Worked = (f : Form) → numbers_of (gathered (breaches_of (form_of f)) worked_runs) ≡ 1 ∷ 1 ∷ 9 ∷ 2 ∷ 17 ∷ 2 ∷ 31 ∷ 3 ∷ 52 ∷ 4 ∷ []
 
 -- ---- a line in parts (proofs/Exactly.antt)
 
@@ -145,21 +145,21 @@ Replaced =
 -- ---- the calls (proofs/Answered.antt)
 
 -- all breaches are in the list
-abbrev pub isListed : Listed → Bool
-isListed (L.Breaches n) = true
-isListed (L.LineRefused q) = false
-isListed (L.Refused q n) = false
+abbrev pub is_listed : Listed → Bool
+is_listed (L.Breaches n) = true
+is_listed (L.LineRefused q) = false
+is_listed (L.Refused q n) = false
 
 -- each of 2, 14 and 52 is given exactly where its row is the first that holds
 abbrev pub ListRefuses : Type 0
 ListRefuses =
-    (form : AltitudeForm) (line : List ℕ) (room : ℕ) (a : Listed) → isListed a ≡ false →
-    (listed form line room ≡ a) ↔ FirstIs (listRows form line room) a
+    (form : AltitudeForm) (line : List ℕ) (room : ℕ) (a : Listed) → is_listed a ≡ false →
+    (listed form line room ≡ a) ↔ FirstIs (list_rows form line room) a
 
 abbrev pub ByteListRefuses : Type 0
 ByteListRefuses =
-    (form : AltitudeForm) (bytes : List ℕ) (room : ℕ) (a : Listed) → isListed a ≡ false →
-    (listedBytes form bytes room ≡ a) ↔ FirstIs (byteListRows form bytes room) a
+    (form : AltitudeForm) (bytes : List ℕ) (room : ℕ) (a : Listed) → is_listed a ≡ false →
+    (listed_bytes form bytes room ≡ a) ↔ FirstIs (byte_list_rows form bytes room) a
 
 -- how many breaches: exactly where the line is short enough, and the list has two numbers for each, or four bytes
 abbrev pub ListedExactly : Type 0
@@ -170,16 +170,16 @@ ListedExactly =
 abbrev pub ByteListedExactly : Type 0
 ByteListedExactly =
     (form : AltitudeForm) (bytes : List ℕ) (room n : ℕ) →
-    (listedBytes form bytes room ≡ L.Breaches n)
-    ↔ ((length bytes ≤ mostBytes)
+    (listed_bytes form bytes room ≡ L.Breaches n)
+    ↔ ((length bytes ≤ most_bytes)
     × (length bytes % 2 ≡ 0)
     × (length (breaches form (words_in bytes)) * 4 ≤ room)
     × (length (breaches form (words_in bytes)) ≡ n))
 
 -- a refused call leaves the list as it was
 pub record RefusedStays : Type 0 where
-  pub words : (form : AltitudeForm) (line list : List ℕ) (a : Listed) (exit : List ℕ) → Lists form line list a exit → isListed a ≡ false → exit ≡ list
-  pub bytes : (form : AltitudeForm) (bytes list : List ℕ) (a : Listed) (exit : List ℕ) → ListsBytes form bytes list a exit → isListed a ≡ false
+  pub words : (form : AltitudeForm) (line list : List ℕ) (a : Listed) (exit : List ℕ) → Lists form line list a exit → is_listed a ≡ false → exit ≡ list
+  pub bytes : (form : AltitudeForm) (bytes list : List ℕ) (a : Listed) (exit : List ℕ) → ListsBytes form bytes list a exit → is_listed a ≡ false
       → exit ≡ list
 
 -- "What stands behind the list stays": the front of the list is the numbers of all breaches, two a breach, or their bytes, four a breach. The rest of it
@@ -191,18 +191,18 @@ pub record Fills (numbers : List ℕ) (front : ℕ) (list exit : List ℕ) : Typ
 
 pub record BehindStays : Type 0 where
   pub words : (form : AltitudeForm) (line list : List ℕ) (n : ℕ) (exit : List ℕ) → Lists form line list (L.Breaches n) exit
-      → Fills (numbersOf (breaches form line)) (n * 2) list exit
+      → Fills (numbers_of (breaches form line)) (n * 2) list exit
   pub bytes : (form : AltitudeForm) (bytes list : List ℕ) (n : ℕ) (exit : List ℕ) → ListsBytes form bytes list (L.Breaches n) exit
-      → Fills (bytes_of (numbersOf (breaches form (words_in bytes)))) (n * 4) list exit
+      → Fills (bytes_of (numbers_of (breaches form (words_in bytes)))) (n * 4) list exit
 
 -- bytes that are few enough and even in number are answered as the words that they hold, with half as many numbers of room as bytes
 abbrev pub BytesAsWords : Type 0
 BytesAsWords =
-    (form : AltitudeForm) (bytes : List ℕ) (room : ℕ) → length bytes ≤ mostBytes → length bytes % 2 ≡ 0 →
-    listedBytes form bytes room ≡ listed form (words_in bytes) (room / 2)
+    (form : AltitudeForm) (bytes : List ℕ) (room : ℕ) → length bytes ≤ most_bytes → length bytes % 2 ≡ 0 →
+    listed_bytes form bytes room ≡ listed form (words_in bytes) (room / 2)
 
 -- two bytes hold every number of a list
 abbrev pub NumbersInBytes : Type 0
 NumbersInBytes =
     (form : AltitudeForm) (line : List ℕ) → length line ≤ most →
-    words_in (bytes_of (numbersOf (breaches form line))) ≡ numbersOf (breaches form line)
+    words_in (bytes_of (numbers_of (breaches form line))) ≡ numbers_of (breaches form line)

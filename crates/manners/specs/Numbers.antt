@@ -5,12 +5,12 @@ use Rattle.manners.specs.declared.Rule.TheVariants as R
 use Rattle.manners.specs.declared.MannersRefusal.{MannersRefusal}
 use Rattle.manners.specs.declared.MannersRefusal.TheVariants as M
 
-abbrev pub ruleNumber : Rule → ℕ
-ruleNumber R.SubstitutionMode3a = 1
-ruleNumber R.RelayWithoutModeC = 2
-ruleNumber R.ModeCAllZeros = 3
-ruleNumber R.MapStopBelowStart = 4
+abbrev pub rule_number : Rule → ℕ
+rule_number R.SubstitutionMode3a = 1
+rule_number R.RelayWithoutModeC = 2
+rule_number R.ModeCAllZeros = 3
+rule_number R.MapStopBelowStart = 4
 
-abbrev pub mannersNumber : MannersRefusal → ℕ
+abbrev pub manners_number : MannersRefusal → ℕ
 -- list buffer too small
-mannersNumber M.ListTooSmall = 52
+manners_number M.ListTooSmall = 52

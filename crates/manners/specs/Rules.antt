@@ -10,40 +10,40 @@ use Rattle.reports.specs.declared.Dabs.{Dabs}
 use Rattle.reports.specs.declared.Atcrbs.{Atcrbs}
 use Rattle.reports.specs.declared.Report.{Report}
 use Rattle.reports.specs.declared.Report.TheVariants as T
-use Rattle.reports.specs.Forms.{isSeven, isMap, isDabs, isCd, isMtd, isRdas}
-use Rattle.reports.specs.Layouts.{modeC, radar}
+use Rattle.reports.specs.Forms.{is_seven, is_map, is_dabs, is_cd, is_mtd, is_rdas}
+use Rattle.reports.specs.Layouts.{mode_c_of, radar}
 use Rattle.manners.specs.declared.Rule.{Rule}
 use Rattle.manners.specs.declared.Rule.TheVariants as R
 
 -- ---- over the words, by the printed bits
 
 -- bit 12 one and bits 88-90 100, 110 or 101: data of a radar stand in for beacon data that are missing (4.2.3)
-abbrev pub isSubstitution : List ℕ → Bool
-isSubstitution ws = any (isCd ws ∷ isMtd ws ∷ isRdas ws ∷ [])
+abbrev pub is_substitution : List ℕ → Bool
+is_substitution ws = any (is_cd ws ∷ is_mtd ws ∷ is_rdas ws ∷ [])
 
 -- 1: an ATCRBS substitution report (bit 4 zero) with bit 5 set. Where a radar stands in, bit 5, Mode 3/A, must be zero (4.2.7)
-abbrev pub substitutionMode3a : List ℕ → Bool
-substitutionMode3a ws = all (isSubstitution ws ∷ not (bit ws 4) ∷ bit ws 5 ∷ [])
+abbrev pub substitution_mode3a : List ℕ → Bool
+substitution_mode3a ws = all (is_substitution ws ∷ not (bit ws 4) ∷ bit ws 5 ∷ [])
 
 -- 2: a relayed DABS report (bit 47 one), its substitutions too, with bit 6 zero. Whatever is relayed must have bit 6, Mode C, one (4.1.4)
-abbrev pub relayWithoutModeC : List ℕ → Bool
-relayWithoutModeC ws = all (isDabs ws ∷ bit ws 47 ∷ not (bit ws 6) ∷ [])
+abbrev pub relay_without_mode_c : List ℕ → Bool
+relay_without_mode_c ws = all (is_dabs ws ∷ bit ws 47 ∷ not (bit ws 6) ∷ [])
 
 -- 3: an ATCRBS report (bit 4 zero) with bit 6 one, bit 12 zero and altitude field all zeros. Bit 6 must be zero for a code of all zeros (4.2.2)
-abbrev pub modeCAllZeros : List ℕ → Bool
-modeCAllZeros ws = all (isSeven ws ∷ not (bit ws 4) ∷ bit ws 6 ∷ not (bit ws 12) ∷ eqb (bits ws 79 90) 0 ∷ [])
+abbrev pub mode_cAll_zeros : List ℕ → Bool
+mode_cAll_zeros ws = all (is_seven ws ∷ not (bit ws 4) ∷ bit ws 6 ∷ not (bit ws 12) ∷ eqb (bits ws 79 90) 0 ∷ [])
 
 -- 4: a Map whose stop (bits 40-50) is below its start (bits 14-24). Equal start and stop is valid. Document 02 has this rule; 004 has the two fields
 -- alone (Table 4-2)
-abbrev pub mapStopBelowStart : List ℕ → Bool
-mapStopBelowStart ws = all (isMap ws ∷ ltb (bits ws 40 50) (bits ws 14 24) ∷ [])
+abbrev pub map_stop_below_start : List ℕ → Bool
+map_stop_below_start ws = all (is_map ws ∷ ltb (bits ws 40 50) (bits ws 14 24) ∷ [])
 
 -- the words break a rule
 abbrev pub broken : Rule → List ℕ → Bool
-broken R.SubstitutionMode3a ws = substitutionMode3a ws
-broken R.RelayWithoutModeC ws = relayWithoutModeC ws
-broken R.ModeCAllZeros ws = modeCAllZeros ws
-broken R.MapStopBelowStart ws = mapStopBelowStart ws
+broken R.SubstitutionMode3a ws = substitution_mode3a ws
+broken R.RelayWithoutModeC ws = relay_without_mode_c ws
+broken R.ModeCAllZeros ws = mode_cAll_zeros ws
+broken R.MapStopBelowStart ws = map_stop_below_start ws
 
 -- ---- over the record
 
@@ -53,37 +53,37 @@ is_zero (pos n) = eqb n 0
 is_zero (negsuc n) = false
 
 -- an altitude of zero feet
-abbrev pub isSeaLevel : Height → Bool
-isSeaLevel (H.Altitude z) = is_zero z
-isSeaLevel (H.Carried n) = false
-isSeaLevel (H.Cd c n) = false
-isSeaLevel (H.Mtd c n) = false
-isSeaLevel (H.Rdas c n) = false
+abbrev pub is_sea_level : Height → Bool
+is_sea_level (H.Altitude z) = is_zero z
+is_sea_level (H.Carried n) = false
+is_sea_level (H.Cd c n) = false
+is_sea_level (H.Mtd c n) = false
+is_sea_level (H.Rdas c n) = false
 
 -- an ATCRBS record can break rules 1 and 3, a DABS record rule 2, a Map rule 4
-abbrev pub atcrbsBreaks : Atcrbs → Rule → Bool
-atcrbsBreaks a R.SubstitutionMode3a = all (radar a.height ∷ a.mode3a ∷ [])
-atcrbsBreaks a R.RelayWithoutModeC = false
-atcrbsBreaks a R.ModeCAllZeros = isSeaLevel a.height
-atcrbsBreaks a R.MapStopBelowStart = false
+abbrev pub atcrbs_breaks : Atcrbs → Rule → Bool
+atcrbs_breaks a R.SubstitutionMode3a = all (radar a.height ∷ a.mode3a ∷ [])
+atcrbs_breaks a R.RelayWithoutModeC = false
+atcrbs_breaks a R.ModeCAllZeros = is_sea_level a.height
+atcrbs_breaks a R.MapStopBelowStart = false
 
-abbrev pub dabsBreaks : Dabs → Rule → Bool
-dabsBreaks d R.SubstitutionMode3a = false
-dabsBreaks d R.RelayWithoutModeC = all (d.relay ∷ not (modeC d.height) ∷ [])
-dabsBreaks d R.ModeCAllZeros = false
-dabsBreaks d R.MapStopBelowStart = false
+abbrev pub dabs_breaks : Dabs → Rule → Bool
+dabs_breaks d R.SubstitutionMode3a = false
+dabs_breaks d R.RelayWithoutModeC = all (d.relay ∷ not (mode_c_of d.height) ∷ [])
+dabs_breaks d R.ModeCAllZeros = false
+dabs_breaks d R.MapStopBelowStart = false
 
-abbrev pub mapBreaks : Map → Rule → Bool
-mapBreaks m R.SubstitutionMode3a = false
-mapBreaks m R.RelayWithoutModeC = false
-mapBreaks m R.ModeCAllZeros = false
-mapBreaks m R.MapStopBelowStart = ltb m.stop.0 m.start.0
+abbrev pub map_breaks : Map → Rule → Bool
+map_breaks m R.SubstitutionMode3a = false
+map_breaks m R.RelayWithoutModeC = false
+map_breaks m R.ModeCAllZeros = false
+map_breaks m R.MapStopBelowStart = ltb m.stop.0 m.start.0
 
 -- the record breaks a rule; the other six kinds break none
 abbrev pub breaks : Report → Rule → Bool
-breaks (T.Atcrbs a) rule = atcrbsBreaks a rule
-breaks (T.Dabs d) rule = dabsBreaks d rule
-breaks (T.Map m) rule = mapBreaks m rule
+breaks (T.Atcrbs a) rule = atcrbs_breaks a rule
+breaks (T.Dabs d) rule = dabs_breaks d rule
+breaks (T.Map m) rule = map_breaks m rule
 breaks (T.Search s) rule = false
 breaks (T.Strobe s) rule = false
 breaks (T.Status s) rule = false

@@ -4,35 +4,35 @@ use Rattle.rows.specs.Rows.{row, first_of}
 use Rattle.words.specs.Tests.{all}
 use Rattle.reports.specs.declared.Height.{Height}
 use Rattle.reports.specs.Altitude.{AltitudeForm}
-use Rattle.reports.specs.Layouts.{modeC, radar}
-use Rattle.lines.specs.Stretches.{runsAt, gathered}
+use Rattle.reports.specs.Layouts.{mode_c_of, radar}
+use Rattle.lines.specs.Stretches.{runs_at, gathered}
 use Rattle.manners.specs.declared.Rule.TheVariants as R
 use Rattle.manners.specs.declared.Found.{Found}
 use Rattle.manners.specs.declared.Found.TheVariants as F
-use Rattle.manners.specs.Rules.{isSeaLevel}
-use Rattle.manners.specs.Breaches.{Breach, breachesOf}
+use Rattle.manners.specs.Rules.{is_sea_level}
+use Rattle.manners.specs.Breaches.{Breach, breaches_of}
 
 -- ---- the rules that a record of each kind can break
 
-abbrev pub atcrbsFound : Bool → Height → Found
-atcrbsFound mode3a h =
-    first_of (row (all (radar h ∷ mode3a ∷ [])) (F.Breach R.SubstitutionMode3a) ∷ row (isSeaLevel h) (F.Breach R.ModeCAllZeros) ∷ []) F.NoBreach
+abbrev pub atcrbs_found : Bool → Height → Found
+atcrbs_found mode3a h =
+    first_of (row (all (radar h ∷ mode3a ∷ [])) (F.Breach R.SubstitutionMode3a) ∷ row (is_sea_level h) (F.Breach R.ModeCAllZeros) ∷ []) F.NoBreach
 
-abbrev pub dabsFound : Bool → Height → Found
-dabsFound relay h = first_of (row (all (relay ∷ not (modeC h) ∷ [])) (F.Breach R.RelayWithoutModeC) ∷ []) F.NoBreach
+abbrev pub dabs_found : Bool → Height → Found
+dabs_found relay h = first_of (row (all (relay ∷ not (mode_c_of h) ∷ [])) (F.Breach R.RelayWithoutModeC) ∷ []) F.NoBreach
 
-abbrev pub mapFound : ℕ → ℕ → Found
-mapFound start stop = first_of (row (ltb stop start) (F.Breach R.MapStopBelowStart) ∷ []) F.NoBreach
+abbrev pub map_found : ℕ → ℕ → Found
+map_found start stop = first_of (row (ltb stop start) (F.Breach R.MapStopBelowStart) ∷ []) F.NoBreach
 
 -- ---- the loops
 
-abbrev pub countOf : Found → ℕ
-countOf F.NoBreach = 0
-countOf (F.Breach rule) = 1
+abbrev pub count_of : Found → ℕ
+count_of F.NoBreach = 0
+count_of (F.Breach rule) = 1
 
 -- the breaches of the runs from a place on
-abbrev pub breachesAt : AltitudeForm → List ℕ → ℕ → List Breach
-breachesAt form line place = gathered (breachesOf form) (runsAt line place)
+abbrev pub breaches_at : AltitudeForm → List ℕ → ℕ → List Breach
+breaches_at form line place = gathered (breaches_of form) (runs_at line place)
 
 -- a list that is being filled with all breaches, each so many numbers wide: k stand in it, some are left, and behind them all is as it was
 pub record Filling (numbers : List Breach → List ℕ) (width : ℕ) (all left : List Breach) (entry : List ℕ) (k : ℕ) (list : List ℕ) : Type 0 where

@@ -3,12 +3,12 @@
 // many breaches as the line can have, or if there is none; else once to count and once to write.
 ghost use Rattle.std.specs.Prelude.{◌≡◌, [], ◌∷◌, ◌++◌, ◌+◌, ◌*◌, ◌%◌, ◌≤◌, ◌<◌, length, drop};
 ghost use Rattle.reports.specs.Altitude.{form_of};
-ghost use Rattle.lines.specs.Bytes.{mostBytes, words_in, bytes_of};
-ghost use Rattle.lines.specs.Links.{readBytesOn};
+ghost use Rattle.lines.specs.Bytes.{most_bytes, words_in, bytes_of};
+ghost use Rattle.lines.specs.Links.{read_bytes_on};
 ghost use Rattle.lines.specs.Claims.{put as put_at};
-ghost use Rattle.manners.specs.Breaches.{mannersLink, breaches, list_of, numbersOf};
+ghost use Rattle.manners.specs.Breaches.{manners_link, breaches, list_of, numbers_of};
 ghost use Rattle.manners.specs.Listing.{ListsBytes};
-ghost use Rattle.manners.specs.Steps.{countOf};
+ghost use Rattle.manners.specs.Steps.{count_of};
 
 use crate::{Found, LINK, Listed, MannersRefusal, most_in, rules};
 use line_reader::bytes;
@@ -18,7 +18,7 @@ use reports::altitude::Form;
 
 // The outcome at a place.
 fn outcome_at(line: &[u8], place: usize, form: Form) -> Outcome
-    ensures { result ≡ (readBytesOn (form_of form) mannersLink line.now place).outcome }
+    ensures { result ≡ (read_bytes_on (form_of form) manners_link line.now place).outcome }
 {
     let received = bytes::read(line, place, form, LINK);
     received.outcome
@@ -26,7 +26,7 @@ fn outcome_at(line: &[u8], place: usize, form: Form) -> Outcome
 
 // How many breaches the line has.
 fn count(line: &[u8], form: Form) -> usize
-    requires { (length line.now ≤ mostBytes) × (length line.now % 2 ≡ 0) }
+    requires { (length line.now ≤ most_bytes) × (length line.now % 2 ≡ 0) }
     ensures { result ≡ length (breaches (form_of form) (words_in line.now)) }
 {
     let n = line.len() / 2;
@@ -57,8 +57,8 @@ fn put_breach(list: &mut [u8], k: usize, place: usize, number: u16) -> usize
 
 // What was found at a place, in the same way.
 fn put(list: &mut [u8], k: usize, place: usize, found: Found) -> usize
-    requires { ((k + countOf found) * 4 ≤ length list.old) × (place < 65536) }
-    ensures { (result ≡ k + countOf found) × (list.new ≡ put_at list.old (k * 4) (bytes_of (numbersOf (list_of place found)))) }
+    requires { ((k + count_of found) * 4 ≤ length list.old) × (place < 65536) }
+    ensures { (result ≡ k + count_of found) × (list.new ≡ put_at list.old (k * 4) (bytes_of (numbers_of (list_of place found)))) }
 {
     match found {
         Found::NoBreach => k,
@@ -71,11 +71,11 @@ fn put(list: &mut [u8], k: usize, place: usize, found: Found) -> usize
 
 // All breaches of the line into the list, which has room for them. Answers how many there are.
 fn fill(line: &[u8], form: Form, list: &mut [u8]) -> usize
-    requires { (length line.now ≤ mostBytes)
+    requires { (length line.now ≤ most_bytes)
         × (length line.now % 2 ≡ 0)
         × (length (breaches (form_of form) (words_in line.now)) * 4 ≤ length list.old) }
     ensures { (result ≡ length (breaches (form_of form) (words_in line.now)))
-        × (list.new ≡ bytes_of (numbersOf (breaches (form_of form) (words_in line.now))) ++ drop (result * 4) list.old) }
+        × (list.new ≡ bytes_of (numbers_of (breaches (form_of form) (words_in line.now))) ++ drop (result * 4) list.old) }
 {
     let n = line.len() / 2;
     let mut place: usize = 0;

@@ -3,8 +3,8 @@
 // Relies on line_reader for the outcome at a place; specs/Listing.antt says what a call answers and what the list then holds.
 ghost use Rattle.std.specs.Prelude.{◌≡◌, ◌≤◌};
 ghost use Rattle.lines.specs.Line.{most};
-ghost use Rattle.manners.specs.Listing.{mostIn};
-ghost use Rattle.manners.specs.Numbers.{ruleNumber, mannersNumber};
+ghost use Rattle.manners.specs.Listing.{most_in};
+ghost use Rattle.manners.specs.Numbers.{rule_number, manners_number};
 
 use refusals::LineRefusal;
 
@@ -18,7 +18,7 @@ const LINK: u32 = 0;
 // The most breaches that a line of so many words can have.
 fn most_in(words: usize) -> usize
     requires { words ≤ most }
-    ensures { result ≡ mostIn words }
+    ensures { result ≡ most_in words }
 {
     (words + 1) / 5
 }
@@ -34,7 +34,7 @@ pub enum Rule {
 
 impl Rule {
     pub fn number(self) -> u16
-        ensures { result ≡ ruleNumber self }
+        ensures { result ≡ rule_number self }
     {
         match self {
             Rule::SubstitutionMode3a => 1,
@@ -60,7 +60,7 @@ pub enum MannersRefusal {
 
 impl MannersRefusal {
     pub fn number(self) -> u8
-        ensures { result ≡ mannersNumber self }
+        ensures { result ≡ manners_number self }
     {
         match self {
             MannersRefusal::ListTooSmall => 52,

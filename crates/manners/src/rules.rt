@@ -2,10 +2,10 @@
 // Relies on the records of reports, and on lines for what an outcome is.
 ghost use Rattle.std.specs.Prelude.{◌≡◌, [], ◌∷◌};
 ghost use Rattle.words.specs.Tests.{all};
-ghost use Rattle.reports.specs.Layouts.{modeC, radar};
-ghost use Rattle.manners.specs.Rules.{is_zero, isSeaLevel};
-ghost use Rattle.manners.specs.Breaches.{foundOf, foundIn};
-ghost use Rattle.manners.specs.Steps.{atcrbsFound, dabsFound, mapFound, countOf};
+ghost use Rattle.reports.specs.Layouts.{mode_c_of, radar};
+ghost use Rattle.manners.specs.Rules.{is_zero, is_sea_level};
+ghost use Rattle.manners.specs.Breaches.{found_of, found_in};
+ghost use Rattle.manners.specs.Steps.{atcrbs_found, dabs_found, map_found, count_of};
 
 use crate::{Found, Rule};
 use lines::What;
@@ -35,7 +35,7 @@ fn substitution_mode3a(mode3a: bool, height: Height) -> bool
 
 // Bit 6.
 fn mode_c_of(height: Height) -> bool
-    ensures { result ≡ modeC height }
+    ensures { result ≡ mode_c_of height }
 {
     match height {
         Height::Altitude(_) => true,
@@ -55,7 +55,7 @@ fn is_zero(hundreds: i16) -> bool
 
 // 3: an altitude, and it is zero.
 fn mode_c_all_zeros(height: Height) -> bool
-    ensures { result ≡ isSeaLevel height }
+    ensures { result ≡ is_sea_level height }
 {
     match height {
         Height::Altitude(hundreds) => is_zero(hundreds),
@@ -75,7 +75,7 @@ fn mode_c_all_zeros(height: Height) -> bool
 // ---- the records
 
 fn atcrbs_found(mode3a: bool, height: Height) -> Found
-    ensures { result ≡ atcrbsFound mode3a height }
+    ensures { result ≡ atcrbs_found mode3a height }
 {
     if substitution_mode3a(mode3a, height) {
         return Found::Breach(Rule::SubstitutionMode3a);
@@ -88,7 +88,7 @@ fn atcrbs_found(mode3a: bool, height: Height) -> Found
 
 // 2: relayed, and bit 6 is zero.
 fn dabs_found(relay: bool, height: Height) -> Found
-    ensures { result ≡ dabsFound relay height }
+    ensures { result ≡ dabs_found relay height }
 {
     if relay {
         if mode_c_of(height) {
@@ -101,7 +101,7 @@ fn dabs_found(relay: bool, height: Height) -> Found
 
 // 4: the stop is below the start.
 fn map_found(start: CoarseRange, stop: CoarseRange) -> Found
-    ensures { result ≡ mapFound start.0 stop.0 }
+    ensures { result ≡ map_found start.0 stop.0 }
 {
     if stop.0 < start.0 {
         return Found::Breach(Rule::MapStopBelowStart);
@@ -110,7 +110,7 @@ fn map_found(start: CoarseRange, stop: CoarseRange) -> Found
 }
 
 fn found_of(report: Report) -> Found
-    ensures { result ≡ foundOf report }
+    ensures { result ≡ found_of report }
 {
     match report {
         Report::Atcrbs(a) => {
@@ -134,7 +134,7 @@ fn found_of(report: Report) -> Found
 // ---- what is found in an outcome
 
 pub fn found_in(what: What) -> Found
-    ensures { result ≡ foundIn what }
+    ensures { result ≡ found_in what }
 {
     match what {
         What::Accepted(report) => found_of(report),
@@ -145,7 +145,7 @@ pub fn found_in(what: What) -> Found
 
 // How many breaches that is.
 pub fn count_of(found: Found) -> usize
-    ensures { result ≡ countOf found }
+    ensures { result ≡ count_of found }
 {
     match found {
         Found::NoBreach => 0,

@@ -6,9 +6,9 @@ ghost use Rattle.reports.specs.Altitude.{form_of};
 ghost use Rattle.lines.specs.Line.{most};
 ghost use Rattle.lines.specs.Links.{read_on};
 ghost use Rattle.lines.specs.Claims.{put as put_at};
-ghost use Rattle.manners.specs.Breaches.{mannersLink, breaches, list_of, numbersOf};
+ghost use Rattle.manners.specs.Breaches.{manners_link, breaches, list_of, numbers_of};
 ghost use Rattle.manners.specs.Listing.{Lists};
-ghost use Rattle.manners.specs.Steps.{countOf};
+ghost use Rattle.manners.specs.Steps.{count_of};
 
 use crate::{Found, LINK, Listed, MannersRefusal, most_in, rules};
 use line_reader::wide;
@@ -18,7 +18,7 @@ use reports::altitude::Form;
 
 // The outcome at a place.
 fn outcome_at(line: &[u16], place: usize, form: Form) -> Outcome
-    ensures { result ≡ (read_on (form_of form) mannersLink line.now place).outcome }
+    ensures { result ≡ (read_on (form_of form) manners_link line.now place).outcome }
 {
     let received = wide::read(line, place, form, LINK);
     received.outcome
@@ -54,8 +54,8 @@ fn put_breach(list: &mut [u16], k: usize, place: usize, number: u16) -> usize
 
 // What was found at a place, in the same way.
 fn put(list: &mut [u16], k: usize, place: usize, found: Found) -> usize
-    requires { ((k + countOf found) * 2 ≤ length list.old) × (place < 65536) }
-    ensures { (result ≡ k + countOf found) × (list.new ≡ put_at list.old (k * 2) (numbersOf (list_of place found))) }
+    requires { ((k + count_of found) * 2 ≤ length list.old) × (place < 65536) }
+    ensures { (result ≡ k + count_of found) × (list.new ≡ put_at list.old (k * 2) (numbers_of (list_of place found))) }
 {
     match found {
         Found::NoBreach => k,
@@ -70,7 +70,7 @@ fn put(list: &mut [u16], k: usize, place: usize, found: Found) -> usize
 fn fill(line: &[u16], form: Form, list: &mut [u16]) -> usize
     requires { (length line.now ≤ most) × (length (breaches (form_of form) line.now) * 2 ≤ length list.old) }
     ensures { (result ≡ length (breaches (form_of form) line.now))
-        × (list.new ≡ numbersOf (breaches (form_of form) line.now) ++ drop (result * 2) list.old) }
+        × (list.new ≡ numbers_of (breaches (form_of form) line.now) ++ drop (result * 2) list.old) }
 {
     let mut place: usize = 0;
     let mut k: usize = 0;

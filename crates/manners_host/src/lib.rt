@@ -3,8 +3,8 @@
 // Relies on manners for the answer and the list; specs/Calls.antt says what the call answers.
 ghost use Rattle.std.specs.Prelude.{◌≡◌, ◌≤◌, ◌<◌};
 ghost use Rattle.reports.specs.Altitude.{chosen};
-ghost use Rattle.manners.specs.Listing.{mostBreaches, countIn};
-ghost use Rattle.manners_host.specs.Calls.{doneWith, answerNumber, GivesNumber};
+ghost use Rattle.manners.specs.Listing.{most_breaches, count_in};
+ghost use Rattle.manners_host.specs.Calls.{done_with, answer_number, GivesNumber};
 
 use manners::Listed;
 use reports::altitude::Form;
@@ -16,15 +16,15 @@ const LISTED: u32 = 128;
 const STEP: u32 = 256;
 
 fn done_with(done: u32, count: usize) -> u32
-    requires { (done < 256) × (count ≤ mostBreaches) }
-    ensures { result ≡ doneWith done count }
+    requires { (done < 256) × (count ≤ most_breaches) }
+    ensures { result ≡ done_with done count }
 {
     done + STEP * (count as u32)
 }
 
 fn answer_number(answer: Listed) -> u32
-    requires { countIn answer ≤ mostBreaches }
-    ensures { result ≡ answerNumber answer }
+    requires { count_in answer ≤ most_breaches }
+    ensures { result ≡ answer_number answer }
 {
     match answer {
         Listed::Breaches(n) => done_with(LISTED, n),

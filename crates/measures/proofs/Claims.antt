@@ -6,11 +6,11 @@ use native.Mathlib.Omega.{arith}
 use Rattle.measures.specs.Claims.{WeightsAsPrinted, ExactIsOne, MinusZeroIsNot}
 use Rattle.measures.proofs.Unique.{unique}
 
-pub weights-as-printed : WeightsAsPrinted
-weights-as-printed = record { fine-range = refl; coarse-range = refl; fine-azimuth = refl; coarse-azimuth = refl; time-count = refl; run-of-three-bits = refl; run-of-seven-bits = refl }
+pub weights_as_printed : WeightsAsPrinted
+weights_as_printed = record { fine_range_is = refl; coarse_range_is = refl; fine_azimuth_is = refl; coarse_azimuth_is = refl; time_count = refl; run_of_three_bits = refl; run_of_seven_bits = refl }
 
-pub exact-is-one : ExactIsOne
-exact-is-one = unique
+pub exact_is_one : ExactIsOne
+exact_is_one = unique
 
-pub minus-zero-is-not : MinusZeroIsNot
-minus-zero-is-not e = let h : 2 ^ 63 / 2 ^ 63 ≡ 0 = e.plus in omega arith
+pub minus_zero_is_not : MinusZeroIsNot
+minus_zero_is_not e = let h : 2 ^ 63 / 2 ^ 63 ≡ 0 = e.plus in omega arith

@@ -15,7 +15,7 @@ use lib.Ieee.Exact.{HasValue, odd_sign, round_exact}
 use lib.Ieee.Back.{round_whole}
 use lib.Ieee.Scale.{round_same}
 use lib.Ieee.Bits.{of_bits-to_bits}
-use Rattle.measures.specs.Exact.{exponentOf, fractionOf, magnitude, Exact}
+use Rattle.measures.specs.Exact.{exponent_of, fraction_of, magnitude, Exact}
 
 -- 1024.0
 abbrev pub thousand24 : Float
@@ -72,18 +72,18 @@ fields s (suc x) t n v = go (eqb (suc x) 2047) v
 no_sign : (b : ℕ) → leb (2 ^ 63) b ≡ false → b / 2 ^ 63 ≡ 0
 no_sign b e = let h : b < 2 ^ 63 = nleb→lt (2 ^ 63) b (subst (λ (z : Bool). T (not z)) (sym e) tt) in omega arith
 
-at_most : (b : ℕ) → exponentOf b ≤ 2047
+at_most : (b : ℕ) → exponent_of b ≤ 2047
 at_most b = omega arith
 
-below-ones : (b : ℕ) → T (not (eqb (exponentOf b) 2047)) → exponentOf b < 2047
-below-ones b h = elim (eq-or-lt_of_le (at_most b)) [ inl e ↦ absurd (subst (λ (z : ℕ). T (not (eqb z 2047))) e h) | inr l ↦ l ]
+below_ones : (b : ℕ) → T (not (eqb (exponent_of b) 2047)) → exponent_of b < 2047
+below_ones b h = elim (eq-or-lt_of_le (at_most b)) [ inl e ↦ absurd (subst (λ (z : ℕ). T (not (eqb z 2047))) e h) | inr l ↦ l ]
 
 bits_of_value : (n : ℕ) (r : Float) → T (fits binary64 r) → HasValue r false n 1024 → Exact n r
 unfolding of_bits
 bits_of_value n r f v =
     let b = to_bits binary64 r in
-    let k = fields (leb (2 ^ 63) b) (exponentOf b) (fractionOf b) n (subst (λ (z : Float). HasValue z false n 1024) (sym (of_bits-to_bits binary64 r f)) v) in
-    record { plus = no_sign b k.0; finite = below-ones b k.1; value = k.2 }
+    let k = fields (leb (2 ^ 63) b) (exponent_of b) (fraction_of b) n (subst (λ (z : Float). HasValue z false n 1024) (sym (of_bits-to_bits binary64 r f)) v) in
+    record { plus = no_sign b k.0; finite = below_ones b k.1; value = k.2 }
 
 -- ---- the law
 pub exact : (n : ℕ) → n < 2 ^ 53 → Exact n (div binary64 (of_int binary64 (pos n)) thousand24)

@@ -3,18 +3,18 @@ use Rattle.std.specs.Prelude.{ℕ, ◌*◌, ◌^◌, ◌≡◌, T, Float}
 use Rattle.std.specs.Float.{binary64}
 use Rattle.std.specs.Float.Ieee.{fits}
 use Rattle.measures.specs.Exact.{Exact1024, Exact}
-use Rattle.measures.specs.Weight.{fineRange, coarseRange, fineAzimuth, coarseAzimuth, time, runLength}
+use Rattle.measures.specs.Weight.{fine_range, coarse_range, fine_azimuth, coarse_azimuth, time, run_length}
 
 -- the weights in 1024ths say what document 01 has: 128 or 8 counts to the nmi, 8192 or 4096 to the circle, 8 to the second; a run length's is
 -- in ACP, and the heaviest of its three bits in a Search is 16 ACP, of the seven of a Strobe 256 (document 004, Table 4-2)
 pub record WeightsAsPrinted : Type 0 where
-  pub fine-range : fineRange * 128 ≡ 1024
-  pub coarse-range : coarseRange * 8 ≡ 1024
-  pub fine-azimuth : fineAzimuth * 8192 ≡ 360 * 1024
-  pub coarse-azimuth : coarseAzimuth * 4096 ≡ 360 * 1024
-  pub time-count : time * 8 ≡ 1024
-  pub run-of-three-bits : runLength * 4 ≡ 16
-  pub run-of-seven-bits : runLength * 64 ≡ 256
+  pub fine_range_is : fine_range * 128 ≡ 1024
+  pub coarse_range_is : coarse_range * 8 ≡ 1024
+  pub fine_azimuth_is : fine_azimuth * 8192 ≡ 360 * 1024
+  pub coarse_azimuth_is : coarse_azimuth * 4096 ≡ 360 * 1024
+  pub time_count : time * 8 ≡ 1024
+  pub run_of_three_bits : run_length * 4 ≡ 16
+  pub run_of_seven_bits : run_length * 64 ≡ 256
 
 -- what is exactly n / 1024 is one value: any two answers that a promise of exactness allows are equal
 abbrev pub ExactIsOne : Type 0

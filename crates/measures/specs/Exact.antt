@@ -8,11 +8,11 @@ use Rattle.measures.specs.declared.Measured.{Measured}
 abbrev sign_of : ℕ → ℕ
 sign_of b = b / 2 ^ 63
 
-abbrev pub exponentOf : ℕ → ℕ
-exponentOf b = b % 2 ^ 63 / 2 ^ 52
+abbrev pub exponent_of : ℕ → ℕ
+exponent_of b = b % 2 ^ 63 / 2 ^ 52
 
-abbrev pub fractionOf : ℕ → ℕ
-fractionOf b = b % 2 ^ 52
+abbrev pub fraction_of : ℕ → ℕ
+fraction_of b = b % 2 ^ 52
 
 -- The magnitude of an exponent and a fraction, in units of the least `f64` above zero, 2 ^ -1074.
 -- An exponent of 0 has no leading one before its fraction. One of x + 1 has it, and weighs 2 ^ x times as much.
@@ -23,8 +23,8 @@ magnitude (suc x) t = (2 ^ 52 + t) * 2 ^ x
 -- the pattern b is that of n / 1024: a plus sign, neither infinite nor NaN, and 1024 times the magnitude is n
 pub record Exact1024 (n b : ℕ) : Type 0 where
   pub plus : sign_of b ≡ 0
-  pub finite : exponentOf b < 2047
-  pub value : magnitude (exponentOf b) (fractionOf b) * 1024 ≡ n * 2 ^ 1074
+  pub finite : exponent_of b < 2047
+  pub value : magnitude (exponent_of b) (fraction_of b) * 1024 ≡ n * 2 ^ 1074
 
 -- the `f64` r is n / 1024 exactly, and +0 where n is 0
 abbrev pub Exact : ℕ → Float → Type 0

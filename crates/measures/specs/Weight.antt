@@ -4,18 +4,18 @@ use Rattle.std.specs.Prelude.{ℕ}
 -- ---- in 1024ths of the unit
 
 -- range: counts of 1/128 nmi, and of 1/8 nmi
-abbrev pub fineRange : ℕ
-fineRange = 8
+abbrev pub fine_range : ℕ
+fine_range = 8
 
-abbrev pub coarseRange : ℕ
-coarseRange = 128
+abbrev pub coarse_range : ℕ
+coarse_range = 128
 
 -- azimuth: 8192 counts to the circle of 360 degrees, and 4096
-abbrev pub fineAzimuth : ℕ
-fineAzimuth = 45
+abbrev pub fine_azimuth : ℕ
+fine_azimuth = 45
 
-abbrev pub coarseAzimuth : ℕ
-coarseAzimuth = 90
+abbrev pub coarse_azimuth : ℕ
+coarse_azimuth = 90
 
 -- time in storage: counts of 1/8 s
 abbrev pub time : ℕ
@@ -24,5 +24,5 @@ time = 128
 -- ---- in ACP
 
 -- run length: counts of 4 ACP
-abbrev pub runLength : ℕ
-runLength = 4
+abbrev pub run_length : ℕ
+run_length = 4

@@ -22,7 +22,7 @@ impl FineRange {
     pub const WEIGHT: u32 = 8;
 
     pub fn nmi(self) -> f64
-        ensures { Exact (self.0 * weight.fineRange) result }
+        ensures { Exact (self.0 * weight.fine_range) result }
     {
         of_1024ths(self.0 as u32 * Self::WEIGHT)
     }
@@ -36,7 +36,7 @@ impl CoarseRange {
     pub const WEIGHT: u32 = 128;
 
     pub fn nmi(self) -> f64
-        ensures { Exact (self.0 * weight.coarseRange) result }
+        ensures { Exact (self.0 * weight.coarse_range) result }
     {
         of_1024ths(self.0 as u32 * Self::WEIGHT)
     }
@@ -52,7 +52,7 @@ impl FineAzimuth {
     pub const WEIGHT: u32 = 45;
 
     pub fn degrees(self) -> f64
-        ensures { Exact (self.0 * weight.fineAzimuth) result }
+        ensures { Exact (self.0 * weight.fine_azimuth) result }
     {
         of_1024ths(self.0 as u32 * Self::WEIGHT)
     }
@@ -66,7 +66,7 @@ impl CoarseAzimuth {
     pub const WEIGHT: u32 = 90;
 
     pub fn degrees(self) -> f64
-        ensures { Exact (self.0 * weight.coarseAzimuth) result }
+        ensures { Exact (self.0 * weight.coarse_azimuth) result }
     {
         of_1024ths(self.0 as u32 * Self::WEIGHT)
     }
@@ -96,7 +96,7 @@ impl RunLength {
     pub const WEIGHT: u16 = 4;
 
     pub fn acp(self) -> u16
-        ensures { result ≡ self.0 * weight.runLength }
+        ensures { result ≡ self.0 * weight.run_length }
     {
         self.0 as u16 * Self::WEIGHT
     }
@@ -115,7 +115,7 @@ pub struct Measured {
 impl Measured {
     // From the counts of seven words.
     pub fn fine(range: FineRange, azimuth: FineAzimuth, time: Time) -> Measured
-        ensures { AllExact (range.0 * weight.fineRange) (azimuth.0 * weight.fineAzimuth) (time.0 * weight.time) result }
+        ensures { AllExact (range.0 * weight.fine_range) (azimuth.0 * weight.fine_azimuth) (time.0 * weight.time) result }
     {
         Measured {
             range: range.nmi(),
@@ -126,7 +126,7 @@ impl Measured {
 
     // From the counts of four words.
     pub fn coarse(range: CoarseRange, azimuth: CoarseAzimuth, time: Time) -> Measured
-        ensures { AllExact (range.0 * weight.coarseRange) (azimuth.0 * weight.coarseAzimuth) (time.0 * weight.time) result }
+        ensures { AllExact (range.0 * weight.coarse_range) (azimuth.0 * weight.coarse_azimuth) (time.0 * weight.time) result }
     {
         Measured {
             range: range.nmi(),

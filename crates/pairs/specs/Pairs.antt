@@ -1,6 +1,6 @@
 -- Pairs of eight-byte numbers in a list of bytes, high byte first: a number, and the value that goes with it. Definitions only.
 use Rattle.std.specs.Prelude.{ℕ, zero, suc, ◌+◌, ◌/◌, ◌≤◌, ◌<◌, Bool, true, false, cond, ◌≡◌, ◌⊎◌, List, [], ◌∷◌, eqb, length, drop}
-use Rattle.bits.specs.Bits.{bitsOf}
+use Rattle.bits.specs.Bits.{bits_of}
 use Rattle.pairs.specs.declared.Found.{Found}
 use Rattle.pairs.specs.declared.Found.TheVariants as F
 use Rattle.pairs.specs.declared.Gathered.{Gathered}
@@ -10,7 +10,7 @@ Pair = ℕ × ℕ
 
 -- the number of the first eight bytes
 abbrev pub eight : List ℕ → ℕ
-eight s = bitsOf s 0 64
+eight s = bits_of s 0 64
 
 -- the first n pairs
 unfoldable pub pairs : ℕ → List ℕ → List Pair
@@ -18,35 +18,35 @@ pairs zero s = []
 pairs (suc n) s = (eight s, eight (drop 8 s)) ∷ pairs n (drop 16 s)
 
 -- all whole pairs
-unfoldable pub pairsIn : List ℕ → List Pair
-pairsIn s = pairs (length s / 16) s
+unfoldable pub pairs_in : List ℕ → List Pair
+pairs_in s = pairs (length s / 16) s
 
 -- the value of the first pair with this number
-unfoldable pub findIn : ℕ → List Pair → Found
-findIn n [] = F.Missing
-findIn n (p ∷ ps) = cond (eqb p.0 n) (F.Value p.1) (findIn n ps)
+unfoldable pub find_in : ℕ → List Pair → Found
+find_in n [] = F.Missing
+find_in n (p ∷ ps) = cond (eqb p.0 n) (F.Value p.1) (find_in n ps)
 
 -- its value; 0 where there is none
 abbrev pub value_of : Found → ℕ
 value_of (F.Value v) = v
 value_of F.Missing = 0
 
-abbrev pub isFound : Found → Bool
-isFound (F.Value v) = true
-isFound F.Missing = false
+abbrev pub is_found : Found → Bool
+is_found (F.Value v) = true
+is_found F.Missing = false
 
 -- what f says of what is found for each of k numbers, n the first
-unfoldable pub eachFrom : {X : Type 0} → (Found → X) → ℕ → ℕ → List Pair → List X
-eachFrom f n zero ps = []
-eachFrom f n (suc k) ps = f (findIn n ps) ∷ eachFrom f (suc n) k ps
+unfoldable pub each_from : {X : Type 0} → (Found → X) → ℕ → ℕ → List Pair → List X
+each_from f n zero ps = []
+each_from f n (suc k) ps = f (find_in n ps) ∷ each_from f (suc n) k ps
 
 -- so many numbers are looked for at once: a record has at most 36 items, whose numbers stand together, and reports also use 0
 abbrev pub slots : ℕ
 slots = 37
 
 -- what is found for the numbers from n on
-unfoldable pub gatheredFrom : ℕ → List Pair → Gathered
-gatheredFrom n ps = record { there = eachFrom isFound n slots ps; values = eachFrom value_of n slots ps }
+unfoldable pub gathered_from : ℕ → List Pair → Gathered
+gathered_from n ps = record { there = each_from is_found n slots ps; values = each_from value_of n slots ps }
 
 -- k is the place of the number m among the numbers from n on; or k is slots, and m is none of them
 abbrev pub Slot : ℕ → ℕ → ℕ → Type 0

@@ -2,8 +2,8 @@
 // Every slice is taken; bytes behind the last whole pair are no pair, and `whole` tells of them.
 // Relies on bits for the number that bytes hold; specs/Pairs.antt says what each answer means.
 ghost use Rattle.std.specs.Prelude.{◌≡◌, ◌+◌, ◌%◌, ◌≤◌, eqb, length, drop};
-ghost use Rattle.bits.specs.Bits.{bitsOf};
-ghost use Rattle.pairs.specs.Pairs.{pairsIn, Slot, gatheredFrom};
+ghost use Rattle.bits.specs.Bits.{bits_of};
+ghost use Rattle.pairs.specs.Pairs.{pairs_in, Slot, gathered_from};
 
 #[derive(Drop)]
 pub enum Found {
@@ -30,7 +30,7 @@ pub fn whole(items: &[u8]) -> bool
 
 // How many whole pairs there are.
 pub fn count(items: &[u8]) -> usize
-    ensures { result ≡ length (pairsIn items.now) }
+    ensures { result ≡ length (pairs_in items.now) }
 {
     items.len() / 16
 }
@@ -38,7 +38,7 @@ pub fn count(items: &[u8]) -> usize
 // The number of the eight bytes from a place on. Read from a part of the slice, so that no slice is too long to count its bits.
 fn eight(items: &[u8], at: usize) -> u64
     requires { at ≤ length items.now }
-    ensures { result ≡ bitsOf (drop at items.now) 0 64 }
+    ensures { result ≡ bits_of (drop at items.now) 0 64 }
 {
     bits::read(&items[at..], 0, 64)
 }
@@ -57,7 +57,7 @@ fn slot(first: u64, number: u64) -> usize
 // What is found for the SLOTS numbers from `first` on. One pass over the slice, the last pair first: of those with the same number the
 // first one stays.
 pub fn gather(items: &[u8], first: u64) -> Gathered
-    ensures { result ≡ gatheredFrom first (pairsIn items.now) }
+    ensures { result ≡ gathered_from first (pairs_in items.now) }
 {
     let mut there = [false; SLOTS];
     let mut values = [0u64; SLOTS];

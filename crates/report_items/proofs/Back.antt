@@ -10,10 +10,10 @@ use lib.Dec.{eqb, leb, ltb}
 use lib.IntN.{ℤ, pos, negsuc, nat_abs}
 use lib.ListN.{get_or}
 use Rattle.words.specs.Tests.{all}
-use Rattle.words.proofs.Tests.{picked, by-test}
+use Rattle.words.proofs.Tests.{picked, by_test}
 use Rattle.pairs.specs.declared.Found.{Found}
 use Rattle.pairs.specs.declared.Found.TheVariants as F
-use Rattle.pairs.specs.Pairs.{Pair, findIn, value_of, isFound, eachFrom}
+use Rattle.pairs.specs.Pairs.{Pair, find_in, value_of, is_found, each_from}
 use Rattle.reports.specs.declared.Search.{Search}
 use Rattle.reports.specs.declared.Strobe.{Strobe}
 use Rattle.reports.specs.declared.Map.{Map}
@@ -29,24 +29,24 @@ use Rattle.reports.specs.declared.Report.{Report}
 use Rattle.reports.specs.declared.Report.TheVariants as R
 use Rattle.reports.specs.declared.kinds.Kind.TheVariants as K
 use Rattle.reports.specs.Altitude.{AltitudeForm}
-use Rattle.reports.specs.Kinds.{kind_of, kindNumber, dabsKind, atcrbsKind}
-use Rattle.words.specs.Layout.{Field, flag, count, rest, fixed, fitting, fittingAll, fittingBy}
-use Rattle.reports.specs.Layouts.{Fits, layout_of, lastWord}
+use Rattle.reports.specs.Kinds.{kind_of, kind_number, dabs_kind, atcrbs_kind}
+use Rattle.words.specs.Layout.{Field, flag, count, rest, fixed, fitting, fitting_all, fitting_by}
+use Rattle.reports.specs.Layouts.{Fits, layout_of, last_word}
 use Rattle.report_items.specs.declared.items.Item.{Item}
 use Rattle.report_items.specs.declared.items.Item.TheVariants as I
 use Rattle.report_items.specs.Items as N
-use Rattle.report_items.specs.Items.{last, heightItems, lookup, item_of}
-use Rattle.report_items.specs.Given.{as_signed, itemFrom, itemGiven, valuesIn, plainGiven, cdGiven, mtdHeightGiven, rdasHeightGiven, dabsGiven, atcrbsGiven, built, builtFrom}
+use Rattle.report_items.specs.Items.{last, height_items, lookup, item_of}
+use Rattle.report_items.specs.Given.{as_signed, item_of_pairs, item_given, values_in, plain_given, cd_given, mtd_height_given, rdas_height_given, dabs_given, atcrbs_given, built, built_from}
 use Rattle.report_items.specs.Claims.{InSixteenBits, FitsSixteenBits}
 use Rattle.report_items.proofs.Signed.{low, high}
 
 -- ---- one value
 
 -- two's complement of 64 bits loses nothing
-signed-pos : (v k : ℕ) → as_signed 9223372036854775808 v ≡ pos k → v ≡ k
+signed_pos : (v k : ℕ) → as_signed 9223372036854775808 v ≡ pos k → v ≡ k
 unfolding as_signed
-signed-pos v k e =
-    by-test (ltb v 9223372036854775808)
+signed_pos v k e =
+    by_test (ltb v 9223372036854775808)
     (λ t. let q : pos v ≡ pos k = sym (picked _ _ t) ∙ e in ap nat_abs q)
     (λ t.
     let l : 9223372036854775808 ≤ v = ltb-false _ _ t in
@@ -58,37 +58,37 @@ signed-pos v k e =
 -- ---- what an item counts
 
 -- a flag or a count; an altitude may be none
-abbrev isCount : Item → Bool
-isCount (I.Of (pos k)) = true
-isCount (I.Of (negsuc k)) = false
-isCount I.Missing = false
+abbrev is_count : Item → Bool
+is_count (I.Of (pos k)) = true
+is_count (I.Of (negsuc k)) = false
+is_count I.Missing = false
 
-abbrev countIn : Item → ℕ
-countIn (I.Of (pos k)) = k
-countIn (I.Of (negsuc k)) = 0
-countIn I.Missing = 0
+abbrev count_in : Item → ℕ
+count_in (I.Of (pos k)) = k
+count_in (I.Of (negsuc k)) = 0
+count_in I.Missing = 0
 
-found-count : (f : Found) (i : Item) → isCount i ≡ true → itemFrom f ≡ i → value_of f ≡ countIn i
-found-count (F.Value v) (I.Of (pos k)) h e = let q : as_signed 9223372036854775808 v ≡ pos k = cc in signed-pos v k q
-found-count F.Missing (I.Of (pos k)) h e = let z : ◌≡◌ {A = ℕ} 0 1 = cc in absurd (omega arith)
-found-count f (I.Of (negsuc k)) h e = let z : ◌≡◌ {A = ℕ} 0 1 = cc in absurd (omega arith)
-found-count f I.Missing h e = let z : ◌≡◌ {A = ℕ} 0 1 = cc in absurd (omega arith)
+found_count : (f : Found) (i : Item) → is_count i ≡ true → item_of_pairs f ≡ i → value_of f ≡ count_in i
+found_count (F.Value v) (I.Of (pos k)) h e = let q : as_signed 9223372036854775808 v ≡ pos k = cc in signed_pos v k q
+found_count F.Missing (I.Of (pos k)) h e = let z : ◌≡◌ {A = ℕ} 0 1 = cc in absurd (omega arith)
+found_count f (I.Of (negsuc k)) h e = let z : ◌≡◌ {A = ℕ} 0 1 = cc in absurd (omega arith)
+found_count f I.Missing h e = let z : ◌≡◌ {A = ℕ} 0 1 = cc in absurd (omega arith)
 
-found-has : (f : Found) (z : ℤ) → itemFrom f ≡ I.Of z → isFound f ≡ true
-found-has (F.Value v) z e = refl
-found-has F.Missing z e = let y : ◌≡◌ {A = ℕ} 0 1 = cc in absurd (omega arith)
+found_has : (f : Found) (z : ℤ) → item_of_pairs f ≡ I.Of z → is_found f ≡ true
+found_has (F.Value v) z e = refl
+found_has F.Missing z e = let y : ◌≡◌ {A = ℕ} 0 1 = cc in absurd (omega arith)
 
-found-not : (f : Found) → itemFrom f ≡ I.Missing → isFound f ≡ false
-found-not (F.Value v) e = let y : ◌≡◌ {A = ℕ} 0 1 = cc in absurd (omega arith)
-found-not F.Missing e = refl
+found_not : (f : Found) → item_of_pairs f ≡ I.Missing → is_found f ≡ false
+found_not (F.Value v) e = let y : ◌≡◌ {A = ℕ} 0 1 = cc in absurd (omega arith)
+found_not F.Missing e = refl
 
 -- a number that sixteen bits hold is held by them
-signed-small : (v : ℕ) (z : ℤ) → InSixteenBits z → as_signed 9223372036854775808 v ≡ z → as_signed 32768 v ≡ z
-signed-small v (pos n) s e =
-    let q : v ≡ n = signed-pos v n e in
+signed_small : (v : ℕ) (z : ℤ) → InSixteenBits z → as_signed 9223372036854775808 v ≡ z → as_signed 32768 v ≡ z
+signed_small v (pos n) s e =
+    let q : v ≡ n = signed_pos v n e in
     low 32768 v (omega arith) ∙ ap pos q
-signed-small v (negsuc n) s e =
-    by-test (ltb v 9223372036854775808)
+signed_small v (negsuc n) s e =
+    by_test (ltb v 9223372036854775808)
     (λ t.
     let q : pos v ≡ negsuc n = sym (low 9223372036854775808 v (ltb-true _ _ t)) ∙ e in
     let z : ◌≡◌ {A = ℕ} 0 1 = cc in
@@ -99,9 +99,9 @@ signed-small v (negsuc n) s e =
     let m : 18446744073709551615 - v ≡ n = cc in
     high 32768 v (omega arith) (omega arith) ∙ q)
 
-found-small : (f : Found) (z : ℤ) → InSixteenBits z → itemFrom f ≡ I.Of z → as_signed 32768 (value_of f) ≡ z
-found-small (F.Value v) z s e = let q : as_signed 9223372036854775808 v ≡ z = cc in signed-small v z s q
-found-small F.Missing z s e = let y : ◌≡◌ {A = ℕ} 0 1 = cc in absurd (omega arith)
+found_small : (f : Found) (z : ℤ) → InSixteenBits z → item_of_pairs f ≡ I.Of z → as_signed 32768 (value_of f) ≡ z
+found_small (F.Value v) z s e = let q : as_signed 9223372036854775808 v ≡ z = cc in signed_small v z s q
+found_small F.Missing z s e = let y : ◌≡◌ {A = ℕ} 0 1 = cc in absurd (omega arith)
 
 -- ---- what fits
 
@@ -110,10 +110,10 @@ both true b e = (refl, e)
 both false b e = let z : ◌≡◌ {A = ℕ} 0 1 = cc in absurd (omega arith)
 
 -- where all words fit, each does
-word_fits : (l : List (List Field)) (i : ℕ) → fittingBy l ≡ true → fittingAll (get_or l i []) ≡ true
+word_fits : (l : List (List Field)) (i : ℕ) → fitting_by l ≡ true → fitting_all (get_or l i []) ≡ true
 word_fits [] i e = refl
-word_fits (w ∷ l) zero e = (both (fittingAll w) (fittingBy l) e).0
-word_fits (w ∷ l) (suc i) e = word_fits l i (both (fittingAll w) (fittingBy l) e).1
+word_fits (w ∷ l) zero e = (both (fitting_all w) (fitting_by l) e).0
+word_fits (w ∷ l) (suc i) e = word_fits l i (both (fitting_all w) (fitting_by l) e).1
 
 -- a value that fits, as omega reads it
 abbrev Fitting : Field → Type 0
@@ -122,189 +122,189 @@ Fitting (count k n) = n < 2 ^ k
 Fitting (rest k n) = Unit {0}
 Fitting (fixed k n) = n < 2 ^ k
 
-fitting-is : (f : Field) → fitting f ≡ true → Fitting f
-fitting-is (flag b) e = tt
-fitting-is (count k n) e = ltb-true n (2 ^ k) e
-fitting-is (rest k n) e = tt
-fitting-is (fixed k n) e = ltb-true n (2 ^ k) e
+fitting_is : (f : Field) → fitting f ≡ true → Fitting f
+fitting_is (flag b) e = tt
+fitting_is (count k n) e = ltb-true n (2 ^ k) e
+fitting_is (rest k n) e = tt
+fitting_is (fixed k n) e = ltb-true n (2 ^ k) e
 
 -- where all fields of a word fit, field j does
-in-word : (w : List Field) → fittingAll w ≡ true → (j : ℕ) → Fitting (get_or w j (flag true))
-in-word [] e j = tt
-in-word (f ∷ w) e zero = fitting-is f (both (fitting f) (fittingAll w) e).0
-in-word (f ∷ w) e (suc j) = in-word w (both (fitting f) (fittingAll w) e).1 j
+in_word : (w : List Field) → fitting_all w ≡ true → (j : ℕ) → Fitting (get_or w j (flag true))
+in_word [] e j = tt
+in_word (f ∷ w) e zero = fitting_is f (both (fitting f) (fitting_all w) e).0
+in_word (f ∷ w) e (suc j) = in_word w (both (fitting f) (fitting_all w) e).1 j
 
 -- and where all words fit, field j of word i
-field_fits : (l : List (List Field)) → fittingBy l ≡ true → (i j : ℕ) → Fitting (get_or (get_or l i []) j (flag true))
-field_fits l e i j = in-word (get_or l i []) (word_fits l i e) j
+field_fits : (l : List (List Field)) → fitting_by l ≡ true → (i j : ℕ) → Fitting (get_or (get_or l i []) j (flag true))
+field_fits l e i j = in_word (get_or l i []) (word_fits l i e) j
 
 -- ---- what is given of a report
 
 abbrev Said : List Pair → Report → Type 0
-Said ps r = (n : ℕ) → 0 < n → n ≤ last → itemGiven ps n ≡ item_of r n
+Said ps r = (n : ℕ) → 0 < n → n ≤ last → item_given ps n ≡ item_of r n
 
 module _ (ps : List Pair) (r : Report) (t : Said ps r) where
-  said : (n : ℕ) → all (ltb 0 n ∷ leb n last ∷ []) ≡ true → itemGiven ps n ≡ item_of r n
+  said : (n : ℕ) → all (ltb 0 n ∷ leb n last ∷ []) ≡ true → item_given ps n ≡ item_of r n
   said n h =
       let a = both _ _ h in
       t n (ltb-true _ _ a.0) (leb-true _ _ (both _ _ a.1).0)
 
   -- the value of a flag or a count
-  own : (n : ℕ) → all (ltb 0 n ∷ leb n last ∷ isCount (item_of r n) ∷ []) ≡ true → value_of (findIn n ps) ≡ countIn (item_of r n)
-  unfolding itemGiven
+  own : (n : ℕ) → all (ltb 0 n ∷ leb n last ∷ is_count (item_of r n) ∷ []) ≡ true → value_of (find_in n ps) ≡ count_in (item_of r n)
+  unfolding item_given
   own n h =
       let a = both _ _ h in
       let b = both _ _ a.1 in
-      found-count (findIn n ps) (item_of r n) (both _ _ b.1).0 (t n (ltb-true _ _ a.0) (leb-true _ _ b.0))
+      found_count (find_in n ps) (item_of r n) (both _ _ b.1).0 (t n (ltb-true _ _ a.0) (leb-true _ _ b.0))
 
 -- a flag by its value
-flag-own : (b : Bool) → eqb (cond b 1 0) 1 ≡ b
-flag-own true = refl
-flag-own false = refl
+flag_own : (b : Bool) → eqb (cond b 1 0) 1 ≡ b
+flag_own true = refl
+flag_own false = refl
 
 -- ---- four words
 
 module _ (form : AltitudeForm) (narrow : FitsSixteenBits form) (ps : List Pair) where
-  search-back : (s : Search) → Fits form (R.Search s) → Said ps (R.Search s) → builtFrom (kindNumber K.Search) ps ≡ R.Search s
-  unfolding built valuesIn eachFrom
-  search-back s f t =
+  search_back : (s : Search) → Fits form (R.Search s) → Said ps (R.Search s) → built_from (kind_number K.Search) ps ≡ R.Search s
+  unfolding built values_in each_from
+  search_back s f t =
       let at = field_fits (layout_of form (R.Search s)) f in
       let range : s.range.0 < 65536 = omega (arith, at 1 0) in
       let azimuth : s.azimuth.0 < 65536 = omega (arith, at 2 0) in
       let code : s.code < 256 = omega (arith, at 3 1) in
       let run : s.run.0 < 256 = omega (arith, at 3 2) in
       let time : s.time.0 < 256 = omega (arith, at 3 3) in
-      simp (own ps (R.Search s) t, flag-own, mod-eq_of_lt)
+      simp (own ps (R.Search s) t, flag_own, mod-eq_of_lt)
 
-  strobe-back : (s : Strobe) → Fits form (R.Strobe s) → Said ps (R.Strobe s) → builtFrom (kindNumber K.Strobe) ps ≡ R.Strobe s
-  unfolding built valuesIn eachFrom
-  strobe-back s f t =
+  strobe_back : (s : Strobe) → Fits form (R.Strobe s) → Said ps (R.Strobe s) → built_from (kind_number K.Strobe) ps ≡ R.Strobe s
+  unfolding built values_in each_from
+  strobe_back s f t =
       let at = field_fits (layout_of form (R.Strobe s)) f in
       let range : s.range.0 < 65536 = omega (arith, at 1 0) in
       let azimuth : s.azimuth.0 < 65536 = omega (arith, at 2 0) in
       let run : s.run.0 < 256 = omega (arith, at 3 0) in
       let time : s.time.0 < 256 = omega (arith, at 3 1) in
-      simp (own ps (R.Strobe s) t, flag-own, mod-eq_of_lt)
+      simp (own ps (R.Strobe s) t, flag_own, mod-eq_of_lt)
 
-  map_back : (m : Map) → Fits form (R.Map m) → Said ps (R.Map m) → builtFrom (kindNumber K.Map) ps ≡ R.Map m
-  unfolding built valuesIn eachFrom
+  map_back : (m : Map) → Fits form (R.Map m) → Said ps (R.Map m) → built_from (kind_number K.Map) ps ≡ R.Map m
+  unfolding built values_in each_from
   map_back m f t =
       let at = field_fits (layout_of form (R.Map m)) f in
       let variation : m.variation < 256 = omega (arith, at 0 3) in
       let start : m.start.0 < 65536 = omega (arith, at 1 0) in
       let azimuth : m.azimuth.0 < 65536 = omega (arith, at 2 0) in
       let stop : m.stop.0 < 65536 = omega (arith, at 3 0) in
-      simp (own ps (R.Map m) t, flag-own, mod-eq_of_lt)
+      simp (own ps (R.Map m) t, flag_own, mod-eq_of_lt)
 
-  status-back : (s : Status) → Fits form (R.Status s) → Said ps (R.Status s) → builtFrom (kindNumber K.Status) ps ≡ R.Status s
-  unfolding built valuesIn eachFrom
-  status-back s f t =
+  status_back : (s : Status) → Fits form (R.Status s) → Said ps (R.Status s) → built_from (kind_number K.Status) ps ≡ R.Status s
+  unfolding built values_in each_from
+  status_back s f t =
       let at = field_fits (layout_of form (R.Status s)) f in
       let second : s.second < 65536 = omega (arith, at 1 0) in
       let third : s.third < 65536 = omega (arith, at 2 0) in
       let fourth : s.fourth < 65536 = omega (arith, at 3 0) in
-      simp (own ps (R.Status s) t, flag-own, mod-eq_of_lt)
+      simp (own ps (R.Status s) t, flag_own, mod-eq_of_lt)
 
-  rtqc-back : (s : Rtqc) → Fits form (R.Rtqc s) → Said ps (R.Rtqc s) → builtFrom (kindNumber K.Rtqc) ps ≡ R.Rtqc s
-  unfolding built valuesIn eachFrom
-  rtqc-back s f t =
+  rtqc_back : (s : Rtqc) → Fits form (R.Rtqc s) → Said ps (R.Rtqc s) → built_from (kind_number K.Rtqc) ps ≡ R.Rtqc s
+  unfolding built values_in each_from
+  rtqc_back s f t =
       let at = field_fits (layout_of form (R.Rtqc s)) f in
       let range : s.range.0 < 65536 = omega (arith, at 1 0) in
       let azimuth : s.azimuth.0 < 65536 = omega (arith, at 2 0) in
       let run : s.run.0 < 256 = omega (arith, at 3 0) in
       let time : s.time.0 < 256 = omega (arith, at 3 1) in
-      simp (own ps (R.Rtqc s) t, flag-own, mod-eq_of_lt)
+      simp (own ps (R.Rtqc s) t, flag_own, mod-eq_of_lt)
 
   -- ---- seven words: bits 79 to 90
 
   -- the form that the kind's number says
-  abbrev heightFor : Height → Height
-  heightFor (Ht.Altitude z) = plainGiven (isFound (findIn N.altitude ps)) (valuesIn ps)
-  heightFor (Ht.Carried n) = plainGiven (isFound (findIn N.altitude ps)) (valuesIn ps)
-  heightFor (Ht.Cd m n) = cdGiven (valuesIn ps)
-  heightFor (Ht.Mtd m n) = mtdHeightGiven (valuesIn ps)
-  heightFor (Ht.Rdas m n) = rdasHeightGiven (valuesIn ps)
+  abbrev height_for : Height → Height
+  height_for (Ht.Altitude z) = plain_given (is_found (find_in N.altitude ps)) (values_in ps)
+  height_for (Ht.Carried n) = plain_given (is_found (find_in N.altitude ps)) (values_in ps)
+  height_for (Ht.Cd m n) = cd_given (values_in ps)
+  height_for (Ht.Mtd m n) = mtd_height_given (values_in ps)
+  height_for (Ht.Rdas m n) = rdas_height_given (values_in ps)
 
   -- what is given at the number of one of its items
   abbrev HeightSaid : Height → ℕ → Type 0
-  HeightSaid h n = itemGiven ps n ≡ lookup n (heightItems h)
+  HeightSaid h n = item_given ps n ≡ lookup n (height_items h)
 
-  height-back : (h : Height) → fittingAll (lastWord form h) ≡ true
-      → HeightSaid h N.run → HeightSaid h N.modeC → HeightSaid h N.altitude → HeightSaid h N.carried → HeightSaid h N.quality → heightFor h ≡ h
-  unfolding valuesIn eachFrom itemGiven
-  height-back (Ht.Altitude z) f r m a c q =
-      rw (found-has (findIn N.altitude ps) z a, found-small (findIn N.altitude ps) z (narrow z (in-word (lastWord form (Ht.Altitude z)) f 0)) a) refl
-  height-back (Ht.Carried n) f r m a c q =
-      let small : n < 65536 = omega (arith, in-word (lastWord form (Ht.Carried n)) f 0) in
-      simp (found-not (findIn N.altitude ps) a, found-count (findIn N.carried ps) (I.Of (pos n)) refl c, mod-eq_of_lt)
-  height-back (Ht.Cd b n) f r m a c q =
-      let small : n.0 < 256 = omega (arith, in-word (lastWord form (Ht.Cd b n)) f 0) in
-      simp (found-count (findIn N.modeC ps) (I.Of (pos (cond b 1 0))) refl m, found-count (findIn N.run ps) (I.Of (pos n.0)) refl r, flag-own, mod-eq_of_lt)
-  height-back (Ht.Mtd b n) f r m a c q =
-      let small : n < 256 = omega (arith, in-word (lastWord form (Ht.Mtd b n)) f 0) in
-      simp (found-count (findIn N.modeC ps) (I.Of (pos (cond b 1 0))) refl m, found-count (findIn N.quality ps) (I.Of (pos n)) refl q, flag-own, mod-eq_of_lt)
-  height-back (Ht.Rdas b n) f r m a c q =
-      let small : n < 256 = omega (arith, in-word (lastWord form (Ht.Rdas b n)) f 0) in
-      simp (found-count (findIn N.modeC ps) (I.Of (pos (cond b 1 0))) refl m, found-count (findIn N.quality ps) (I.Of (pos n)) refl q, flag-own, mod-eq_of_lt)
+  height_back : (h : Height) → fitting_all (last_word form h) ≡ true
+      → HeightSaid h N.run → HeightSaid h N.mode_c_of → HeightSaid h N.altitude → HeightSaid h N.carried → HeightSaid h N.quality → height_for h ≡ h
+  unfolding values_in each_from item_given
+  height_back (Ht.Altitude z) f r m a c q =
+      rw (found_has (find_in N.altitude ps) z a, found_small (find_in N.altitude ps) z (narrow z (in_word (last_word form (Ht.Altitude z)) f 0)) a) refl
+  height_back (Ht.Carried n) f r m a c q =
+      let small : n < 65536 = omega (arith, in_word (last_word form (Ht.Carried n)) f 0) in
+      simp (found_not (find_in N.altitude ps) a, found_count (find_in N.carried ps) (I.Of (pos n)) refl c, mod-eq_of_lt)
+  height_back (Ht.Cd b n) f r m a c q =
+      let small : n.0 < 256 = omega (arith, in_word (last_word form (Ht.Cd b n)) f 0) in
+      simp (found_count (find_in N.mode_c_of ps) (I.Of (pos (cond b 1 0))) refl m, found_count (find_in N.run ps) (I.Of (pos n.0)) refl r, flag_own, mod-eq_of_lt)
+  height_back (Ht.Mtd b n) f r m a c q =
+      let small : n < 256 = omega (arith, in_word (last_word form (Ht.Mtd b n)) f 0) in
+      simp (found_count (find_in N.mode_c_of ps) (I.Of (pos (cond b 1 0))) refl m, found_count (find_in N.quality ps) (I.Of (pos n)) refl q, flag_own, mod-eq_of_lt)
+  height_back (Ht.Rdas b n) f r m a c q =
+      let small : n < 256 = omega (arith, in_word (last_word form (Ht.Rdas b n)) f 0) in
+      simp (found_count (find_in N.mode_c_of ps) (I.Of (pos (cond b 1 0))) refl m, found_count (find_in N.quality ps) (I.Of (pos n)) refl q, flag_own, mod-eq_of_lt)
 
-  dabs-built : (h : Height) → builtFrom (kindNumber (dabsKind h)) ps ≡ R.Dabs (dabsGiven (valuesIn ps) (heightFor h))
+  dabs_built : (h : Height) → built_from (kind_number (dabs_kind h)) ps ≡ R.Dabs (dabs_given (values_in ps) (height_for h))
   unfolding built
-  dabs-built (Ht.Altitude z) = refl
-  dabs-built (Ht.Carried n) = refl
-  dabs-built (Ht.Cd m n) = refl
-  dabs-built (Ht.Mtd m n) = refl
-  dabs-built (Ht.Rdas m n) = refl
+  dabs_built (Ht.Altitude z) = refl
+  dabs_built (Ht.Carried n) = refl
+  dabs_built (Ht.Cd m n) = refl
+  dabs_built (Ht.Mtd m n) = refl
+  dabs_built (Ht.Rdas m n) = refl
 
-  atcrbs-built : (h : Height) → builtFrom (kindNumber (atcrbsKind h)) ps ≡ R.Atcrbs (atcrbsGiven (valuesIn ps) (heightFor h))
+  atcrbs_built : (h : Height) → built_from (kind_number (atcrbs_kind h)) ps ≡ R.Atcrbs (atcrbs_given (values_in ps) (height_for h))
   unfolding built
-  atcrbs-built (Ht.Altitude z) = refl
-  atcrbs-built (Ht.Carried n) = refl
-  atcrbs-built (Ht.Cd m n) = refl
-  atcrbs-built (Ht.Mtd m n) = refl
-  atcrbs-built (Ht.Rdas m n) = refl
+  atcrbs_built (Ht.Altitude z) = refl
+  atcrbs_built (Ht.Carried n) = refl
+  atcrbs_built (Ht.Cd m n) = refl
+  atcrbs_built (Ht.Mtd m n) = refl
+  atcrbs_built (Ht.Rdas m n) = refl
 
   -- ---- seven words
 
-  dabs-fields : (d : Dabs) → Fits form (R.Dabs d) → Said ps (R.Dabs d) → dabsGiven (valuesIn ps) d.height ≡ d
-  unfolding valuesIn eachFrom
-  dabs-fields d f t =
+  dabs_fields : (d : Dabs) → Fits form (R.Dabs d) → Said ps (R.Dabs d) → dabs_given (values_in ps) d.height ≡ d
+  unfolding values_in each_from
+  dabs_fields d f t =
       let at = field_fits (layout_of form (R.Dabs d)) f in
       let range : d.range.0 < 65536 = omega (arith, at 1 0) in
       let azimuth : d.azimuth.0 < 65536 = omega (arith, at 2 1) in
       let time : d.time.0 < 256 = omega (arith, at 3 4) in
       let address : d.address < 4294967296 = omega (arith, at 4 0) in
-      simp (own ps (R.Dabs d) t, flag-own, mod-eq_of_lt)
+      simp (own ps (R.Dabs d) t, flag_own, mod-eq_of_lt)
 
-  dabs-back : (d : Dabs) → Fits form (R.Dabs d) → Said ps (R.Dabs d) → builtFrom (kindNumber (dabsKind d.height)) ps ≡ R.Dabs d
-  dabs-back d f t =
+  dabs_back : (d : Dabs) → Fits form (R.Dabs d) → Said ps (R.Dabs d) → built_from (kind_number (dabs_kind d.height)) ps ≡ R.Dabs d
+  dabs_back d f t =
       let g = said ps (R.Dabs d) t in
-      dabs-built d.height
-      ∙ ap (λ (h : Height). R.Dabs (dabsGiven (valuesIn ps) h))
-      (height-back d.height (word_fits (layout_of form (R.Dabs d)) 6 f) (g N.run refl) (g N.modeC refl) (g N.altitude refl) (g N.carried refl) (g N.quality refl))
-      ∙ ap R.Dabs (dabs-fields d f t)
+      dabs_built d.height
+      ∙ ap (λ (h : Height). R.Dabs (dabs_given (values_in ps) h))
+      (height_back d.height (word_fits (layout_of form (R.Dabs d)) 6 f) (g N.run refl) (g N.mode_c_of refl) (g N.altitude refl) (g N.carried refl) (g N.quality refl))
+      ∙ ap R.Dabs (dabs_fields d f t)
 
-  atcrbs-fields : (a : Atcrbs) → Fits form (R.Atcrbs a) → Said ps (R.Atcrbs a) → atcrbsGiven (valuesIn ps) a.height ≡ a
-  unfolding valuesIn eachFrom
-  atcrbs-fields a f t =
+  atcrbs_fields : (a : Atcrbs) → Fits form (R.Atcrbs a) → Said ps (R.Atcrbs a) → atcrbs_given (values_in ps) a.height ≡ a
+  unfolding values_in each_from
+  atcrbs_fields a f t =
       let at = field_fits (layout_of form (R.Atcrbs a)) f in
       let range : a.range.0 < 65536 = omega (arith, at 1 0) in
       let azimuth : a.azimuth.0 < 65536 = omega (arith, at 2 1) in
       let time : a.time.0 < 256 = omega (arith, at 3 5) in
       let code : a.code < 65536 = omega (arith, at 4 0) in
       let file : a.file < 65536 = omega (arith, at 5 0) in
-      simp (own ps (R.Atcrbs a) t, flag-own, mod-eq_of_lt)
+      simp (own ps (R.Atcrbs a) t, flag_own, mod-eq_of_lt)
 
-  atcrbs-back : (a : Atcrbs) → Fits form (R.Atcrbs a) → Said ps (R.Atcrbs a) → builtFrom (kindNumber (atcrbsKind a.height)) ps ≡ R.Atcrbs a
-  atcrbs-back a f t =
+  atcrbs_back : (a : Atcrbs) → Fits form (R.Atcrbs a) → Said ps (R.Atcrbs a) → built_from (kind_number (atcrbs_kind a.height)) ps ≡ R.Atcrbs a
+  atcrbs_back a f t =
       let g = said ps (R.Atcrbs a) t in
-      atcrbs-built a.height
-      ∙ ap (λ (h : Height). R.Atcrbs (atcrbsGiven (valuesIn ps) h))
-      (height-back a.height (word_fits (layout_of form (R.Atcrbs a)) 6 f) (g N.run refl) (g N.modeC refl) (g N.altitude refl) (g N.carried refl) (g N.quality refl))
-      ∙ ap R.Atcrbs (atcrbs-fields a f t)
+      atcrbs_built a.height
+      ∙ ap (λ (h : Height). R.Atcrbs (atcrbs_given (values_in ps) h))
+      (height_back a.height (word_fits (layout_of form (R.Atcrbs a)) 6 f) (g N.run refl) (g N.mode_c_of refl) (g N.altitude refl) (g N.carried refl) (g N.quality refl))
+      ∙ ap R.Atcrbs (atcrbs_fields a f t)
 
-  mtd-back : (m : Mtd) → Fits form (R.Mtd m) → Said ps (R.Mtd m) → builtFrom (kindNumber K.Mtd) ps ≡ R.Mtd m
-  unfolding built valuesIn eachFrom
-  mtd-back m f t =
+  mtd_back : (m : Mtd) → Fits form (R.Mtd m) → Said ps (R.Mtd m) → built_from (kind_number K.Mtd) ps ≡ R.Mtd m
+  unfolding built values_in each_from
+  mtd_back m f t =
       let at = field_fits (layout_of form (R.Mtd m)) f in
       let range : m.range.0 < 65536 = omega (arith, at 1 0) in
       let azimuth : m.azimuth.0 < 65536 = omega (arith, at 2 1) in
@@ -314,26 +314,26 @@ module _ (form : AltitudeForm) (narrow : FitsSixteenBits form) (ps : List Pair) 
       let file : m.file < 65536 = omega (arith, at 5 0) in
       let quality : m.quality < 256 = omega (arith, at 6 0) in
       let confidence : m.confidence < 256 = omega (arith, at 6 1) in
-      simp (own ps (R.Mtd m) t, flag-own, mod-eq_of_lt)
+      simp (own ps (R.Mtd m) t, flag_own, mod-eq_of_lt)
 
-  rdas-back : (x : Rdas) → Fits form (R.Rdas x) → Said ps (R.Rdas x) → builtFrom (kindNumber K.Rdas) ps ≡ R.Rdas x
-  unfolding built valuesIn eachFrom
-  rdas-back x f t =
+  rdas_back : (x : Rdas) → Fits form (R.Rdas x) → Said ps (R.Rdas x) → built_from (kind_number K.Rdas) ps ≡ R.Rdas x
+  unfolding built values_in each_from
+  rdas_back x f t =
       let at = field_fits (layout_of form (R.Rdas x)) f in
       let range : x.range.0 < 65536 = omega (arith, at 1 0) in
       let azimuth : x.azimuth.0 < 65536 = omega (arith, at 2 1) in
       let time : x.time.0 < 256 = omega (arith, at 3 3) in
       let file : x.file < 65536 = omega (arith, at 5 0) in
       let quality : x.quality < 256 = omega (arith, at 6 0) in
-      simp (own ps (R.Rdas x) t, flag-own, mod-eq_of_lt)
+      simp (own ps (R.Rdas x) t, flag_own, mod-eq_of_lt)
 
-  pub back : (r : Report) → Fits form r → Said ps r → builtFrom (kindNumber (kind_of r)) ps ≡ r
-  back (R.Search s) f t = search-back s f t
-  back (R.Strobe s) f t = strobe-back s f t
+  pub back : (r : Report) → Fits form r → Said ps r → built_from (kind_number (kind_of r)) ps ≡ r
+  back (R.Search s) f t = search_back s f t
+  back (R.Strobe s) f t = strobe_back s f t
   back (R.Map m) f t = map_back m f t
-  back (R.Status s) f t = status-back s f t
-  back (R.Rtqc s) f t = rtqc-back s f t
-  back (R.Dabs d) f t = dabs-back d f t
-  back (R.Atcrbs a) f t = atcrbs-back a f t
-  back (R.Mtd m) f t = mtd-back m f t
-  back (R.Rdas x) f t = rdas-back x f t
+  back (R.Status s) f t = status_back s f t
+  back (R.Rtqc s) f t = rtqc_back s f t
+  back (R.Dabs d) f t = dabs_back d f t
+  back (R.Atcrbs a) f t = atcrbs_back a f t
+  back (R.Mtd m) f t = mtd_back m f t
+  back (R.Rdas x) f t = rdas_back x f t

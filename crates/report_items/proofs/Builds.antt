@@ -10,56 +10,56 @@ use borrow.Author.Tests.{eq-eqb, ne_eqb}
 use Rattle.words.proofs.Tests.{picked, passed}
 use Rattle.pairs.specs.declared.Found.{Found}
 use Rattle.pairs.specs.declared.Found.TheVariants as F
-use Rattle.pairs.specs.Pairs.{Pair, findIn, isFound, value_of, slots, gatheredFrom}
+use Rattle.pairs.specs.Pairs.{Pair, find_in, is_found, value_of, slots, gathered_from}
 use Rattle.pairs.proofs.Laws.{each_at}
 use Rattle.reports.specs.declared.Report.{Report}
 use Rattle.report_items.specs.Items.{last, item_of, items_of}
-use Rattle.report_items.specs.Given.{as_signed, itemFrom, itemGiven, itemGathered, sameItem, agreeTo, agree, builtFrom, unfit, givenBy}
+use Rattle.report_items.specs.Given.{as_signed, item_of_pairs, item_given, item_gathered, same_item, agree_to, agree, built_from, unfit, given_by}
 use Rattle.report_items.specs.declared.items.Item.{Item}
 use Rattle.report_items.specs.declared.items.Item.TheVariants as I
 
 -- ---- the whole test, by its outcome
 
-pub by_count : (kind : ℕ) (ps : List Pair) → (length ps ≡ length (items_of (builtFrom kind ps)) → ⊥) → givenBy kind ps ≡ unfit
-unfolding givenBy agree
-by_count kind ps h = passed _ _ (passed _ _ (ne_eqb (length ps) (length (items_of (builtFrom kind ps))) h))
+pub by_count : (kind : ℕ) (ps : List Pair) → (length ps ≡ length (items_of (built_from kind ps)) → ⊥) → given_by kind ps ≡ unfit
+unfolding given_by agree
+by_count kind ps h = passed _ _ (passed _ _ (ne_eqb (length ps) (length (items_of (built_from kind ps))) h))
 
-module _ (kind : ℕ) (ps : List Pair) (r : Report) (is : r ≡ builtFrom kind ps) where
-  sizes : length (items_of r) ≡ length (items_of (builtFrom kind ps))
+module _ (kind : ℕ) (ps : List Pair) (r : Report) (is : r ≡ built_from kind ps) where
+  sizes : length (items_of r) ≡ length (items_of (built_from kind ps))
   sizes = ap (λ (x : Report). length (items_of x)) is
 
-  agreed : {t : Bool} → length ps ≡ length (items_of r) → agreeTo last r (itemGiven ps) ≡ t → agree (builtFrom kind ps) ps ≡ cond t true false
+  agreed : {t : Bool} → length ps ≡ length (items_of r) → agree_to last r (item_given ps) ≡ t → agree (built_from kind ps) ps ≡ cond t true false
   unfolding agree
   agreed {t} n e =
-      picked _ _ (eq-eqb (length ps) (length (items_of (builtFrom kind ps))) (n ∙ sizes))
-      ∙ ap (λ (x : Bool). cond x true false) (ap (λ (x : Report). agreeTo last x (itemGiven ps)) (sym is) ∙ e)
+      picked _ _ (eq-eqb (length ps) (length (items_of (built_from kind ps))) (n ∙ sizes))
+      ∙ ap (λ (x : Bool). cond x true false) (ap (λ (x : Report). agree_to last x (item_given ps)) (sym is) ∙ e)
 
-  pub by-items : length ps ≡ length (items_of r) → agreeTo last r (itemGiven ps) ≡ false → givenBy kind ps ≡ unfit
-  unfolding givenBy
-  by-items n e = passed _ _ (agreed n e)
+  pub by_items : length ps ≡ length (items_of r) → agree_to last r (item_given ps) ≡ false → given_by kind ps ≡ unfit
+  unfolding given_by
+  by_items n e = passed _ _ (agreed n e)
 
-  pub by_all : length ps ≡ length (items_of r) → agreeTo last r (itemGiven ps) ≡ true → givenBy kind ps ≡ r
-  unfolding givenBy
+  pub by_all : length ps ≡ length (items_of r) → agree_to last r (item_given ps) ≡ true → given_by kind ps ≡ r
+  unfolding given_by
   by_all n e = picked _ _ (agreed n e) ∙ sym is
 
 -- ---- by what is gathered
 
 -- what is gathered says what the pairs say
-item_from : (f : Found) → cond (isFound f) (I.Of (as_signed (2 ^ 63) (value_of f))) I.Missing ≡ itemFrom f
+item_from : (f : Found) → cond (is_found f) (I.Of (as_signed (2 ^ 63) (value_of f))) I.Missing ≡ item_of_pairs f
 item_from (F.Value v) = refl
 item_from F.Missing = refl
 
-gathered-is : (ps : List Pair) (n : ℕ) → n ≤ last → itemGathered (gatheredFrom 0 ps) n ≡ itemGiven ps n
-unfolding itemGathered gatheredFrom itemGiven
-gathered-is ps n h =
-    rw (each_at isFound 0 slots n false ps (omega arith), each_at value_of 0 slots n 0 ps (omega arith), zero-add n) (item_from (findIn n ps))
+gathered_is : (ps : List Pair) (n : ℕ) → n ≤ last → item_gathered (gathered_from 0 ps) n ≡ item_given ps n
+unfolding item_gathered gathered_from item_given
+gathered_is ps n h =
+    rw (each_at is_found 0 slots n false ps (omega arith), each_at value_of 0 slots n 0 ps (omega arith), zero-add n) (item_from (find_in n ps))
 
-same-to : (m : ℕ) (r : Report) (f g : ℕ → Item) → ((n : ℕ) → n ≤ m → f n ≡ g n) → agreeTo m r f ≡ agreeTo m r g
-unfolding agreeTo
-same-to zero r f g h = refl
-same-to (suc m) r f g h =
-    ap (λ (x : Item). cond (sameItem (item_of r (suc m)) x) (agreeTo m r f) false) (h (suc m) (omega arith))
-    ∙ ap (λ (b : Bool). cond (sameItem (item_of r (suc m)) (g (suc m))) b false) (same-to m r f g (λ n l. h n (omega arith)))
+same_to : (m : ℕ) (r : Report) (f g : ℕ → Item) → ((n : ℕ) → n ≤ m → f n ≡ g n) → agree_to m r f ≡ agree_to m r g
+unfolding agree_to
+same_to zero r f g h = refl
+same_to (suc m) r f g h =
+    ap (λ (x : Item). cond (same_item (item_of r (suc m)) x) (agree_to m r f) false) (h (suc m) (omega arith))
+    ∙ ap (λ (b : Bool). cond (same_item (item_of r (suc m)) (g (suc m))) b false) (same_to m r f g (λ n l. h n (omega arith)))
 
-pub gathered : (r : Report) (ps : List Pair) → agreeTo last r (itemGathered (gatheredFrom 0 ps)) ≡ agreeTo last r (itemGiven ps)
-gathered r ps = same-to last r (itemGathered (gatheredFrom 0 ps)) (itemGiven ps) (gathered-is ps)
+pub gathered : (r : Report) (ps : List Pair) → agree_to last r (item_gathered (gathered_from 0 ps)) ≡ agree_to last r (item_given ps)
+gathered r ps = same_to last r (item_gathered (gathered_from 0 ps)) (item_given ps) (gathered_is ps)

@@ -10,26 +10,26 @@ use borrow.Author.Tests.{eq-eqb, eqb-true}
 use lib.Dec.{eqb}
 use lib.IntN.{ℤ, pos, negsuc}
 use lib.ListN.{length}
-use Rattle.words.proofs.Tests.{picked, passed, by-test}
-use Rattle.pairs.specs.Pairs.{Pair, pairsIn, findIn, isFound}
+use Rattle.words.proofs.Tests.{picked, passed, by_test}
+use Rattle.pairs.specs.Pairs.{Pair, pairs_in, find_in, is_found}
 use Rattle.reports.specs.declared.Report.{Report}
 use Rattle.reports.specs.declared.altitude.Form.{Form}
 use Rattle.reports.specs.declared.altitude.Form.TheVariants as F
 use Rattle.reports.specs.Altitude.{AltitudeForm}
-use Rattle.reports.specs.Kinds.{kind_of, kindNumber, dabsKind, atcrbsKind}
+use Rattle.reports.specs.Kinds.{kind_of, kind_number, dabs_kind, atcrbs_kind}
 use Rattle.reports.specs.Layouts.{Takes}
 use Rattle.reports.specs.Claims.{InRange}
-use Rattle.reports.proofs.Altitudes.{range-of-each}
-use Rattle.reports.proofs.Demand2.{takes-fits}
+use Rattle.reports.proofs.Altitudes.{range_of_each}
+use Rattle.reports.proofs.Demand2.{takes_fits}
 use Rattle.report_items.specs.declared.items.Item.{Item}
 use Rattle.report_items.specs.declared.items.Item.TheVariants as I
 use Rattle.report_items.specs.Items.{altitude, last, items_of, item_of}
-use Rattle.report_items.specs.Given.{itemGiven, valuesIn, plainGiven, built, builtFrom, sameItem, agreeTo, agree, givenBy, given, unfit}
+use Rattle.report_items.specs.Given.{item_given, values_in, plain_given, built, built_from, same_item, agree_to, agree, given_by, given, unfit}
 use Rattle.report_items.specs.Claims.{ItemsOf, InSixteenBits, FitsSixteenBits, FormsFit, GivenExactly, NoneIsTaken}
 use Rattle.report_items.proofs.Back.{both, back}
 
-pub none-is-taken : NoneIsTaken
-none-is-taken form e = let z : ◌≡◌ {A = ℕ} 0 1 = cc in omega arith
+pub none_is_taken : NoneIsTaken
+none_is_taken form e = let z : ◌≡◌ {A = ℕ} 0 1 = cc in omega arith
 
 small : (form : Form) (z : ℤ) → InRange form z → InSixteenBits z
 small F.SignMagnitude (pos n) l = omega arith
@@ -37,21 +37,21 @@ small F.SignMagnitude (negsuc n) l = omega arith
 small F.TwosComplement (pos n) l = omega arith
 small F.TwosComplement (negsuc n) l = omega arith
 
-pub forms-fit : FormsFit
-forms-fit form z h = small form z ((range-of-each form z).0 h)
+pub forms_fit : FormsFit
+forms_fit form z h = small form z ((range_of_each form z).0 h)
 
 -- ---- the same item
 
-same-is : (a b : Item) → sameItem a b ≡ true → b ≡ a
-same-is (I.Of (pos m)) (I.Of (pos n)) e = ap (λ (k : ℕ). I.Of (pos k)) (sym (eqb-true m n e))
-same-is (I.Of (pos m)) (I.Of (negsuc n)) e = let z : ◌≡◌ {A = ℕ} 0 1 = cc in absurd (omega arith)
-same-is (I.Of (negsuc m)) (I.Of (pos n)) e = let z : ◌≡◌ {A = ℕ} 0 1 = cc in absurd (omega arith)
-same-is (I.Of (negsuc m)) (I.Of (negsuc n)) e = ap (λ (k : ℕ). I.Of (negsuc k)) (sym (eqb-true m n e))
-same-is (I.Of x) I.Missing e = let z : ◌≡◌ {A = ℕ} 0 1 = cc in absurd (omega arith)
-same-is I.Missing (I.Of y) e = let z : ◌≡◌ {A = ℕ} 0 1 = cc in absurd (omega arith)
-same-is I.Missing I.Missing e = refl
+same_is : (a b : Item) → same_item a b ≡ true → b ≡ a
+same_is (I.Of (pos m)) (I.Of (pos n)) e = ap (λ (k : ℕ). I.Of (pos k)) (sym (eqb-true m n e))
+same_is (I.Of (pos m)) (I.Of (negsuc n)) e = let z : ◌≡◌ {A = ℕ} 0 1 = cc in absurd (omega arith)
+same_is (I.Of (negsuc m)) (I.Of (pos n)) e = let z : ◌≡◌ {A = ℕ} 0 1 = cc in absurd (omega arith)
+same_is (I.Of (negsuc m)) (I.Of (negsuc n)) e = ap (λ (k : ℕ). I.Of (negsuc k)) (sym (eqb-true m n e))
+same_is (I.Of x) I.Missing e = let z : ◌≡◌ {A = ℕ} 0 1 = cc in absurd (omega arith)
+same_is I.Missing (I.Of y) e = let z : ◌≡◌ {A = ℕ} 0 1 = cc in absurd (omega arith)
+same_is I.Missing I.Missing e = refl
 
-is_same : (a : Item) → sameItem a a ≡ true
+is_same : (a : Item) → same_item a a ≡ true
 is_same (I.Of (pos n)) = eq-eqb n n refl
 is_same (I.Of (negsuc n)) = eq-eqb n n refl
 is_same I.Missing = refl
@@ -59,43 +59,43 @@ is_same I.Missing = refl
 -- ---- number by number
 
 module _ (r : Report) (said : ℕ → Item) where
-  each_of : (m : ℕ) → agreeTo m r said ≡ true → (n : ℕ) → 0 < n → n ≤ m → said n ≡ item_of r n
-  unfolding agreeTo
+  each_of : (m : ℕ) → agree_to m r said ≡ true → (n : ℕ) → 0 < n → n ≤ m → said n ≡ item_of r n
+  unfolding agree_to
   each_of zero e n h l = absurd (omega arith)
-  each_of (suc m) e n h l = go (dec_lt n (suc m)) (λ k. each_of m (both (sameItem (item_of r (suc m)) (said (suc m))) (agreeTo m r said) e).1 n h k)
+  each_of (suc m) e n h l = go (dec_lt n (suc m)) (λ k. each_of m (both (same_item (item_of r (suc m)) (said (suc m))) (agree_to m r said) e).1 n h k)
     where
       go : Dec (n < suc m) → (n ≤ m → said n ≡ item_of r n) → said n ≡ item_of r n
       go (yes k) before = before (omega arith)
       go (no k) before =
           let q : n ≡ suc m = omega arith in
-          rw q (same-is _ _ (both (sameItem (item_of r (suc m)) (said (suc m))) (agreeTo m r said) e).0)
+          rw q (same_is _ _ (both (same_item (item_of r (suc m)) (said (suc m))) (agree_to m r said) e).0)
 
-  of-each : (m : ℕ) → ((n : ℕ) → 0 < n → n ≤ m → said n ≡ item_of r n) → agreeTo m r said ≡ true
-  unfolding agreeTo
-  of-each zero h = refl
-  of-each (suc m) h =
-      picked _ _ (ap (sameItem (item_of r (suc m))) (h (suc m) (omega arith) (omega arith)) ∙ is_same (item_of r (suc m)))
-      ∙ of-each m (λ n a b. h n a (omega arith))
+  of_each : (m : ℕ) → ((n : ℕ) → 0 < n → n ≤ m → said n ≡ item_of r n) → agree_to m r said ≡ true
+  unfolding agree_to
+  of_each zero h = refl
+  of_each (suc m) h =
+      picked _ _ (ap (same_item (item_of r (suc m))) (h (suc m) (omega arith) (omega arith)) ∙ is_same (item_of r (suc m)))
+      ∙ of_each m (λ n a b. h n a (omega arith))
 
 -- ---- the kind
 
 -- no record, or a record of that kind
 abbrev Kinded : ℕ → Report → Type 0
-Kinded kind r = (r ≡ unfit) ⊎ (kindNumber (kind_of r) ≡ kind)
+Kinded kind r = (r ≡ unfit) ⊎ (kind_number (kind_of r) ≡ kind)
 
-arm : (kind k : ℕ) (a b : Report) → kindNumber (kind_of a) ≡ k → Kinded kind b → Kinded kind (cond (eqb kind k) a b)
+arm : (kind k : ℕ) (a b : Report) → kind_number (kind_of a) ≡ k → Kinded kind b → Kinded kind (cond (eqb kind k) a b)
 arm kind k a b e o =
-    by-test (eqb kind k)
-    (λ t. inr (ap (λ (r : Report). kindNumber (kind_of r)) (picked a b t) ∙ e ∙ sym (eqb-true kind k t)))
+    by_test (eqb kind k)
+    (λ t. inr (ap (λ (r : Report). kind_number (kind_of r)) (picked a b t) ∙ e ∙ sym (eqb-true kind k t)))
     (λ t. subst (λ (r : Report). Kinded kind r) (sym (passed a b t)) o)
 
-plain-dabs : (high : Bool) (v : List ℕ) → kindNumber (dabsKind (plainGiven high v)) ≡ 106
-plain-dabs true v = refl
-plain-dabs false v = refl
+plain_dabs : (high : Bool) (v : List ℕ) → kind_number (dabs_kind (plain_given high v)) ≡ 106
+plain_dabs true v = refl
+plain_dabs false v = refl
 
-plain-atcrbs : (high : Bool) (v : List ℕ) → kindNumber (atcrbsKind (plainGiven high v)) ≡ 110
-plain-atcrbs true v = refl
-plain-atcrbs false v = refl
+plain_atcrbs : (high : Bool) (v : List ℕ) → kind_number (atcrbs_kind (plain_given high v)) ≡ 110
+plain_atcrbs true v = refl
+plain_atcrbs false v = refl
 
 kinded : (kind : ℕ) (high : Bool) (v : List ℕ) → Kinded kind (built kind high v)
 unfolding built
@@ -105,11 +105,11 @@ kinded kind high v =
     (arm kind 103 _ _ refl
     (arm kind 104 _ _ refl
     (arm kind 105 _ _ refl
-    (arm kind 106 _ _ (plain-dabs high v)
+    (arm kind 106 _ _ (plain_dabs high v)
     (arm kind 107 _ _ refl
     (arm kind 108 _ _ refl
     (arm kind 109 _ _ refl
-    (arm kind 110 _ _ (plain-atcrbs high v)
+    (arm kind 110 _ _ (plain_atcrbs high v)
     (arm kind 111 _ _ refl
     (arm kind 112 _ _ refl
     (arm kind 113 _ _ refl
@@ -121,42 +121,42 @@ kinded kind high v =
 
 module _ (form : AltitudeForm) (narrow : FitsSixteenBits form) (r : Report) (taken : Takes form r) (kind : ℕ) (items : List ℕ) where
   ps : List Pair
-  ps = pairsIn items
+  ps = pairs_in items
 
   -- no record is none that the writer takes
-  not-unfit : {X : Type 0} → unfit ≡ r → X
-  not-unfit e = absurd (none-is-taken form (subst (λ (x : Report). Takes form x) (sym e) taken))
+  not_unfit : {X : Type 0} → unfit ≡ r → X
+  not_unfit e = absurd (none_is_taken form (subst (λ (x : Report). Takes form x) (sym e) taken))
 
-  parts : given kind items ≡ r → (eqb (length items % 16) 0 ≡ true) × (agree (builtFrom kind ps) ps ≡ true) × (builtFrom kind ps ≡ r)
-  unfolding given givenBy ps
+  parts : given kind items ≡ r → (eqb (length items % 16) 0 ≡ true) × (agree (built_from kind ps) ps ≡ true) × (built_from kind ps ≡ r)
+  unfolding given given_by ps
   parts e =
-      by-test (eqb (length items % 16) 0)
+      by_test (eqb (length items % 16) 0)
       (λ t.
-      by-test (agree (builtFrom kind ps) ps) (λ u. (t, u, sym (picked _ _ u) ∙ sym (picked _ _ t) ∙ e))
-      (λ u. not-unfit (sym (passed _ _ u) ∙ sym (picked _ _ t) ∙ e)))
-      (λ t. not-unfit (sym (passed _ _ t) ∙ e))
+      by_test (agree (built_from kind ps) ps) (λ u. (t, u, sym (picked _ _ u) ∙ sym (picked _ _ t) ∙ e))
+      (λ u. not_unfit (sym (passed _ _ u) ∙ sym (picked _ _ t) ∙ e)))
+      (λ t. not_unfit (sym (passed _ _ t) ∙ e))
 
-  there : given kind items ≡ r → (kind ≡ kindNumber (kind_of r)) × ItemsOf r items
+  there : given kind items ≡ r → (kind ≡ kind_number (kind_of r)) × ItemsOf r items
   unfolding agree ps
   there e =
       let p = parts e in
       let b = p.2 in
       let n = both _ _ p.1 in (
-        ⊎_elim (λ q. not-unfit (sym q ∙ b)) (λ q. sym q ∙ ap (λ (x : Report). kindNumber (kind_of x)) b) (kinded kind (isFound (findIn altitude ps)) (valuesIn ps)),
+        ⊎_elim (λ q. not_unfit (sym q ∙ b)) (λ q. sym q ∙ ap (λ (x : Report). kind_number (kind_of x)) b) (kinded kind (is_found (find_in altitude ps)) (values_in ps)),
         record {
           whole = eqb-true _ _ p.0;
           many = eqb-true _ _ n.0 ∙ ap (λ (x : Report). length (items_of x)) b;
-          each = each_of r (itemGiven ps) last (ap (λ (x : Report). agreeTo last x (itemGiven ps)) (sym b) ∙ (both _ _ n.1).0);
+          each = each_of r (item_given ps) last (ap (λ (x : Report). agree_to last x (item_given ps)) (sym b) ∙ (both _ _ n.1).0);
         },
       )
 
-  here : (kind ≡ kindNumber (kind_of r)) × ItemsOf r items → given kind items ≡ r
-  unfolding given givenBy agree ps
+  here : (kind ≡ kind_number (kind_of r)) × ItemsOf r items → given kind items ≡ r
+  unfolding given given_by agree ps
   here (k, i) =
-      let b : builtFrom kind ps ≡ r = ap (λ (x : ℕ). builtFrom x ps) k ∙ back form narrow ps r (takes-fits form r taken) i.each in
-      let a : agree (builtFrom kind ps) ps ≡ true =
-      ap (λ (x : Report). agree x ps) b ∙ picked _ _ (eq-eqb _ _ i.many) ∙ picked _ _ (of-each r (itemGiven ps) last i.each) in
+      let b : built_from kind ps ≡ r = ap (λ (x : ℕ). built_from x ps) k ∙ back form narrow ps r (takes_fits form r taken) i.each in
+      let a : agree (built_from kind ps) ps ≡ true =
+      ap (λ (x : Report). agree x ps) b ∙ picked _ _ (eq-eqb _ _ i.many) ∙ picked _ _ (of_each r (item_given ps) last i.each) in
       picked _ _ (eq-eqb _ _ i.whole) ∙ picked _ _ a ∙ b
 
-pub given-exactly : GivenExactly
-given-exactly form narrow r taken kind items = (there form narrow r taken kind items, here form narrow r taken kind items)
+pub given_exactly : GivenExactly
+given_exactly form narrow r taken kind items = (there form narrow r taken kind items, here form narrow r taken kind items)

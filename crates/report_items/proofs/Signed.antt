@@ -8,8 +8,8 @@ use lib.IntN.{ℤ, pos, negsuc, ◌-ℤ◌}
 use mir.Syntax.{Width, w64}
 use mir.Val.{SFits, to_z, of_z, hbits}
 use mir.Facts.{to_z_pos, to_z-of_z}
-use Rattle.words.proofs.Tests.{picked, passed, by-test}
-use Rattle.report_items.specs.Given.{as_signed, sameNumber}
+use Rattle.words.proofs.Tests.{picked, passed, by_test}
+use Rattle.report_items.specs.Given.{as_signed, same_number}
 
 pub low : (h v : ℕ) → v < h → as_signed h v ≡ pos v
 unfolding as_signed
@@ -38,7 +38,7 @@ pub minus_is : (w : Width) (n : ℕ) → n < 2 ^ hbits w → to_z w (of_z w (neg
 minus_is w n h = to_z-of_z (minus-fits w n h) ∙ minus w n h
 
 -- the same number, by its bits
-pub same_bits : (x y : ℤ) → SFits w64 x → SFits w64 y → eqb (of_z w64 x) (of_z w64 y) ≡ sameNumber x y
+pub same_bits : (x y : ℤ) → SFits w64 x → SFits w64 y → eqb (of_z w64 x) (of_z w64 y) ≡ same_number x y
 same_bits (pos m) (pos n) f g = refl
 same_bits (pos m) (negsuc n) f g =
     let a : m < 9223372036854775808 = f.sfits in
@@ -51,5 +51,5 @@ same_bits (negsuc m) (pos n) f g =
 same_bits (negsuc m) (negsuc n) f g =
     let a : m < 9223372036854775808 = f.sfits in
     let b : n < 9223372036854775808 = g.sfits in
-    by-test (eqb m n) (λ t. eq-eqb _ _ (ap (λ (k : ℕ). 18446744073709551616 - suc k) (eqb-true m n t)) ∙ sym t)
+    by_test (eqb m n) (λ t. eq-eqb _ _ (ap (λ (k : ℕ). 18446744073709551616 - suc k) (eqb-true m n t)) ∙ sym t)
     (λ t. ne_eqb (18446744073709551616 - suc m) (18446744073709551616 - suc n) (λ e. eqb-false m n t (omega arith)) ∙ sym t)

@@ -45,8 +45,8 @@ run = 7
 abbrev pub aims : ℕ
 aims = 8
 
-abbrev pub aimsCode : ℕ
-aimsCode = 9
+abbrev pub aims_code : ℕ
+aims_code = 9
 
 abbrev pub variation : ℕ
 variation = 10
@@ -72,8 +72,8 @@ primary = 16
 abbrev pub mode3a : ℕ
 mode3a = 17
 
-abbrev pub modeC : ℕ
-modeC = 18
+abbrev pub mode_c_of : ℕ
+mode_c_of = 18
 
 abbrev pub spi : ℕ
 spi = 19
@@ -102,8 +102,8 @@ confidence = 26
 abbrev pub transition : ℕ
 transition = 27
 
-abbrev pub falseTarget : ℕ
-falseTarget = 28
+abbrev pub false_target_flag : ℕ
+false_target_flag = 28
 
 abbrev pub code : ℕ
 code = 29
@@ -135,23 +135,23 @@ last = ground
 
 -- ---- the items of each kind
 
-abbrev pub heightItems : Height → List Entry
-heightItems (H.Altitude z) = (altitude, z) ∷ []
-heightItems (H.Carried n) = count carried n ∷ []
-heightItems (H.Cd m n) = flag modeC m ∷ count run n.0 ∷ []
-heightItems (H.Mtd m n) = flag modeC m ∷ count quality n ∷ []
-heightItems (H.Rdas m n) = flag modeC m ∷ count quality n ∷ []
+abbrev pub height_items : Height → List Entry
+height_items (H.Altitude z) = (altitude, z) ∷ []
+height_items (H.Carried n) = count carried n ∷ []
+height_items (H.Cd m n) = flag mode_c_of m ∷ count run n.0 ∷ []
+height_items (H.Mtd m n) = flag mode_c_of m ∷ count quality n ∷ []
+height_items (H.Rdas m n) = flag mode_c_of m ∷ count quality n ∷ []
 
 abbrev pub items_of : Report → List Entry
-items_of (R.Search s) = flag test s.test ∷ flag faa s.faa ∷ flag af s.af ∷ count range s.range.0 ∷ count azimuth s.azimuth.0 ∷ flag aims s.aims ∷ count aimsCode s.code ∷ count run s.run.0 ∷ count time s.time.0 ∷ []
+items_of (R.Search s) = flag test s.test ∷ flag faa s.faa ∷ flag af s.af ∷ count range s.range.0 ∷ count azimuth s.azimuth.0 ∷ flag aims s.aims ∷ count aims_code s.code ∷ count run s.run.0 ∷ count time s.time.0 ∷ []
 items_of (R.Strobe s) = flag test s.test ∷ flag faa s.faa ∷ flag af s.af ∷ count range s.range.0 ∷ count azimuth s.azimuth.0 ∷ count run s.run.0 ∷ count time s.time.0 ∷ []
 items_of (R.Map m) = flag test m.test ∷ count variation m.variation ∷ flag faa m.faa ∷ flag af m.af ∷ count start m.start.0 ∷ count azimuth m.azimuth.0 ∷ count stop m.stop.0 ∷ []
 items_of (R.Status s) = flag test s.test ∷ flag faa s.faa ∷ flag af s.af ∷ count second s.second ∷ count third s.third ∷ count fourth s.fourth ∷ []
 items_of (R.Rtqc s) = flag faa s.faa ∷ flag af s.af ∷ count range s.range.0 ∷ count azimuth s.azimuth.0 ∷ count run s.run.0 ∷ count time s.time.0 ∷ []
-items_of (R.Dabs d) = flag test d.test ∷ flag primary d.primary ∷ flag spi d.spi ∷ flag reinforced d.reinforced ∷ flag code7700 d.code7700 ∷ flag code7600 d.code7600 ∷ flag faa d.faa ∷ count range d.range.0 ∷ count azimuth d.azimuth.0 ∷ flag alert d.alert ∷ flag relay d.relay ∷ count time d.time.0 ∷ count address d.address ∷ heightItems d.height
-items_of (R.Atcrbs a) = flag test a.test ∷ flag mode3a a.mode3a ∷ flag spi a.spi ∷ flag reinforced a.reinforced ∷ flag code7700 a.code7700 ∷ flag code7600 a.code7600 ∷ flag faa a.faa ∷ count range a.range.0 ∷ count azimuth a.azimuth.0 ∷ flag confidence a.confidence ∷ flag transition a.transition ∷ flag falseTarget a.false_target ∷ flag relay a.relay ∷ count time a.time.0 ∷ count code a.code ∷ count file a.file ∷ heightItems a.height
-items_of (R.Mtd m) = flag test m.test ∷ flag faa m.faa ∷ count range m.range.0 ∷ count azimuth m.azimuth.0 ∷ flag aims m.aims ∷ count time m.time.0 ∷ count doppler1 m.doppler1 ∷ count doppler2 m.doppler2 ∷ count file m.file ∷ count quality m.quality ∷ count confidence m.confidence ∷ flag falseTarget m.false_target ∷ flag ground m.ground ∷ []
-items_of (R.Rdas x) = flag test x.test ∷ flag faa x.faa ∷ count range x.range.0 ∷ count azimuth x.azimuth.0 ∷ flag aims x.aims ∷ count time x.time.0 ∷ count file x.file ∷ count quality x.quality ∷ flag falseTarget x.false_target ∷ []
+items_of (R.Dabs d) = flag test d.test ∷ flag primary d.primary ∷ flag spi d.spi ∷ flag reinforced d.reinforced ∷ flag code7700 d.code7700 ∷ flag code7600 d.code7600 ∷ flag faa d.faa ∷ count range d.range.0 ∷ count azimuth d.azimuth.0 ∷ flag alert d.alert ∷ flag relay d.relay ∷ count time d.time.0 ∷ count address d.address ∷ height_items d.height
+items_of (R.Atcrbs a) = flag test a.test ∷ flag mode3a a.mode3a ∷ flag spi a.spi ∷ flag reinforced a.reinforced ∷ flag code7700 a.code7700 ∷ flag code7600 a.code7600 ∷ flag faa a.faa ∷ count range a.range.0 ∷ count azimuth a.azimuth.0 ∷ flag confidence a.confidence ∷ flag transition a.transition ∷ flag false_target_flag a.false_target ∷ flag relay a.relay ∷ count time a.time.0 ∷ count code a.code ∷ count file a.file ∷ height_items a.height
+items_of (R.Mtd m) = flag test m.test ∷ flag faa m.faa ∷ count range m.range.0 ∷ count azimuth m.azimuth.0 ∷ flag aims m.aims ∷ count time m.time.0 ∷ count doppler1 m.doppler1 ∷ count doppler2 m.doppler2 ∷ count file m.file ∷ count quality m.quality ∷ count confidence m.confidence ∷ flag false_target_flag m.false_target ∷ flag ground m.ground ∷ []
+items_of (R.Rdas x) = flag test x.test ∷ flag faa x.faa ∷ count range x.range.0 ∷ count azimuth x.azimuth.0 ∷ flag aims x.aims ∷ count time x.time.0 ∷ count file x.file ∷ count quality x.quality ∷ flag false_target_flag x.false_target ∷ []
 
 -- the value of an item, where the list has it
 abbrev pub lookup : ℕ → List Entry → Item

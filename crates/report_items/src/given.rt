@@ -4,9 +4,9 @@
 // one record that the writer refuses.
 // Relies on pairs for the items' values, items for a record's own, numbers and reports::kinds for their numbers.
 ghost use Rattle.std.specs.Prelude.{◌≡◌, Bool, true, cond, List, ℕ, ◌^◌, ◌≤◌, length};
-ghost use Rattle.pairs.specs.Pairs.{pairsIn};
+ghost use Rattle.pairs.specs.Pairs.{pairs_in};
 ghost use Rattle.report_items.specs.Items.{last, item_of, items_of};
-ghost use Rattle.report_items.specs.Given.{as_signed, itemGathered, searchGiven, strobeGiven, mapGiven, statusGiven, rtqcGiven, plainGiven, cdGiven, mtdHeightGiven, rdasHeightGiven, dabsGiven, atcrbsGiven, mtdGiven, rdasGiven, unfit, built, sameNumber, sameItem, agreeTo, givenBy, given};
+ghost use Rattle.report_items.specs.Given.{as_signed, item_gathered, search_given, strobe_given, map_given, status_given, rtqc_given, plain_given, cd_given, mtd_height_given, rdas_height_given, dabs_given, atcrbs_given, mtd_given, rdas_given, unfit, built, same_number, same_item, agree_to, given_by, given};
 
 use crate::items::{Item, item_of};
 use crate::numbers;
@@ -59,7 +59,7 @@ fn altitude_of(v: u64) -> i16
 // ---- the record that values make: four words
 
 fn search_given(v: [u64; SLOTS]) -> Search
-    ensures { result ≡ searchGiven v }
+    ensures { result ≡ search_given v }
 {
     Search {
         test: v[numbers::TEST] == 1,
@@ -75,7 +75,7 @@ fn search_given(v: [u64; SLOTS]) -> Search
 }
 
 fn strobe_given(v: [u64; SLOTS]) -> Strobe
-    ensures { result ≡ strobeGiven v }
+    ensures { result ≡ strobe_given v }
 {
     Strobe {
         test: v[numbers::TEST] == 1,
@@ -89,7 +89,7 @@ fn strobe_given(v: [u64; SLOTS]) -> Strobe
 }
 
 fn map_given(v: [u64; SLOTS]) -> Map
-    ensures { result ≡ mapGiven v }
+    ensures { result ≡ map_given v }
 {
     Map {
         test: v[numbers::TEST] == 1,
@@ -103,7 +103,7 @@ fn map_given(v: [u64; SLOTS]) -> Map
 }
 
 fn status_given(v: [u64; SLOTS]) -> Status
-    ensures { result ≡ statusGiven v }
+    ensures { result ≡ status_given v }
 {
     Status {
         test: v[numbers::TEST] == 1,
@@ -116,7 +116,7 @@ fn status_given(v: [u64; SLOTS]) -> Status
 }
 
 fn rtqc_given(v: [u64; SLOTS]) -> Rtqc
-    ensures { result ≡ rtqcGiven v }
+    ensures { result ≡ rtqc_given v }
 {
     Rtqc {
         faa: v[numbers::FAA] == 1,
@@ -132,7 +132,7 @@ fn rtqc_given(v: [u64; SLOTS]) -> Rtqc
 
 // An altitude, if one is among the items.
 fn plain_given(high: bool, v: [u64; SLOTS]) -> Height
-    ensures { result ≡ plainGiven high v }
+    ensures { result ≡ plain_given high v }
 {
     if high {
         Height::Altitude(altitude_of(v[numbers::ALTITUDE]))
@@ -142,7 +142,7 @@ fn plain_given(high: bool, v: [u64; SLOTS]) -> Height
 }
 
 fn cd_given(v: [u64; SLOTS]) -> Height
-    ensures { result ≡ cdGiven v }
+    ensures { result ≡ cd_given v }
 {
     Height::Cd {
         mode_c: v[numbers::MODE_C] == 1,
@@ -151,7 +151,7 @@ fn cd_given(v: [u64; SLOTS]) -> Height
 }
 
 fn mtd_height_given(v: [u64; SLOTS]) -> Height
-    ensures { result ≡ mtdHeightGiven v }
+    ensures { result ≡ mtd_height_given v }
 {
     Height::Mtd {
         mode_c: v[numbers::MODE_C] == 1,
@@ -160,7 +160,7 @@ fn mtd_height_given(v: [u64; SLOTS]) -> Height
 }
 
 fn rdas_height_given(v: [u64; SLOTS]) -> Height
-    ensures { result ≡ rdasHeightGiven v }
+    ensures { result ≡ rdas_height_given v }
 {
     Height::Rdas {
         mode_c: v[numbers::MODE_C] == 1,
@@ -169,7 +169,7 @@ fn rdas_height_given(v: [u64; SLOTS]) -> Height
 }
 
 fn dabs_given(v: [u64; SLOTS], height: Height) -> Dabs
-    ensures { result ≡ dabsGiven v height }
+    ensures { result ≡ dabs_given v height }
 {
     Dabs {
         test: v[numbers::TEST] == 1,
@@ -190,7 +190,7 @@ fn dabs_given(v: [u64; SLOTS], height: Height) -> Dabs
 }
 
 fn atcrbs_given(v: [u64; SLOTS], height: Height) -> Atcrbs
-    ensures { result ≡ atcrbsGiven v height }
+    ensures { result ≡ atcrbs_given v height }
 {
     Atcrbs {
         test: v[numbers::TEST] == 1,
@@ -214,7 +214,7 @@ fn atcrbs_given(v: [u64; SLOTS], height: Height) -> Atcrbs
 }
 
 fn mtd_given(v: [u64; SLOTS]) -> Mtd
-    ensures { result ≡ mtdGiven v }
+    ensures { result ≡ mtd_given v }
 {
     Mtd {
         test: v[numbers::TEST] == 1,
@@ -234,7 +234,7 @@ fn mtd_given(v: [u64; SLOTS]) -> Mtd
 }
 
 fn rdas_given(v: [u64; SLOTS]) -> Rdas
-    ensures { result ≡ rdasGiven v }
+    ensures { result ≡ rdas_given v }
 {
     Rdas {
         test: v[numbers::TEST] == 1,
@@ -313,14 +313,14 @@ fn size_of(kind: u32) -> usize
 }
 
 fn same_number(x: i64, y: i64) -> bool
-    ensures { result ≡ sameNumber x y }
+    ensures { result ≡ same_number x y }
 {
     x == y
 }
 
 // An item is there and has this value.
 fn same(own: Item, y: i64) -> bool
-    ensures { result ≡ sameItem own (Item.Of y) }
+    ensures { result ≡ same_item own (Item.Of y) }
 {
     match own {
         Item::Of(x) => same_number(x, y),
@@ -330,7 +330,7 @@ fn same(own: Item, y: i64) -> bool
 
 // A value that is given for a number is what the report has there.
 fn stands(report: Report, n: usize, there: bool, v: u64) -> bool
-    ensures { result ≡ cond there (sameItem (item_of report n) (Item.Of (as_signed (2 ^ 63) v))) true }
+    ensures { result ≡ cond there (same_item (item_of report n) (Item.Of (as_signed (2 ^ 63) v))) true }
 {
     if there {
         same(item_of(report, n), signed_of(v))
@@ -348,7 +348,7 @@ fn one(there: bool) -> usize
 // For each number the report, of so many items, has what is given for it: whatever is given stands in the report, and so many are given.
 fn agrees(report: Report, size: usize, gathered: Gathered) -> bool
     requires { length (items_of report) ≡ size }
-    ensures { result ≡ agreeTo last report (itemGathered gathered) }
+    ensures { result ≡ agree_to last report (item_gathered gathered) }
 {
     let there = gathered.there;
     let values = gathered.values;
@@ -367,7 +367,7 @@ fn agrees(report: Report, size: usize, gathered: Gathered) -> bool
 
 // From whole items.
 fn given_by(kind: u32, items: &[u8]) -> Report
-    ensures { result ≡ givenBy kind (pairsIn items.now) }
+    ensures { result ≡ given_by kind (pairs_in items.now) }
 {
     let size = size_of(kind);
     if pairs::count(items) != size {

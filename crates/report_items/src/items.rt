@@ -3,7 +3,7 @@
 ghost use Rattle.std.specs.Prelude.{◌≡◌, cond, pos};
 ghost use Rattle.reports.specs.declared.Height.TheVariants as Ht;
 ghost use Rattle.reports.specs.declared.Report.TheVariants as R;
-ghost use Rattle.report_items.specs.Items.{lookup, heightItems, item_of};
+ghost use Rattle.report_items.specs.Items.{lookup, height_items, item_of};
 
 use crate::numbers;
 use measures::RunLength;
@@ -51,7 +51,7 @@ fn signed(z: i16) -> Item
 // ---- bits 79 to 90
 
 fn altitude_item(z: i16, item: usize) -> Item
-    ensures { result ≡ lookup item (heightItems (Ht.Altitude z)) }
+    ensures { result ≡ lookup item (height_items (Ht.Altitude z)) }
 {
     match item {
         numbers::ALTITUDE => signed(z),
@@ -60,7 +60,7 @@ fn altitude_item(z: i16, item: usize) -> Item
 }
 
 fn carried_item(n: u16, item: usize) -> Item
-    ensures { result ≡ lookup item (heightItems (Ht.Carried n)) }
+    ensures { result ≡ lookup item (height_items (Ht.Carried n)) }
 {
     match item {
         numbers::CARRIED => count(n),
@@ -69,7 +69,7 @@ fn carried_item(n: u16, item: usize) -> Item
 }
 
 fn cd_item(mode_c: bool, run: RunLength, item: usize) -> Item
-    ensures { result ≡ lookup item (heightItems (Ht.Cd mode_c run)) }
+    ensures { result ≡ lookup item (height_items (Ht.Cd mode_c run)) }
 {
     match item {
         numbers::MODE_C => flag(mode_c),
@@ -80,7 +80,7 @@ fn cd_item(mode_c: bool, run: RunLength, item: usize) -> Item
 
 // An MTD and an RDAS have the same items.
 fn quality_item(mode_c: bool, quality: u8, item: usize) -> Item
-    ensures { result ≡ lookup item (heightItems (Ht.Mtd mode_c quality)) }
+    ensures { result ≡ lookup item (height_items (Ht.Mtd mode_c quality)) }
 {
     match item {
         numbers::MODE_C => flag(mode_c),
@@ -90,7 +90,7 @@ fn quality_item(mode_c: bool, quality: u8, item: usize) -> Item
 }
 
 fn height_item(h: Height, item: usize) -> Item
-    ensures { result ≡ lookup item (heightItems h) }
+    ensures { result ≡ lookup item (height_items h) }
 {
     match h {
         Height::Altitude(z) => altitude_item(z, item),

@@ -5,14 +5,14 @@ use mathlib.Core.Bool.{true, false}
 use borrow.Author.Rules.{rules}
 use borrow.Author.Tests.{eq-eqb, ne_eqb}
 use lib.Dec.{eqb}
-use Rattle.reports.proofs.Four.{four-not-seven}
+use Rattle.reports.proofs.Four.{four_not_seven}
 
 -- what `search` is handed
-pub ruleset tests = (rules, eq-eqb, ne_eqb, four-not-seven)
+pub ruleset tests = (rules, eq-eqb, ne_eqb, four_not_seven)
 
 -- a test of a call's result x, which is y by what the call ensures
-pub is-by : {x y : ℕ} (k : ℕ) → x ≡ y → x ≡ k → eqb y k ≡ true
-is-by {x} {y} k e h = eq-eqb y k (sym e ∙ h)
+pub is_by : {x y : ℕ} (k : ℕ) → x ≡ y → x ≡ k → eqb y k ≡ true
+is_by {x} {y} k e h = eq-eqb y k (sym e ∙ h)
 
-pub not-by : {x y : ℕ} (k : ℕ) → x ≡ y → (x ≡ k → ⊥) → eqb y k ≡ false
-not-by {x} {y} k e h = ne_eqb y k (λ q. h (e ∙ q))
+pub not_by : {x y : ℕ} (k : ℕ) → x ≡ y → (x ≡ k → ⊥) → eqb y k ≡ false
+not_by {x} {y} k e h = ne_eqb y k (λ q. h (e ∙ q))

@@ -5,20 +5,20 @@ use Rattle.report_reader.specs.declared.Content.{Content}
 use Rattle.report_reader.specs.declared.HeightContent.{HeightContent}
 use Rattle.reports.specs.declared.Report.{Report}
 use Rattle.reports.specs.Altitude.{AltitudeForm}
-use Rattle.reports.specs.Records.{heightOf, fourOf, sevenOf, reportOf}
-use Rattle.reports.specs.Conditions.{fourZeros, heightSpares, sevenSpares, zeros}
+use Rattle.reports.specs.Records.{height_of, four_of, seven_of, report_of}
+use Rattle.reports.specs.Conditions.{four_zeros, height_spares, seven_spares, zeros}
 
 abbrev pub content : Report → ℕ → Content
 content r n = record { report = r; spare = n }
 
-abbrev pub fourContent : List ℕ → Content
-fourContent ws = content (fourOf ws) (fourZeros ws)
+abbrev pub four_content : List ℕ → Content
+four_content ws = content (four_of ws) (four_zeros ws)
 
-abbrev pub heightContent : AltitudeForm → List ℕ → HeightContent
-heightContent form ws = record { height = heightOf form ws; spare = heightSpares ws }
+abbrev pub height_content : AltitudeForm → List ℕ → HeightContent
+height_content form ws = record { height = height_of form ws; spare = height_spares ws }
 
-abbrev pub sevenContent : AltitudeForm → List ℕ → Content
-sevenContent form ws = content (sevenOf form ws) (sevenSpares ws)
+abbrev pub seven_content : AltitudeForm → List ℕ → Content
+seven_content form ws = content (seven_of form ws) (seven_spares ws)
 
-abbrev pub contentOf : AltitudeForm → List ℕ → Content
-contentOf form ws = content (reportOf form ws) (zeros ws)
+abbrev pub content_of : AltitudeForm → List ℕ → Content
+content_of form ws = content (report_of form ws) (zeros ws)

@@ -1,7 +1,7 @@
 // The altitude of twelve bits, in hundreds of feet, as it is read: in each form by a function of its own, and by the form's name.
 // Relies on words for the bits; specs/Altitude.antt of reports says what each form is.
 ghost use Rattle.std.specs.Prelude.{◌≡◌};
-ghost use Rattle.reports.specs.Altitude.{signMagnitude, twosComplement, form_of};
+ghost use Rattle.reports.specs.Altitude.{sign_magnitude, twos_complement, form_of};
 
 use reports::altitude::Form;
 use words::weights::ELEVEN_BITS;
@@ -11,7 +11,7 @@ const FIRST: i16 = ELEVEN_BITS as i16;
 
 // A sign, 1 negative, and eleven bits.
 fn sign_magnitude_of(n: u16) -> i16
-    ensures { result ≡ signMagnitude.altitude n }
+    ensures { result ≡ sign_magnitude.altitude n }
 {
     let magnitude = (n % ELEVEN_BITS) as i16;
     if n / ELEVEN_BITS == 1 {
@@ -23,7 +23,7 @@ fn sign_magnitude_of(n: u16) -> i16
 
 // Eleven bits, and -2048 where the first bit is one.
 fn twos_complement_of(n: u16) -> i16
-    ensures { result ≡ twosComplement.altitude n }
+    ensures { result ≡ twos_complement.altitude n }
 {
     let magnitude = (n % ELEVEN_BITS) as i16;
     if n / ELEVEN_BITS == 1 {
@@ -45,7 +45,7 @@ pub fn altitude_of(n: u16, form: Form) -> i16
 
 // Minus zero: sign 1 and magnitude 0.
 fn is_sign_alone(n: u16) -> bool
-    ensures { result ≡ signMagnitude.refused n }
+    ensures { result ≡ sign_magnitude.refused n }
 {
     if n / ELEVEN_BITS == 1 {
         if n % ELEVEN_BITS == 0 {

@@ -2,11 +2,11 @@
 // Relies on records for the fields; what each test means stands in specs/Conditions.antt of reports.
 ghost use Rattle.std.specs.Prelude.{◌≡◌, true, false, [], ◌∷◌};
 ghost use Rattle.reports.specs.Altitude.{form_of};
-ghost use Rattle.reports.specs.Forms.{isFour, isSeven, wordCount, radarCode};
-ghost use Rattle.reports.specs.Conditions.{unknownForm, unassigned, minusZero};
-ghost use Rattle.report_reader.specs.Content.{fourContent, heightContent, sevenContent, contentOf};
-ghost use Rattle.reports.specs.Records.{reportOf};
-ghost use Rattle.reports.specs.Runs.{lastRows, judged};
+ghost use Rattle.reports.specs.Forms.{is_four, is_seven, word_count, radar_code};
+ghost use Rattle.reports.specs.Conditions.{unknown_form, unassigned, minus_zero};
+ghost use Rattle.report_reader.specs.Content.{four_content, height_content, seven_content, content_of};
+ghost use Rattle.reports.specs.Records.{report_of};
+ghost use Rattle.reports.specs.Runs.{last_rows, judged};
 ghost use Rattle.rows.specs.Rows.{first_of};
 
 use measures::RunLength;
@@ -36,8 +36,8 @@ struct HeightContent {
 
 // The content of four words of a known form: what is none of the first four is an RTQC.
 fn four_of(a: u16, b: u16, c: u16, d: u16) -> Content
-    requires { isFour (a ∷ []) ≡ true }
-    ensures { result ≡ fourContent (a ∷ b ∷ c ∷ d ∷ []) }
+    requires { is_four (a ∷ []) ≡ true }
+    ensures { result ≡ four_content (a ∷ b ∷ c ∷ d ∷ []) }
 {
     let pattern = a / BIT_10 % SEVEN_BITS; // 4-10
     let bit25 = b / BIT_12 % ONE_BIT; // 25
@@ -75,7 +75,7 @@ fn four_of(a: u16, b: u16, c: u16, d: u16) -> Content
 
 // Bits 88 to 90 where bit 12 is one, else what no three bits are.
 fn radar_code(a: u16, g: u16) -> u16
-    ensures { result ≡ radarCode (a ∷ 0 ∷ 0 ∷ 0 ∷ 0 ∷ 0 ∷ g ∷ []) }
+    ensures { result ≡ radar_code (a ∷ 0 ∷ 0 ∷ 0 ∷ 0 ∷ 0 ∷ g ∷ []) }
 {
     let radar = a / BIT_12 % ONE_BIT; // 12
     if radar == 1 {
@@ -87,8 +87,8 @@ fn radar_code(a: u16, g: u16) -> u16
 
 // Bits 6, 12 and 79 to 90 of DABS and ATCRBS.
 fn height_of(a: u16, g: u16, form: Form) -> HeightContent
-    requires { isSeven (a ∷ []) ≡ true }
-    ensures { result ≡ heightContent (form_of form) (a ∷ 0 ∷ 0 ∷ 0 ∷ 0 ∷ 0 ∷ g ∷ []) }
+    requires { is_seven (a ∷ []) ≡ true }
+    ensures { result ≡ height_content (form_of form) (a ∷ 0 ∷ 0 ∷ 0 ∷ 0 ∷ 0 ∷ g ∷ []) }
 {
     let code = radar_code(a, g);
     let mode_c = a / BIT_6 % ONE_BIT == 1; // 6
@@ -127,8 +127,8 @@ fn height_of(a: u16, g: u16, form: Form) -> HeightContent
 
 // The content of seven words: what is none of the first three is an ATCRBS.
 fn seven_of(a: u16, b: u16, c: u16, d: u16, e: u16, f: u16, g: u16, form: Form) -> Content
-    requires { isSeven (a ∷ []) ≡ true }
-    ensures { result ≡ sevenContent (form_of form) (a ∷ b ∷ c ∷ d ∷ e ∷ f ∷ g ∷ []) }
+    requires { is_seven (a ∷ []) ≡ true }
+    ensures { result ≡ seven_content (form_of form) (a ∷ b ∷ c ∷ d ∷ e ∷ f ∷ g ∷ []) }
 {
     let last = height_of(a, g, form);
     let height = last.height;
@@ -168,8 +168,8 @@ fn seven_of(a: u16, b: u16, c: u16, d: u16, e: u16, f: u16, g: u16, form: Form) 
 
 // The content of words of a known form.
 fn content_of(a: u16, b: u16, c: u16, d: u16, e: u16, f: u16, g: u16, form: Form) -> Content
-    requires { unknownForm (a ∷ []) ≡ false }
-    ensures { result ≡ contentOf (form_of form) (a ∷ b ∷ c ∷ d ∷ e ∷ f ∷ g ∷ []) }
+    requires { unknown_form (a ∷ []) ≡ false }
+    ensures { result ≡ content_of (form_of form) (a ∷ b ∷ c ∷ d ∷ e ∷ f ∷ g ∷ []) }
 {
     if a / BIT_3 % TWO_BITS == forms::SEVEN_WORDS {
         seven_of(a, b, c, d, e, f, g, form)
@@ -181,7 +181,7 @@ fn content_of(a: u16, b: u16, c: u16, d: u16, e: u16, f: u16, g: u16, form: Form
 // ---- the conditions
 
 fn is_unknown_form(a: u16) -> bool
-    ensures { result ≡ unknownForm (a ∷ []) }
+    ensures { result ≡ unknown_form (a ∷ []) }
 {
     let pattern = a / BIT_10 % SEVEN_BITS; // 4-10
     if a / BIT_3 % TWO_BITS == forms::FOUR_WORDS {
@@ -212,7 +212,7 @@ fn is_unknown_form(a: u16) -> bool
 }
 
 fn word_count(a: u16) -> usize
-    ensures { result ≡ wordCount (a ∷ []) }
+    ensures { result ≡ word_count (a ∷ []) }
 {
     if a / BIT_3 % TWO_BITS == forms::SEVEN_WORDS {
         7
@@ -253,7 +253,7 @@ fn is_unassigned(a: u16, g: u16) -> bool
 }
 
 fn is_minus_zero(a: u16, g: u16, form: Form) -> bool
-    ensures { result ≡ minusZero (form_of form) (a ∷ 0 ∷ 0 ∷ 0 ∷ 0 ∷ 0 ∷ g ∷ []) }
+    ensures { result ≡ minus_zero (form_of form) (a ∷ 0 ∷ 0 ∷ 0 ∷ 0 ∷ 0 ∷ g ∷ []) }
 {
     if a / BIT_3 % TWO_BITS == forms::SEVEN_WORDS {
         if a / BIT_12 % ONE_BIT == 1 {
@@ -271,8 +271,8 @@ fn is_minus_zero(a: u16, g: u16, form: Form) -> bool
 
 // The answer to words of a known form, as many as it has.
 fn judge_words(a: u16, b: u16, c: u16, d: u16, e: u16, f: u16, g: u16, form: Form) -> RunAnswer
-    requires { unknownForm (a ∷ []) ≡ false }
-    ensures { result ≡ first_of (lastRows (form_of form) (a ∷ b ∷ c ∷ d ∷ e ∷ f ∷ g ∷ [])) (RunAnswer.Accepted (reportOf (form_of form) (a ∷ b ∷ c ∷ d ∷ e ∷ f ∷ g ∷ []))) }
+    requires { unknown_form (a ∷ []) ≡ false }
+    ensures { result ≡ first_of (last_rows (form_of form) (a ∷ b ∷ c ∷ d ∷ e ∷ f ∷ g ∷ [])) (RunAnswer.Accepted (report_of (form_of form) (a ∷ b ∷ c ∷ d ∷ e ∷ f ∷ g ∷ []))) }
 {
     if is_unassigned(a, g) {
         return RunAnswer::Refused(LineRefusal::UnassignedRadar, 0);

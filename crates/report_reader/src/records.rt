@@ -2,7 +2,7 @@
 // `d / BIT_6 % THREE_BITS` ends at bit 6 of the fourth word, which is bit 45 of the report. Words are a to g, first to seventh.
 // Private to the crate. Relies on words for the bits, on the records and on measures.
 ghost use Rattle.std.specs.Prelude.{◌≡◌, [], ◌∷◌};
-ghost use Rattle.reports.specs.Records.{searchOf, strobeOf, mapOf, statusOf, rtqcOf, dabsOf, atcrbsOf, mtdOf, rdasOf};
+ghost use Rattle.reports.specs.Records.{search_of, strobe_of, map_of, status_of, rtqc_of, dabs_of, atcrbs_of, mtd_of, rdas_of};
 
 use measures::{CoarseAzimuth, CoarseRange, FineAzimuth, FineRange, RunLength, Time};
 use reports::{Atcrbs, Dabs, Height, Map, Mtd, Rdas, Rtqc, Search, Status, Strobe};
@@ -14,7 +14,7 @@ const ADDRESS_LOWER: u32 = TWELVE_BITS as u32;
 // ---- four words
 
 pub fn search_of(a: u16, b: u16, c: u16, d: u16) -> Search
-    ensures { result ≡ searchOf (a ∷ b ∷ c ∷ d ∷ []) }
+    ensures { result ≡ search_of (a ∷ b ∷ c ∷ d ∷ []) }
 {
     Search {
         test: a / BIT_1 % ONE_BIT == 1, // 1
@@ -30,7 +30,7 @@ pub fn search_of(a: u16, b: u16, c: u16, d: u16) -> Search
 }
 
 pub fn strobe_of(a: u16, b: u16, c: u16, d: u16) -> Strobe
-    ensures { result ≡ strobeOf (a ∷ b ∷ c ∷ d ∷ []) }
+    ensures { result ≡ strobe_of (a ∷ b ∷ c ∷ d ∷ []) }
 {
     Strobe {
         test: a / BIT_1 % ONE_BIT == 1, // 1
@@ -44,7 +44,7 @@ pub fn strobe_of(a: u16, b: u16, c: u16, d: u16) -> Strobe
 }
 
 pub fn map_of(a: u16, b: u16, c: u16, d: u16) -> Map
-    ensures { result ≡ mapOf (a ∷ b ∷ c ∷ d ∷ []) }
+    ensures { result ≡ map_of (a ∷ b ∷ c ∷ d ∷ []) }
 {
     Map {
         test: a / BIT_1 % ONE_BIT == 1, // 1
@@ -58,7 +58,7 @@ pub fn map_of(a: u16, b: u16, c: u16, d: u16) -> Map
 }
 
 pub fn status_of(a: u16, b: u16, c: u16, d: u16) -> Status
-    ensures { result ≡ statusOf (a ∷ b ∷ c ∷ d ∷ []) }
+    ensures { result ≡ status_of (a ∷ b ∷ c ∷ d ∷ []) }
 {
     Status {
         test: a / BIT_1 % ONE_BIT == 1, // 1
@@ -71,7 +71,7 @@ pub fn status_of(a: u16, b: u16, c: u16, d: u16) -> Status
 }
 
 pub fn rtqc_of(a: u16, b: u16, c: u16, d: u16) -> Rtqc
-    ensures { result ≡ rtqcOf (a ∷ b ∷ c ∷ d ∷ []) }
+    ensures { result ≡ rtqc_of (a ∷ b ∷ c ∷ d ∷ []) }
 {
     Rtqc {
         faa: a / BIT_11 % ONE_BIT == 1, // 11
@@ -86,7 +86,7 @@ pub fn rtqc_of(a: u16, b: u16, c: u16, d: u16) -> Rtqc
 // ---- seven words
 
 pub fn dabs_of(a: u16, b: u16, c: u16, d: u16, e: u16, f: u16, height: Height) -> Dabs
-    ensures { result ≡ dabsOf (a ∷ b ∷ c ∷ d ∷ e ∷ f ∷ []) height }
+    ensures { result ≡ dabs_of (a ∷ b ∷ c ∷ d ∷ e ∷ f ∷ []) height }
 {
     Dabs {
         test: a / BIT_1 % ONE_BIT == 1, // 1
@@ -109,7 +109,7 @@ pub fn dabs_of(a: u16, b: u16, c: u16, d: u16, e: u16, f: u16, height: Height) -
 }
 
 pub fn atcrbs_of(a: u16, b: u16, c: u16, d: u16, e: u16, f: u16, height: Height) -> Atcrbs
-    ensures { result ≡ atcrbsOf (a ∷ b ∷ c ∷ d ∷ e ∷ f ∷ []) height }
+    ensures { result ≡ atcrbs_of (a ∷ b ∷ c ∷ d ∷ e ∷ f ∷ []) height }
 {
     Atcrbs {
         test: a / BIT_1 % ONE_BIT == 1, // 1
@@ -133,7 +133,7 @@ pub fn atcrbs_of(a: u16, b: u16, c: u16, d: u16, e: u16, f: u16, height: Height)
 }
 
 pub fn mtd_of(a: u16, b: u16, c: u16, d: u16, e: u16, f: u16, g: u16) -> Mtd
-    ensures { result ≡ mtdOf (a ∷ b ∷ c ∷ d ∷ e ∷ f ∷ g ∷ []) }
+    ensures { result ≡ mtd_of (a ∷ b ∷ c ∷ d ∷ e ∷ f ∷ g ∷ []) }
 {
     Mtd {
         test: a / BIT_1 % ONE_BIT == 1, // 1
@@ -153,7 +153,7 @@ pub fn mtd_of(a: u16, b: u16, c: u16, d: u16, e: u16, f: u16, g: u16) -> Mtd
 }
 
 pub fn rdas_of(a: u16, b: u16, c: u16, d: u16, f: u16, g: u16) -> Rdas
-    ensures { result ≡ rdasOf (a ∷ b ∷ c ∷ d ∷ 0 ∷ f ∷ g ∷ []) }
+    ensures { result ≡ rdas_of (a ∷ b ∷ c ∷ d ∷ 0 ∷ f ∷ g ∷ []) }
 {
     Rdas {
         test: a / BIT_1 % ONE_BIT == 1, // 1

@@ -17,30 +17,30 @@ overrun (count k n) = n / 2 ^ k
 overrun (rest k n) = 0
 overrun (fixed k n) = n / 2 ^ k
 
-abbrev pub overrunAll : List Field → ℕ
-overrunAll [] = 0
-overrunAll (f ∷ fs) = overrun f + overrunAll fs
+abbrev pub overrun_all : List Field → ℕ
+overrun_all [] = 0
+overrun_all (f ∷ fs) = overrun f + overrun_all fs
 
 -- the number that the fields make, with 4096 more for each span that a value overruns its field by
-abbrev pub dataOrMore : List Field → ℕ
-dataOrMore fs = joined fs + 4096 * overrunAll fs
+abbrev pub data_or_more : List Field → ℕ
+data_or_more fs = joined fs + 4096 * overrun_all fs
 
 -- ---- all words
 
 -- the data of a word of a layout
-abbrev dataAt : List (List Field) → ℕ → ℕ
-dataAt l k = dataOrMore (get_or l k [])
+abbrev data_at : List (List Field) → ℕ → ℕ
+data_at l k = data_or_more (get_or l k [])
 
-abbrev pub dataBy : List (List Field) → Data
-dataBy l =
-    cond (eqb (length l) 4) (D.Four (dataAt l 0) (dataAt l 1) (dataAt l 2) (dataAt l 3))
-    (D.Seven (dataAt l 0) (dataAt l 1) (dataAt l 2) (dataAt l 3) (dataAt l 4) (dataAt l 5) (dataAt l 6))
+abbrev pub data_by : List (List Field) → Data
+data_by l =
+    cond (eqb (length l) 4) (D.Four (data_at l 0) (data_at l 1) (data_at l 2) (data_at l 3))
+    (D.Seven (data_at l 0) (data_at l 1) (data_at l 2) (data_at l 3) (data_at l 4) (data_at l 5) (data_at l 6))
 
 -- the words of such data, or the refusal: no number is above 4095 where the sum of what they have above it is 0
-abbrev pub fromData : Data → Written
-fromData (D.Four a b c d) =
+abbrev pub from_data : Data → Written
+from_data (D.Four a b c d) =
     cond (eqb (a / 4096 + b / 4096 + c / 4096 + d / 4096) 0) (W.Four (word_of a) (word_of b) (word_of c) (word_of d)) (W.Refused ValueTooLarge)
-fromData (D.Seven a b c d e f g) =
+from_data (D.Seven a b c d e f g) =
     cond (eqb (a / 4096 + b / 4096 + c / 4096 + d / 4096 + e / 4096 + f / 4096 + g / 4096) 0)
     (W.Seven (word_of a) (word_of b) (word_of c) (word_of d) (word_of e) (word_of f) (word_of g))
     (W.Refused ValueTooLarge)

@@ -1,7 +1,7 @@
 // The twelve bits of an altitude, in hundreds of feet, as it is written: in each form by a function of its own, and by the form's name.
 // Relies on the crate's names of bits; specs/Altitude.antt of reports says what each form is.
 ghost use Rattle.std.specs.Prelude.{◌≡◌, ◌<◌, nat_abs};
-ghost use Rattle.reports.specs.Altitude.{signMagnitude, twosComplement, form_of, negative};
+ghost use Rattle.reports.specs.Altitude.{sign_magnitude, twos_complement, form_of, negative};
 
 use crate::weights;
 use reports::altitude::Form;
@@ -36,7 +36,7 @@ fn is_negative(z: i16) -> bool
 
 // A sign, 1 negative, and eleven bits; NO_BITS where the altitude has none.
 fn sign_magnitude_bits(z: i16) -> u32
-    ensures { (result ≡ signMagnitude.bitsOf z) × (result < 4097) }
+    ensures { (result ≡ sign_magnitude.bits_of z) × (result < 4097) }
 {
     let n = magnitude(z);
     if n <= LARGEST {
@@ -48,7 +48,7 @@ fn sign_magnitude_bits(z: i16) -> u32
 
 // Two's complement: below zero 4096 is added to the altitude, and from zero on its bits are those of the other form; NO_BITS where it has none.
 fn twos_complement_bits(z: i16) -> u32
-    ensures { (result ≡ twosComplement.bitsOf z) × (result < 4097) }
+    ensures { (result ≡ twos_complement.bits_of z) × (result < 4097) }
 {
     if is_negative(z) {
         let n = magnitude(z);
@@ -62,7 +62,7 @@ fn twos_complement_bits(z: i16) -> u32
 
 // The twelve bits of an altitude; NO_BITS where it has none in the form.
 pub fn altitude_bits(z: i16, form: Form) -> u32
-    ensures { (result ≡ (form_of form).bitsOf z) × (result < 4097) }
+    ensures { (result ≡ (form_of form).bits_of z) × (result < 4097) }
 {
     match form {
         Form::SignMagnitude => sign_magnitude_bits(z),

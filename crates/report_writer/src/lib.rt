@@ -1,13 +1,13 @@
 // A report to its words, or to refusal 11 where a value is too large for its field.
 // Each word's data is computed without a branch, field by field as its layout has it; a value too large pushes the number above 4095
-// (`dataOrMore`), and one function looks at the numbers at the end and makes the words. Relies on words for the parity bit.
+// (`data_or_more`), and one function looks at the numbers at the end and makes the words. Relies on words for the parity bit.
 ghost use Rattle.std.specs.Prelude.{◌≡◌, cond, [], ◌∷◌, ◌/◌, ◌<◌, ◌^◌};
 ghost use Rattle.words.specs.Word.{word_of};
 ghost use Rattle.words.specs.Layout.{flag, count, rest, fixed, spare};
 ghost use Rattle.reports.specs.Altitude.{form_of};
-ghost use Rattle.reports.specs.Forms.{fourWords, sevenWords, mapPattern, cdCode, mtdCode, rdasCode, mtdSearchCode, rdasSearchCode};
-ghost use Rattle.reports.specs.Layouts.{lastWord, modeC, radar, searchLayout, strobeLayout, mapLayout, statusLayout, rtqcLayout, dabsLayout, atcrbsLayout, mtdLayout, rdasLayout, layout_of, written};
-ghost use Rattle.report_writer.specs.Data.{dataOrMore, dataBy, fromData};
+ghost use Rattle.reports.specs.Forms.{four_words, seven_words, map_pattern, cd_code, mtd_code, rdas_code, mtd_search_code, rdas_search_code};
+ghost use Rattle.reports.specs.Layouts.{last_word, mode_c_of, radar, search_layout, strobe_layout, map_layout, status_layout, rtqc_layout, dabs_layout, atcrbs_layout, mtd_layout, rdas_layout, layout_of, written};
+ghost use Rattle.report_writer.specs.Data.{data_or_more, data_by, from_data};
 
 use refusals::LineRefusal;
 use reports::altitude::Form;
@@ -41,14 +41,14 @@ fn bit(b: bool) -> u32
 // Twelve bits that are one number.
 fn whole(n: u32) -> u32
     requires { n < 1048577 }
-    ensures { result ≡ dataOrMore (count 12 n ∷ []) }
+    ensures { result ≡ data_or_more (count 12 n ∷ []) }
 {
     n + TOO_LARGE * (n / TWELVE_BITS)
 }
 
 // The lower twelve bits of a number whose upper bits stand in the word before.
 fn lower_twelve(n: u32) -> u32
-    ensures { result ≡ dataOrMore (rest 12 n ∷ []) }
+    ensures { result ≡ data_or_more (rest 12 n ∷ []) }
 {
     n % TWELVE_BITS
 }
@@ -57,13 +57,13 @@ fn lower_twelve(n: u32) -> u32
 
 fn first_of_four(test: bool, pattern: u16, faa: bool, af: bool) -> u32
     requires { pattern < 128 }
-    ensures { result ≡ dataOrMore (flag test ∷ fixed 2 fourWords ∷ fixed 7 pattern ∷ flag faa ∷ flag af ∷ []) }
+    ensures { result ≡ data_or_more (flag test ∷ fixed 2 four_words ∷ fixed 7 pattern ∷ flag faa ∷ flag af ∷ []) }
 {
     bit(test) * DATA_1 + pattern as u32 * DATA_10 + bit(faa) * DATA_11 + bit(af)
 }
 
 fn map_first(test: bool, variation: u8, faa: bool, af: bool) -> u32
-    ensures { result ≡ dataOrMore (flag test ∷ fixed 2 fourWords ∷ fixed 5 mapPattern ∷ count 2 variation ∷ flag faa ∷ flag af ∷ []) }
+    ensures { result ≡ data_or_more (flag test ∷ fixed 2 four_words ∷ fixed 5 map_pattern ∷ count 2 variation ∷ flag faa ∷ flag af ∷ []) }
 {
     let variation = variation as u32;
     bit(test) * DATA_1
@@ -75,14 +75,14 @@ fn map_first(test: bool, variation: u8, faa: bool, af: bool) -> u32
 
 // A range of eleven bits, or a Map's range stop, and a zero.
 fn coarse_range(range: u16) -> u32
-    ensures { result ≡ dataOrMore (count 11 range ∷ spare 1 ∷ []) }
+    ensures { result ≡ data_or_more (count 11 range ∷ spare 1 ∷ []) }
 {
     let range = range as u32;
     range * DATA_11 + TOO_LARGE * (range / ELEVEN_BITS)
 }
 
 fn search_last(aims: bool, code: u8, run: u8, time: u8) -> u32
-    ensures { result ≡ dataOrMore (flag aims ∷ count 2 code ∷ count 3 run ∷ count 6 time ∷ []) }
+    ensures { result ≡ data_or_more (flag aims ∷ count 2 code ∷ count 3 run ∷ count 6 time ∷ []) }
 {
     let code = code as u32;
     let run = run as u32;
@@ -92,7 +92,7 @@ fn search_last(aims: bool, code: u8, run: u8, time: u8) -> u32
 }
 
 fn strobe_last(run: u8, time: u8) -> u32
-    ensures { result ≡ dataOrMore (count 7 run ∷ count 5 time ∷ []) }
+    ensures { result ≡ data_or_more (count 7 run ∷ count 5 time ∷ []) }
 {
     let run = run as u32;
     let time = time as u32;
@@ -103,21 +103,21 @@ fn strobe_last(run: u8, time: u8) -> u32
 
 // The first word of MTD and RDAS search.
 fn radar_first(test: bool, faa: bool) -> u32
-    ensures { result ≡ dataOrMore (flag test ∷ fixed 2 sevenWords ∷ fixed 1 0 ∷ spare 6 ∷ flag faa ∷ fixed 1 1 ∷ []) }
+    ensures { result ≡ data_or_more (flag test ∷ fixed 2 seven_words ∷ fixed 1 0 ∷ spare 6 ∷ flag faa ∷ fixed 1 1 ∷ []) }
 {
     bit(test) * DATA_1 + SEVEN + bit(faa) * DATA_11 + DATA_12
 }
 
 // The end of a range of fifteen bits, and the start of an azimuth of thirteen.
 fn range_azimuth(range: u16, azimuth: u16) -> u32
-    ensures { result ≡ dataOrMore (rest 3 range ∷ count 9 (azimuth / 2 ^ 4) ∷ []) }
+    ensures { result ≡ data_or_more (rest 3 range ∷ count 9 (azimuth / 2 ^ 4) ∷ []) }
 {
     let azimuth = azimuth as u32 / FOUR_BITS;
     range as u32 % THREE_BITS * DATA_3 + azimuth + TOO_LARGE * (azimuth / NINE_BITS)
 }
 
 fn dabs_fourth(azimuth: u16, alert: bool, relay: bool, time: u8) -> u32
-    ensures { result ≡ dataOrMore (rest 4 azimuth ∷ flag alert ∷ spare 2 ∷ flag relay ∷ count 4 time ∷ []) }
+    ensures { result ≡ data_or_more (rest 4 azimuth ∷ flag alert ∷ spare 2 ∷ flag relay ∷ count 4 time ∷ []) }
 {
     let time = time as u32;
     azimuth as u32 % FOUR_BITS * DATA_4
@@ -135,7 +135,7 @@ fn atcrbs_fourth(
     relay: bool,
     time: u8,
 ) -> u32
-    ensures { result ≡ dataOrMore (rest 4 azimuth ∷ flag confidence ∷ flag transition ∷ flag target ∷ flag relay ∷ count 4 time ∷ []) }
+    ensures { result ≡ data_or_more (rest 4 azimuth ∷ flag confidence ∷ flag transition ∷ flag target ∷ flag relay ∷ count 4 time ∷ []) }
 {
     let time = time as u32;
     let flags = bit(confidence) * DATA_5
@@ -146,14 +146,14 @@ fn atcrbs_fourth(
 }
 
 fn radar_fourth(azimuth: u16, aims: bool, time: u8) -> u32
-    ensures { result ≡ dataOrMore (rest 4 azimuth ∷ flag aims ∷ spare 1 ∷ count 6 time ∷ []) }
+    ensures { result ≡ data_or_more (rest 4 azimuth ∷ flag aims ∷ spare 1 ∷ count 6 time ∷ []) }
 {
     let time = time as u32;
     azimuth as u32 % FOUR_BITS * DATA_4 + bit(aims) * DATA_5 + time + TOO_LARGE * (time / SIX_BITS)
 }
 
 fn dopplers(first: u8, second: u8) -> u32
-    ensures { result ≡ dataOrMore (count 6 first ∷ count 6 second ∷ []) }
+    ensures { result ≡ data_or_more (count 6 first ∷ count 6 second ∷ []) }
 {
     let first = first as u32;
     let second = second as u32;
@@ -161,7 +161,7 @@ fn dopplers(first: u8, second: u8) -> u32
 }
 
 fn mtd_last(quality: u8, confidence: u8, target: bool, ground: bool) -> u32
-    ensures { result ≡ dataOrMore (count 2 quality ∷ count 4 confidence ∷ flag target ∷ flag ground ∷ spare 1 ∷ fixed 3 mtdSearchCode ∷ []) }
+    ensures { result ≡ data_or_more (count 2 quality ∷ count 4 confidence ∷ flag target ∷ flag ground ∷ spare 1 ∷ fixed 3 mtd_search_code ∷ []) }
 {
     let quality = quality as u32;
     let confidence = confidence as u32;
@@ -175,7 +175,7 @@ fn mtd_last(quality: u8, confidence: u8, target: bool, ground: bool) -> u32
 }
 
 fn rdas_last(quality: u8, target: bool) -> u32
-    ensures { result ≡ dataOrMore (count 4 quality ∷ spare 2 ∷ flag target ∷ spare 2 ∷ fixed 3 rdasSearchCode ∷ []) }
+    ensures { result ≡ data_or_more (count 4 quality ∷ spare 2 ∷ flag target ∷ spare 2 ∷ fixed 3 rdas_search_code ∷ []) }
 {
     let quality = quality as u32;
     quality * DATA_4
@@ -187,7 +187,7 @@ fn rdas_last(quality: u8, target: bool) -> u32
 // ---- bits 6, 12 and 79 to 90 of DABS and ATCRBS
 
 fn mode_c_of(h: Height) -> u32
-    ensures { (result ≡ cond (modeC h) 1 0) × (result < 2) }
+    ensures { (result ≡ cond (mode_c_of h) 1 0) × (result < 2) }
 {
     match h {
         Height::Altitude(_) => 1,
@@ -218,28 +218,28 @@ fn radar_of(h: Height) -> u32
 
 // The last word where a CD, an MTD or an RDAS stands in for the height.
 fn cd_last(run: u8) -> u32
-    ensures { result ≡ dataOrMore (count 3 run ∷ spare 6 ∷ fixed 3 cdCode ∷ []) }
+    ensures { result ≡ data_or_more (count 3 run ∷ spare 6 ∷ fixed 3 cd_code ∷ []) }
 {
     let run = run as u32;
     run * DATA_3 + forms::CD_CODE as u32 + TOO_LARGE * (run / THREE_BITS)
 }
 
 fn mtd_quality_last(quality: u8) -> u32
-    ensures { result ≡ dataOrMore (count 2 quality ∷ spare 7 ∷ fixed 3 mtdCode ∷ []) }
+    ensures { result ≡ data_or_more (count 2 quality ∷ spare 7 ∷ fixed 3 mtd_code ∷ []) }
 {
     let quality = quality as u32;
     quality * DATA_2 + forms::MTD_CODE as u32 + TOO_LARGE * (quality / TWO_BITS)
 }
 
 fn rdas_quality_last(quality: u8) -> u32
-    ensures { result ≡ dataOrMore (count 4 quality ∷ spare 5 ∷ fixed 3 rdasCode ∷ []) }
+    ensures { result ≡ data_or_more (count 4 quality ∷ spare 5 ∷ fixed 3 rdas_code ∷ []) }
 {
     let quality = quality as u32;
     quality * DATA_4 + forms::RDAS_CODE as u32 + TOO_LARGE * (quality / FOUR_BITS)
 }
 
 fn height_last(h: Height, form: Form) -> u32
-    ensures { result ≡ dataOrMore (lastWord (form_of form) h) }
+    ensures { result ≡ data_or_more (last_word (form_of form) h) }
 {
     match h {
         Height::Altitude(z) => whole(altitude::altitude_bits(z, form)),
@@ -262,7 +262,7 @@ fn beacon_first(
     faa: bool,
     height: Height,
 ) -> u32
-    ensures { result ≡ dataOrMore (flag test ∷ fixed 2 sevenWords ∷ flag dabs ∷ flag fifth ∷ flag (modeC height) ∷ flag spi ∷ flag reinforced ∷ flag code7700 ∷ flag code7600 ∷ flag faa ∷ flag (radar height) ∷ []) }
+    ensures { result ≡ data_or_more (flag test ∷ fixed 2 seven_words ∷ flag dabs ∷ flag fifth ∷ flag (mode_c_of height) ∷ flag spi ∷ flag reinforced ∷ flag code7700 ∷ flag code7600 ∷ flag faa ∷ flag (radar height) ∷ []) }
 {
     let first = bit(test) * DATA_1 + SEVEN + bit(dabs) * DATA_4 + bit(fifth) * DATA_5;
     let middle = mode_c_of(height) * DATA_6 + bit(spi) * DATA_7 + bit(reinforced) * DATA_8;
@@ -273,7 +273,7 @@ fn beacon_first(
 // ---- the data of each report
 
 fn search_data(s: Search) -> Data
-    ensures { result ≡ dataBy (searchLayout s) }
+    ensures { result ≡ data_by (search_layout s) }
 {
     Data::Four(
         first_of_four(s.test, forms::SEARCH_PATTERN, s.faa, s.af),
@@ -284,7 +284,7 @@ fn search_data(s: Search) -> Data
 }
 
 fn strobe_data(s: Strobe) -> Data
-    ensures { result ≡ dataBy (strobeLayout s) }
+    ensures { result ≡ data_by (strobe_layout s) }
 {
     Data::Four(
         first_of_four(s.test, forms::STROBE_PATTERN, s.faa, s.af),
@@ -295,7 +295,7 @@ fn strobe_data(s: Strobe) -> Data
 }
 
 fn map_data(m: Map) -> Data
-    ensures { result ≡ dataBy (mapLayout m) }
+    ensures { result ≡ data_by (map_layout m) }
 {
     Data::Four(
         map_first(m.test, m.variation, m.faa, m.af),
@@ -306,7 +306,7 @@ fn map_data(m: Map) -> Data
 }
 
 fn status_data(s: Status) -> Data
-    ensures { result ≡ dataBy (statusLayout s) }
+    ensures { result ≡ data_by (status_layout s) }
 {
     Data::Four(
         first_of_four(s.test, forms::STATUS_PATTERN, s.faa, s.af),
@@ -317,7 +317,7 @@ fn status_data(s: Status) -> Data
 }
 
 fn rtqc_data(s: Rtqc) -> Data
-    ensures { result ≡ dataBy (rtqcLayout s) }
+    ensures { result ≡ data_by (rtqc_layout s) }
 {
     Data::Four(
         first_of_four(true, forms::RTQC_PATTERN, s.faa, s.af),
@@ -328,7 +328,7 @@ fn rtqc_data(s: Rtqc) -> Data
 }
 
 fn dabs_data(d: Dabs, form: Form) -> Data
-    ensures { result ≡ dataBy (dabsLayout (form_of form) d) }
+    ensures { result ≡ data_by (dabs_layout (form_of form) d) }
 {
     let height = d.height;
     let first = beacon_first(
@@ -354,7 +354,7 @@ fn dabs_data(d: Dabs, form: Form) -> Data
 }
 
 fn atcrbs_data(a: Atcrbs, form: Form) -> Data
-    ensures { result ≡ dataBy (atcrbsLayout (form_of form) a) }
+    ensures { result ≡ data_by (atcrbs_layout (form_of form) a) }
 {
     let height = a.height;
     let code = whole(a.code as u32);
@@ -390,7 +390,7 @@ fn atcrbs_data(a: Atcrbs, form: Form) -> Data
 }
 
 fn mtd_data(m: Mtd) -> Data
-    ensures { result ≡ dataBy (mtdLayout m) }
+    ensures { result ≡ data_by (mtd_layout m) }
 {
     Data::Seven(
         radar_first(m.test, m.faa),
@@ -404,7 +404,7 @@ fn mtd_data(m: Mtd) -> Data
 }
 
 fn rdas_data(r: Rdas) -> Data
-    ensures { result ≡ dataBy (rdasLayout r) }
+    ensures { result ≡ data_by (rdas_layout r) }
 {
     Data::Seven(
         radar_first(r.test, r.faa),
@@ -418,7 +418,7 @@ fn rdas_data(r: Rdas) -> Data
 }
 
 fn data_of(report: Report, form: Form) -> Data
-    ensures { result ≡ dataBy (layout_of (form_of form) report) }
+    ensures { result ≡ data_by (layout_of (form_of form) report) }
 {
     match report {
         Report::Search(s) => search_data(s),
@@ -444,7 +444,7 @@ fn word_of(data: u32) -> u16
 }
 
 fn four_words(a: u32, b: u32, c: u32, d: u32) -> Written
-    ensures { result ≡ fromData (Data.Four a b c d) }
+    ensures { result ≡ from_data (Data.Four a b c d) }
 {
     let over = a / TOO_LARGE + b / TOO_LARGE + c / TOO_LARGE + d / TOO_LARGE;
     if over != 0 {
@@ -454,7 +454,7 @@ fn four_words(a: u32, b: u32, c: u32, d: u32) -> Written
 }
 
 fn seven_words(a: u32, b: u32, c: u32, d: u32, e: u32, f: u32, g: u32) -> Written
-    ensures { result ≡ fromData (Data.Seven a b c d e f g) }
+    ensures { result ≡ from_data (Data.Seven a b c d e f g) }
 {
     let over = a / TOO_LARGE
         + b / TOO_LARGE

@@ -3,5 +3,5 @@
 use Rattle.reports.specs.Claims.{TwelveBitsAWord}
 use Rattle.reports.proofs.Widths.{twelve}
 
-pub twelve-bits-a-word : TwelveBitsAWord
-twelve-bits-a-word = twelve
+pub twelve_bits_a_word : TwelveBitsAWord
+twelve_bits_a_word = twelve

@@ -18,15 +18,15 @@ use Rattle.reports.specs.declared.Report.TheVariants as R
 use Rattle.reports.specs.declared.RunAnswer.TheVariants.{Accepted}
 use Rattle.reports.specs.declared.Written.TheVariants as W
 use Rattle.reports.specs.Altitude.{AltitudeForm, Sound}
-use Rattle.reports.specs.Forms.{isSeven, wordCount, isSearch, isStrobe, isStatus, isMap, isDabs, isMtdSearch, isRdasSearch}
-use Rattle.reports.specs.Records.{fourOf, sevenOf, reportOf}
-use Rattle.reports.specs.Layouts.{layout_of, words_of, Fits, Takes, asWritten, written}
+use Rattle.reports.specs.Forms.{is_seven, word_count, is_search, is_strobe, is_status, is_map, is_dabs, is_mtd_search, is_rdas_search}
+use Rattle.reports.specs.Records.{four_of, seven_of, report_of}
+use Rattle.reports.specs.Layouts.{layout_of, words_of, Fits, Takes, as_written, written}
 use Rattle.reports.specs.Conditions.{zeros, HasLayout}
-use Rattle.reports.specs.Runs.{readRun}
+use Rattle.reports.specs.Runs.{read_run}
 use Rattle.reports.specs.Claims as claims
 use Rattle.reports.proofs.Tests.{by_cond}
 use Rattle.reports.proofs.Widths.{twelve}
-use Rattle.reports.proofs.Refusals.{accepted-layout, layout-accepted}
+use Rattle.reports.proofs.Refusals.{accepted_layout, layout_accepted}
 use Rattle.reports.proofs.Four as four
 use Rattle.reports.proofs.Seven as seven
 
@@ -36,55 +36,55 @@ use Rattle.reports.proofs.Seven as seven
 abbrev Long : AltitudeForm → ℕ → Report → Type 0
 Long form n r = length (layout_of form r) ≡ n
 
-four-length : (form : AltitudeForm) (ws : List ℕ) → Long form 4 (fourOf ws)
-unfolding fourOf
-four-length form ws =
-    by_cond (Long form 4) (isSearch ws) (λ k. refl)
-    (λ k. by_cond (Long form 4) (isStrobe ws) (λ k. refl)
-    (λ k. by_cond (Long form 4) (isStatus ws) (λ k. refl)
-    (λ k. by_cond (Long form 4) (isMap ws) (λ k. refl) (λ k. refl))))
+four_length : (form : AltitudeForm) (ws : List ℕ) → Long form 4 (four_of ws)
+unfolding four_of
+four_length form ws =
+    by_cond (Long form 4) (is_search ws) (λ k. refl)
+    (λ k. by_cond (Long form 4) (is_strobe ws) (λ k. refl)
+    (λ k. by_cond (Long form 4) (is_status ws) (λ k. refl)
+    (λ k. by_cond (Long form 4) (is_map ws) (λ k. refl) (λ k. refl))))
 
-seven-length : (form : AltitudeForm) (ws : List ℕ) → Long form 7 (sevenOf form ws)
-unfolding sevenOf
-seven-length form ws =
-    by_cond (Long form 7) (isDabs ws) (λ k. refl)
-    (λ k. by_cond (Long form 7) (isMtdSearch ws) (λ k. refl)
-    (λ k. by_cond (Long form 7) (isRdasSearch ws) (λ k. refl) (λ k. refl)))
+seven_length : (form : AltitudeForm) (ws : List ℕ) → Long form 7 (seven_of form ws)
+unfolding seven_of
+seven_length form ws =
+    by_cond (Long form 7) (is_dabs ws) (λ k. refl)
+    (λ k. by_cond (Long form 7) (is_mtd_search ws) (λ k. refl)
+    (λ k. by_cond (Long form 7) (is_rdas_search ws) (λ k. refl) (λ k. refl)))
 
-layout-length : (form : AltitudeForm) (ws : List ℕ) → length ws ≡ wordCount ws → length ws ≡ length (layout_of form (reportOf form ws))
-unfolding reportOf
-layout-length form ws h = go (isSeven ws) h
+layout_length : (form : AltitudeForm) (ws : List ℕ) → length ws ≡ word_count ws → length ws ≡ length (layout_of form (report_of form ws))
+unfolding report_of
+layout_length form ws h = go (is_seven ws) h
   where
-    go : (x : Bool) → length ws ≡ cond x 7 4 → length ws ≡ length (layout_of form (cond x (sevenOf form ws) (fourOf ws)))
-    go true e = e ∙ sym (seven-length form ws)
-    go false e = e ∙ sym (four-length form ws)
+    go : (x : Bool) → length ws ≡ cond x 7 4 → length ws ≡ length (layout_of form (cond x (seven_of form ws) (four_of ws)))
+    go true e = e ∙ sym (seven_length form ws)
+    go false e = e ∙ sym (four_length form ws)
 
-layout-laid : (form : AltitudeForm) → Sound form → (ws : List ℕ) → HasLayout form ws → LaidFrom 1 (layout_of form (reportOf form ws)) ws
-unfolding reportOf zeros
-layout-laid form sound ws h = go (isSeven ws) refl
+layout_laid : (form : AltitudeForm) → Sound form → (ws : List ℕ) → HasLayout form ws → LaidFrom 1 (layout_of form (report_of form ws)) ws
+unfolding report_of zeros
+layout_laid form sound ws h = go (is_seven ws) refl
   where
     none : eqb (zeros ws) 0 ≡ true
     none = not-false _ h.spares
 
-    go : (x : Bool) → isSeven ws ≡ x → LaidFrom 1 (layout_of form (cond x (sevenOf form ws) (fourOf ws))) ws
-    go true s = seven.seven-laid form sound ws (eqb-true _ _ s) h.assigned h.altitude (eqb-true _ _ (simp s at none))
-    go false s = four.four-laid ws (eqb-true _ _ (four.is-four ws s h.known)) form h.known (eqb-true _ _ (simp s at none))
+    go : (x : Bool) → is_seven ws ≡ x → LaidFrom 1 (layout_of form (cond x (seven_of form ws) (four_of ws))) ws
+    go true s = seven.seven_laid form sound ws (eqb-true _ _ s) h.assigned h.altitude (eqb-true _ _ (simp s at none))
+    go false s = four.four_laid ws (eqb-true _ _ (four.is-four ws s h.known)) form h.known (eqb-true _ _ (simp s at none))
 
-layout-words : (form : AltitudeForm) → Sound form → (ws : List ℕ) → HasLayout form ws → (ws ≡ words_of form (reportOf form ws)) × Fits form (reportOf form ws)
-layout-words form sound ws h =
-    words.laid-words (layout_of form (reportOf form ws)) ws (twelve form (reportOf form ws)) h.good (record {
-      whole = layout-length form ws (eqb-true _ _ (not-false _ h.whole));
-      fields = layout-laid form sound ws h;
+layout_words : (form : AltitudeForm) → Sound form → (ws : List ℕ) → HasLayout form ws → (ws ≡ words_of form (report_of form ws)) × Fits form (report_of form ws)
+layout_words form sound ws h =
+    words.laid_words (layout_of form (report_of form ws)) ws (twelve form (report_of form ws)) h.good (record {
+      whole = layout_length form ws (eqb-true _ _ (not-false _ h.whole));
+      fields = layout_laid form sound ws h;
     })
 
 -- ---- words that hold a report's fields have a layout, and are read as that report
 
 abbrev ReadAs : AltitudeForm → List ℕ → Report → Type 0
-ReadAs form ws r = HasLayout form ws × (reportOf form ws ≡ r)
+ReadAs form ws r = HasLayout form ws × (report_of form ws ≡ r)
 
-four-read : (form : AltitudeForm) (ws : List ℕ) (r : Report) → length ws ≡ 4 → AllGood ws → four.Held ws r → ReadAs form ws r
-unfolding reportOf zeros
-four-read form ws r n g h =
+four_read : (form : AltitudeForm) (ws : List ℕ) (r : Report) → length ws ≡ 4 → AllGood ws → four.Held ws r → ReadAs form ws r
+unfolding report_of zeros
+four_read form ws r n g h =
     let two = h.two in (
       record {
         good = g;
@@ -97,9 +97,9 @@ four-read form ws r n g h =
       simp two h.report,
     )
 
-seven-read : (form : AltitudeForm) (ws : List ℕ) (r : Report) → length ws ≡ 7 → AllGood ws → seven.Held form ws r → ReadAs form ws r
-unfolding reportOf zeros
-seven-read form ws r n g h =
+seven_read : (form : AltitudeForm) (ws : List ℕ) (r : Report) → length ws ≡ 7 → AllGood ws → seven.Held form ws r → ReadAs form ws r
+unfolding report_of zeros
+seven_read form ws r n g h =
     let two = h.two in (
       record {
         good = g;
@@ -112,68 +112,68 @@ seven-read form ws r n g h =
       simp two h.report,
     )
 
-laid-read : (form : AltitudeForm) → Sound form → (ws : List ℕ) (r : Report) → AllGood ws → Laid (layout_of form r) ws → ReadAs form ws r
-laid-read form sound ws (R.Search s) g h = four-read form ws (R.Search s) h.whole g (four.search-held ws s h.fields)
-laid-read form sound ws (R.Strobe s) g h = four-read form ws (R.Strobe s) h.whole g (four.strobe-held ws s h.fields)
-laid-read form sound ws (R.Map m) g h = four-read form ws (R.Map m) h.whole g (four.map-held ws m h.fields)
-laid-read form sound ws (R.Status s) g h = four-read form ws (R.Status s) h.whole g (four.status-held ws s h.fields)
-laid-read form sound ws (R.Rtqc s) g h = four-read form ws (R.Rtqc s) h.whole g (four.rtqc-held ws s h.fields)
-laid-read form sound ws (R.Dabs d) g h = seven-read form ws (R.Dabs d) h.whole g (seven.dabs-held form sound ws d h.fields)
-laid-read form sound ws (R.Atcrbs a) g h = seven-read form ws (R.Atcrbs a) h.whole g (seven.atcrbs-held form sound ws a h.fields)
-laid-read form sound ws (R.Mtd m) g h = seven-read form ws (R.Mtd m) h.whole g (seven.mtd-held form sound ws m h.fields)
-laid-read form sound ws (R.Rdas r) g h = seven-read form ws (R.Rdas r) h.whole g (seven.rdas-held form sound ws r h.fields)
+laid_read : (form : AltitudeForm) → Sound form → (ws : List ℕ) (r : Report) → AllGood ws → Laid (layout_of form r) ws → ReadAs form ws r
+laid_read form sound ws (R.Search s) g h = four_read form ws (R.Search s) h.whole g (four.search_held ws s h.fields)
+laid_read form sound ws (R.Strobe s) g h = four_read form ws (R.Strobe s) h.whole g (four.strobe_held ws s h.fields)
+laid_read form sound ws (R.Map m) g h = four_read form ws (R.Map m) h.whole g (four.map_held ws m h.fields)
+laid_read form sound ws (R.Status s) g h = four_read form ws (R.Status s) h.whole g (four.status_held ws s h.fields)
+laid_read form sound ws (R.Rtqc s) g h = four_read form ws (R.Rtqc s) h.whole g (four.rtqc_held ws s h.fields)
+laid_read form sound ws (R.Dabs d) g h = seven_read form ws (R.Dabs d) h.whole g (seven.dabs_held form sound ws d h.fields)
+laid_read form sound ws (R.Atcrbs a) g h = seven_read form ws (R.Atcrbs a) h.whole g (seven.atcrbs_held form sound ws a h.fields)
+laid_read form sound ws (R.Mtd m) g h = seven_read form ws (R.Mtd m) h.whole g (seven.mtd_held form sound ws m h.fields)
+laid_read form sound ws (R.Rdas r) g h = seven_read form ws (R.Rdas r) h.whole g (seven.rdas_held form sound ws r h.fields)
 
-pub words-good : (form : AltitudeForm) (r : Report) → Fits form r → AllGood (words_of form r)
-words-good form r f = words.words-good (layout_of form r) (twelve form r) f
+pub words_good : (form : AltitudeForm) (r : Report) → Fits form r → AllGood (words_of form r)
+words_good form r f = words.words_good (layout_of form r) (twelve form r) f
 
-words-read : (form : AltitudeForm) → Sound form → (r : Report) → Fits form r → ReadAs form (words_of form r) r
-words-read form sound r f = laid-read form sound (words_of form r) r (words-good form r f) (words.words-laid (layout_of form r) (twelve form r) f)
+words_read : (form : AltitudeForm) → Sound form → (r : Report) → Fits form r → ReadAs form (words_of form r) r
+words_read form sound r f = laid_read form sound (words_of form r) r (words_good form r f) (words.words_laid (layout_of form r) (twelve form r) f)
 
-pub words-length : claims.FourOrSeven
-words-length form (R.Search s) = inl refl
-words-length form (R.Strobe s) = inl refl
-words-length form (R.Map m) = inl refl
-words-length form (R.Status s) = inl refl
-words-length form (R.Rtqc s) = inl refl
-words-length form (R.Dabs d) = inr refl
-words-length form (R.Atcrbs a) = inr refl
-words-length form (R.Mtd m) = inr refl
-words-length form (R.Rdas r) = inr refl
+pub words_length : claims.FourOrSeven
+words_length form (R.Search s) = inl refl
+words_length form (R.Strobe s) = inl refl
+words_length form (R.Map m) = inl refl
+words_length form (R.Status s) = inl refl
+words_length form (R.Rtqc s) = inl refl
+words_length form (R.Dabs d) = inr refl
+words_length form (R.Atcrbs a) = inr refl
+words_length form (R.Mtd m) = inr refl
+words_length form (R.Rdas r) = inr refl
 
 -- ---- the law
 
-pub demand-2 : claims.Demand2
-demand-2 form sound ws r = (
+pub demand_2 : claims.Demand2
+demand_2 form sound ws r = (
   λ h.
-      let k = accepted-layout form ws r h in
-      subst (λ (x : Report). (ws ≡ words_of form x) × Fits form x) k.1 (layout-words form sound ws k.0),
+      let k = accepted_layout form ws r h in
+      subst (λ (x : Report). (ws ≡ words_of form x) × Fits form x) k.1 (layout_words form sound ws k.0),
   λ h.
-      let k = words-read form sound r h.1 in
-      subst (λ (l : List ℕ). readRun form l ≡ Accepted r) (sym h.0) (layout-accepted form (words_of form r) k.0 ∙ ap Accepted k.1),
+      let k = words_read form sound r h.1 in
+      subst (λ (l : List ℕ). read_run form l ≡ Accepted r) (sym h.0) (layout_accepted form (words_of form r) k.0 ∙ ap Accepted k.1),
 )
 
 -- ---- what follows from it
 
-pub layout-is-words : claims.LayoutIsWords
-layout-is-words form sound ws = (
-  λ h. let k = layout-words form sound ws h in (reportOf form ws, k.0, k.1),
-  λ h. subst (λ (l : List ℕ). HasLayout form l) (sym h.1) (words-read form sound h.0 h.2).0,
+pub layout_is_words : claims.LayoutIsWords
+layout_is_words form sound ws = (
+  λ h. let k = layout_words form sound ws h in (report_of form ws, k.0, k.1),
+  λ h. subst (λ (l : List ℕ). HasLayout form l) (sym h.1) (words_read form sound h.0 h.2).0,
 )
 
-taken-written : (form : AltitudeForm) (r : Report) → Takes form r → written form r ≡ asWritten (words_of form r)
-taken-written form r t = ap (λ (b : Bool). cond b (asWritten (words_of form r)) (W.Refused ValueTooLarge)) t
+taken_written : (form : AltitudeForm) (r : Report) → Takes form r → written form r ≡ as_written (words_of form r)
+taken_written form r t = ap (λ (b : Bool). cond b (as_written (words_of form r)) (W.Refused ValueTooLarge)) t
 
-pub written-again : claims.WrittenAgain
-written-again form sound ws r h =
-    let k = (demand-2 form sound ws r).0 h in
-    (sym k.0, λ t. taken-written form r t ∙ ap asWritten (sym k.0))
+pub written_again : claims.WrittenAgain
+written_again form sound ws r h =
+    let k = (demand_2 form sound ws r).0 h in
+    (sym k.0, λ t. taken_written form r t ∙ ap as_written (sym k.0))
 
 pub read_back : claims.ReadBack
-read_back form sound r t = (taken-written form r t, (demand-2 form sound (words_of form r) r).1 (refl, t))
+read_back form sound r t = (taken_written form r t, (demand_2 form sound (words_of form r) r).1 (refl, t))
 
-pub takes-what-fits : claims.TakesWhatFits
-takes-what-fits form r f = f
+pub takes_what_fits : claims.TakesWhatFits
+takes_what_fits form r f = f
 
 -- and what the writer takes fits
-pub takes-fits : (form : AltitudeForm) (r : Report) → Takes form r → Fits form r
-takes-fits form r h = h
+pub takes_fits : (form : AltitudeForm) (r : Report) → Takes form r → Fits form r
+takes_fits form r h = h

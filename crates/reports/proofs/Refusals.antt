@@ -7,32 +7,32 @@ use mathlib.Core.List.{List}
 use lib.ListN.{length}
 use Rattle.rows.specs.Claims.{NoneHolds}
 use Rattle.rows.proofs.Claims as law
-use Rattle.words.specs.Word.{tooWide, even, first}
-use Rattle.words.proofs.Faults.{first_good, good-first, not-too-wide, not-even}
+use Rattle.words.specs.Word.{wider_than_a_word, even, first}
+use Rattle.words.proofs.Faults.{first_good, good_first, not_too_wide, not_even}
 use Rattle.reports.specs.declared.Report.{Report}
 use Rattle.reports.specs.declared.RunAnswer.{RunAnswer}
 use Rattle.reports.specs.declared.RunAnswer.TheVariants.{Accepted, Refused}
 use Rattle.reports.specs.Altitude.{AltitudeForm}
-use Rattle.reports.specs.Records.{heightOf, fourOf, sevenOf, reportOf}
-use Rattle.reports.specs.Conditions.{fourZeros, heightSpares, sevenSpares, zeros, HasLayout}
-use Rattle.reports.specs.Runs.{table_of, readRun, isAccepted}
+use Rattle.reports.specs.Records.{height_of, four_of, seven_of, report_of}
+use Rattle.reports.specs.Conditions.{four_zeros, height_spares, seven_spares, zeros, HasLayout}
+use Rattle.reports.specs.Runs.{table_of, read_run, is_accepted}
 use Rattle.reports.specs.Claims.{RefusedExactly, AcceptedExactly, FirstSeven, JudgedIsRead}
 
 -- ---- a refusal
 
-pub refused-exactly : RefusedExactly
-refused-exactly form ws q o = law.refused-exactly RunAnswer isAccepted (table_of form ws) (Accepted (reportOf form ws)) (Refused q o) refl refl
+pub refused_exactly : RefusedExactly
+refused_exactly form ws q o = law.refused_exactly RunAnswer is_accepted (table_of form ws) (Accepted (report_of form ws)) (Refused q o) refl refl
 
 -- ---- a report
 
-accepted-by-rows : (form : AltitudeForm) (ws : List ℕ) (r : Report) → (readRun form ws ≡ Accepted r) ↔ (NoneHolds (table_of form ws) × (Accepted (reportOf form ws) ≡ Accepted r))
-accepted-by-rows form ws r =
-    law.accepted-exactly RunAnswer isAccepted (table_of form ws) (Accepted (reportOf form ws)) (Accepted r) (refl, (refl, (refl, (refl, (refl, (refl, (refl, tt))))))) refl
+accepted_by_rows : (form : AltitudeForm) (ws : List ℕ) (r : Report) → (read_run form ws ≡ Accepted r) ↔ (NoneHolds (table_of form ws) × (Accepted (report_of form ws) ≡ Accepted r))
+accepted_by_rows form ws r =
+    law.accepted_exactly RunAnswer is_accepted (table_of form ws) (Accepted (report_of form ws)) (Accepted r) (refl, (refl, (refl, (refl, (refl, (refl, (refl, tt))))))) refl
 
 -- an accepted run has a layout, and is what it is read as
-pub accepted-layout : (form : AltitudeForm) (ws : List ℕ) (r : Report) → readRun form ws ≡ Accepted r → HasLayout form ws × (reportOf form ws ≡ r)
-accepted-layout form ws r h =
-    let k = (accepted-by-rows form ws r).0 h in
+pub accepted_layout : (form : AltitudeForm) (ws : List ℕ) (r : Report) → read_run form ws ≡ Accepted r → HasLayout form ws × (report_of form ws ≡ r)
+accepted_layout form ws r h =
+    let k = (accepted_by_rows form ws r).0 h in
     let n = k.0 in
     let same = k.1 in (
       record {
@@ -46,19 +46,19 @@ accepted-layout form ws r h =
       cc,
     )
 
-pub layout-accepted : (form : AltitudeForm) (ws : List ℕ) → HasLayout form ws → readRun form ws ≡ Accepted (reportOf form ws)
-layout-accepted form ws h =
-    (accepted-by-rows form ws (reportOf form ws)).1
-    ((good-first tooWide not-too-wide ws h.good, (good-first even not-even ws h.good, (h.known, (h.whole, (h.assigned, (h.spares, (h.altitude, tt))))))), refl)
+pub layout_accepted : (form : AltitudeForm) (ws : List ℕ) → HasLayout form ws → read_run form ws ≡ Accepted (report_of form ws)
+layout_accepted form ws h =
+    (accepted_by_rows form ws (report_of form ws)).1
+    ((good_first wider_than_a_word not_too_wide ws h.good, (good_first even not_even ws h.good, (h.known, (h.whole, (h.assigned, (h.spares, (h.altitude, tt))))))), refl)
 
-pub accepted-exactly : AcceptedExactly
-accepted-exactly form ws = (λ h. (accepted-layout form ws h.0 h.1).0, λ h. (reportOf form ws, layout-accepted form ws h))
+pub accepted_exactly : AcceptedExactly
+accepted_exactly form ws = (λ h. (accepted_layout form ws h.0 h.1).0, λ h. (report_of form ws, layout_accepted form ws h))
 
 -- ---- the first seven words
 
-pub first-seven : FirstSeven
-unfolding heightOf fourOf sevenOf reportOf fourZeros heightSpares sevenSpares zeros
-first-seven form ws n w e = refl
+pub first_seven : FirstSeven
+unfolding height_of four_of seven_of report_of four_zeros height_spares seven_spares zeros
+first_seven form ws n w e = refl
 
-pub judged-is-read : JudgedIsRead
-judged-is-read form ws = first-seven form ws (length ws) (first tooWide ws) (first even ws)
+pub judged_is_read : JudgedIsRead
+judged_is_read form ws = first_seven form ws (length ws) (first wider_than_a_word ws) (first even ws)

@@ -10,19 +10,19 @@ use Rattle.reports.specs.declared.kinds.Kind.{Kind}
 use Rattle.reports.specs.declared.kinds.Kind.TheVariants as K
 
 -- substitution has a name of its own
-abbrev pub dabsKind : Height → Kind
-dabsKind (H.Altitude z) = K.Dabs
-dabsKind (H.Carried n) = K.Dabs
-dabsKind (H.Cd m n) = K.DabsCd
-dabsKind (H.Mtd m n) = K.DabsMtd
-dabsKind (H.Rdas m n) = K.DabsRdas
+abbrev pub dabs_kind : Height → Kind
+dabs_kind (H.Altitude z) = K.Dabs
+dabs_kind (H.Carried n) = K.Dabs
+dabs_kind (H.Cd m n) = K.DabsCd
+dabs_kind (H.Mtd m n) = K.DabsMtd
+dabs_kind (H.Rdas m n) = K.DabsRdas
 
-abbrev pub atcrbsKind : Height → Kind
-atcrbsKind (H.Altitude z) = K.Atcrbs
-atcrbsKind (H.Carried n) = K.Atcrbs
-atcrbsKind (H.Cd m n) = K.AtcrbsCd
-atcrbsKind (H.Mtd m n) = K.AtcrbsMtd
-atcrbsKind (H.Rdas m n) = K.AtcrbsRdas
+abbrev pub atcrbs_kind : Height → Kind
+atcrbs_kind (H.Altitude z) = K.Atcrbs
+atcrbs_kind (H.Carried n) = K.Atcrbs
+atcrbs_kind (H.Cd m n) = K.AtcrbsCd
+atcrbs_kind (H.Mtd m n) = K.AtcrbsMtd
+atcrbs_kind (H.Rdas m n) = K.AtcrbsRdas
 
 abbrev pub kind_of : Report → Kind
 kind_of (R.Search s) = K.Search
@@ -30,24 +30,24 @@ kind_of (R.Strobe s) = K.Strobe
 kind_of (R.Map m) = K.Map
 kind_of (R.Status s) = K.Status
 kind_of (R.Rtqc s) = K.Rtqc
-kind_of (R.Dabs d) = dabsKind d.height
-kind_of (R.Atcrbs a) = atcrbsKind a.height
+kind_of (R.Dabs d) = dabs_kind d.height
+kind_of (R.Atcrbs a) = atcrbs_kind a.height
 kind_of (R.Mtd m) = K.Mtd
 kind_of (R.Rdas r) = K.Rdas
 
-abbrev pub kindNumber : Kind → ℕ
-kindNumber K.Search = 101
-kindNumber K.Strobe = 102
-kindNumber K.Map = 103
-kindNumber K.Status = 104
-kindNumber K.Rtqc = 105
-kindNumber K.Dabs = 106
-kindNumber K.DabsCd = 107
-kindNumber K.DabsMtd = 108
-kindNumber K.DabsRdas = 109
-kindNumber K.Atcrbs = 110
-kindNumber K.AtcrbsCd = 111
-kindNumber K.AtcrbsMtd = 112
-kindNumber K.AtcrbsRdas = 113
-kindNumber K.Mtd = 114
-kindNumber K.Rdas = 115
+abbrev pub kind_number : Kind → ℕ
+kind_number K.Search = 101
+kind_number K.Strobe = 102
+kind_number K.Map = 103
+kind_number K.Status = 104
+kind_number K.Rtqc = 105
+kind_number K.Dabs = 106
+kind_number K.DabsCd = 107
+kind_number K.DabsMtd = 108
+kind_number K.DabsRdas = 109
+kind_number K.Atcrbs = 110
+kind_number K.AtcrbsCd = 111
+kind_number K.AtcrbsMtd = 112
+kind_number K.AtcrbsRdas = 113
+kind_number K.Mtd = 114
+kind_number K.Rdas = 115

@@ -1,7 +1,7 @@
 -- The records by the document's bit numbers: each field is the bits that the table gives it, and the form tells which record it is.
 -- Definitions only.
 use Rattle.std.specs.Prelude.{ℕ, cond, List}
-use Rattle.words.specs.Word.{bits, bit, bitsThen}
+use Rattle.words.specs.Word.{bits, bit, bits_then}
 use Rattle.reports.specs.declared.Search.{Search}
 use Rattle.reports.specs.declared.Strobe.{Strobe}
 use Rattle.reports.specs.declared.Map.{Map}
@@ -16,12 +16,12 @@ use Rattle.reports.specs.declared.Rdas.{Rdas}
 use Rattle.reports.specs.declared.Report.{Report}
 use Rattle.reports.specs.declared.Report.TheVariants as R
 use Rattle.reports.specs.Altitude.{AltitudeForm}
-use Rattle.reports.specs.Forms.{isSeven, isSearch, isStrobe, isStatus, isMap, isDabs, isCd, isMtd, isRdas, isMtdSearch, isRdasSearch}
+use Rattle.reports.specs.Forms.{is_seven, is_search, is_strobe, is_status, is_map, is_dabs, is_cd, is_mtd, is_rdas, is_mtd_search, is_rdas_search}
 
 -- ---- four words
 
-abbrev pub searchOf : List ℕ → Search
-searchOf ws = record {
+abbrev pub search_of : List ℕ → Search
+search_of ws = record {
   test = bit ws 1;
   faa = bit ws 11;
   af = bit ws 12;
@@ -33,8 +33,8 @@ searchOf ws = record {
   time = record { 0 = bits ws 46 51 };
 }
 
-abbrev pub strobeOf : List ℕ → Strobe
-strobeOf ws = record {
+abbrev pub strobe_of : List ℕ → Strobe
+strobe_of ws = record {
   test = bit ws 1;
   faa = bit ws 11;
   af = bit ws 12;
@@ -44,8 +44,8 @@ strobeOf ws = record {
   time = record { 0 = bits ws 47 51 };
 }
 
-abbrev pub mapOf : List ℕ → Map
-mapOf ws = record {
+abbrev pub map_of : List ℕ → Map
+map_of ws = record {
   test = bit ws 1;
   variation = bits ws 9 10;
   faa = bit ws 11;
@@ -55,8 +55,8 @@ mapOf ws = record {
   stop = record { 0 = bits ws 40 50 };
 }
 
-abbrev pub statusOf : List ℕ → Status
-statusOf ws = record {
+abbrev pub status_of : List ℕ → Status
+status_of ws = record {
   test = bit ws 1;
   faa = bit ws 11;
   af = bit ws 12;
@@ -65,8 +65,8 @@ statusOf ws = record {
   fourth = bits ws 40 51;
 }
 
-abbrev pub rtqcOf : List ℕ → Rtqc
-rtqcOf ws = record {
+abbrev pub rtqc_of : List ℕ → Rtqc
+rtqc_of ws = record {
   faa = bit ws 11;
   af = bit ws 12;
   range = record { 0 = bits ws 14 24 };
@@ -78,16 +78,16 @@ rtqcOf ws = record {
 -- ---- seven words
 
 -- bits 79 to 90 of DABS and ATCRBS
-unfoldable pub heightOf : AltitudeForm → List ℕ → Height
-heightOf form ws =
-    cond (isCd ws) (H.Cd (bit ws 6) (record { 0 = bits ws 79 81 }))
-    (cond (isMtd ws) (H.Mtd (bit ws 6) (bits ws 79 80))
-    (cond (isRdas ws) (H.Rdas (bit ws 6) (bits ws 79 82))
+unfoldable pub height_of : AltitudeForm → List ℕ → Height
+height_of form ws =
+    cond (is_cd ws) (H.Cd (bit ws 6) (record { 0 = bits ws 79 81 }))
+    (cond (is_mtd ws) (H.Mtd (bit ws 6) (bits ws 79 80))
+    (cond (is_rdas ws) (H.Rdas (bit ws 6) (bits ws 79 82))
     (cond (bit ws 6) (H.Altitude (form.altitude (bits ws 79 90)))
     (H.Carried (bits ws 79 90)))))
 
-abbrev pub dabsOf : List ℕ → Height → Dabs
-dabsOf ws h = record {
+abbrev pub dabs_of : List ℕ → Height → Dabs
+dabs_of ws h = record {
   test = bit ws 1;
   primary = bit ws 5;
   spi = bit ws 7;
@@ -95,17 +95,17 @@ dabsOf ws h = record {
   code7700 = bit ws 9;
   code7600 = bit ws 10;
   faa = bit ws 11;
-  range = record { 0 = bitsThen ws 14 25 27 29 };
-  azimuth = record { 0 = bitsThen ws 30 38 40 43 };
+  range = record { 0 = bits_then ws 14 25 27 29 };
+  azimuth = record { 0 = bits_then ws 30 38 40 43 };
   alert = bit ws 44;
   relay = bit ws 47;
   time = record { 0 = bits ws 48 51 };
-  address = bitsThen ws 53 64 66 77;
+  address = bits_then ws 53 64 66 77;
   height = h;
 }
 
-abbrev pub atcrbsOf : List ℕ → Height → Atcrbs
-atcrbsOf ws h = record {
+abbrev pub atcrbs_of : List ℕ → Height → Atcrbs
+atcrbs_of ws h = record {
   test = bit ws 1;
   mode3a = bit ws 5;
   spi = bit ws 7;
@@ -113,8 +113,8 @@ atcrbsOf ws h = record {
   code7700 = bit ws 9;
   code7600 = bit ws 10;
   faa = bit ws 11;
-  range = record { 0 = bitsThen ws 14 25 27 29 };
-  azimuth = record { 0 = bitsThen ws 30 38 40 43 };
+  range = record { 0 = bits_then ws 14 25 27 29 };
+  azimuth = record { 0 = bits_then ws 30 38 40 43 };
   confidence = bit ws 44;
   transition = bit ws 45;
   false_target = bit ws 46;
@@ -126,12 +126,12 @@ atcrbsOf ws h = record {
   height = h;
 }
 
-abbrev pub mtdOf : List ℕ → Mtd
-mtdOf ws = record {
+abbrev pub mtd_of : List ℕ → Mtd
+mtd_of ws = record {
   test = bit ws 1;
   faa = bit ws 11;
-  range = record { 0 = bitsThen ws 14 25 27 29 };
-  azimuth = record { 0 = bitsThen ws 30 38 40 43 };
+  range = record { 0 = bits_then ws 14 25 27 29 };
+  azimuth = record { 0 = bits_then ws 30 38 40 43 };
   aims = bit ws 44;
   time = record { 0 = bits ws 46 51 };
   doppler1 = bits ws 53 58;
@@ -143,12 +143,12 @@ mtdOf ws = record {
   ground = bit ws 86;
 }
 
-abbrev pub rdasOf : List ℕ → Rdas
-rdasOf ws = record {
+abbrev pub rdas_of : List ℕ → Rdas
+rdas_of ws = record {
   test = bit ws 1;
   faa = bit ws 11;
-  range = record { 0 = bitsThen ws 14 25 27 29 };
-  azimuth = record { 0 = bitsThen ws 30 38 40 43 };
+  range = record { 0 = bits_then ws 14 25 27 29 };
+  azimuth = record { 0 = bits_then ws 30 38 40 43 };
   aims = bit ws 44;
   time = record { 0 = bits ws 46 51 };
   file = bits ws 66 77;
@@ -158,20 +158,20 @@ rdasOf ws = record {
 
 -- ---- the report that words hold, where they hold one: what the tests leave is an RTQC, and of seven words an ATCRBS
 
-unfoldable pub fourOf : List ℕ → Report
-fourOf ws =
-    cond (isSearch ws) (R.Search (searchOf ws))
-    (cond (isStrobe ws) (R.Strobe (strobeOf ws))
-    (cond (isStatus ws) (R.Status (statusOf ws))
-    (cond (isMap ws) (R.Map (mapOf ws))
-    (R.Rtqc (rtqcOf ws)))))
+unfoldable pub four_of : List ℕ → Report
+four_of ws =
+    cond (is_search ws) (R.Search (search_of ws))
+    (cond (is_strobe ws) (R.Strobe (strobe_of ws))
+    (cond (is_status ws) (R.Status (status_of ws))
+    (cond (is_map ws) (R.Map (map_of ws))
+    (R.Rtqc (rtqc_of ws)))))
 
-unfoldable pub sevenOf : AltitudeForm → List ℕ → Report
-sevenOf form ws =
-    cond (isDabs ws) (R.Dabs (dabsOf ws (heightOf form ws)))
-    (cond (isMtdSearch ws) (R.Mtd (mtdOf ws))
-    (cond (isRdasSearch ws) (R.Rdas (rdasOf ws))
-    (R.Atcrbs (atcrbsOf ws (heightOf form ws)))))
+unfoldable pub seven_of : AltitudeForm → List ℕ → Report
+seven_of form ws =
+    cond (is_dabs ws) (R.Dabs (dabs_of ws (height_of form ws)))
+    (cond (is_mtd_search ws) (R.Mtd (mtd_of ws))
+    (cond (is_rdas_search ws) (R.Rdas (rdas_of ws))
+    (R.Atcrbs (atcrbs_of ws (height_of form ws)))))
 
-unfoldable pub reportOf : AltitudeForm → List ℕ → Report
-reportOf form ws = cond (isSeven ws) (sevenOf form ws) (fourOf ws)
+unfoldable pub report_of : AltitudeForm → List ℕ → Report
+report_of form ws = cond (is_seven ws) (seven_of form ws) (four_of ws)

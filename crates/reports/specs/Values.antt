@@ -13,16 +13,16 @@ pub data Counted : Type 0 where
   none : Counted
 
 -- a Map has no time and gives 0; its range is the start. Status has none of them
-abbrev pub countedOf : Report → Counted
-countedOf (R.Search s) = counts (s.range.0 * weight.coarseRange) (s.azimuth.0 * weight.coarseAzimuth) (s.time.0 * weight.time)
-countedOf (R.Strobe s) = counts (s.range.0 * weight.coarseRange) (s.azimuth.0 * weight.coarseAzimuth) (s.time.0 * weight.time)
-countedOf (R.Map m) = counts (m.start.0 * weight.coarseRange) (m.azimuth.0 * weight.coarseAzimuth) 0
-countedOf (R.Status s) = none
-countedOf (R.Rtqc s) = counts (s.range.0 * weight.coarseRange) (s.azimuth.0 * weight.coarseAzimuth) (s.time.0 * weight.time)
-countedOf (R.Dabs d) = counts (d.range.0 * weight.fineRange) (d.azimuth.0 * weight.fineAzimuth) (d.time.0 * weight.time)
-countedOf (R.Atcrbs a) = counts (a.range.0 * weight.fineRange) (a.azimuth.0 * weight.fineAzimuth) (a.time.0 * weight.time)
-countedOf (R.Mtd m) = counts (m.range.0 * weight.fineRange) (m.azimuth.0 * weight.fineAzimuth) (m.time.0 * weight.time)
-countedOf (R.Rdas r) = counts (r.range.0 * weight.fineRange) (r.azimuth.0 * weight.fineAzimuth) (r.time.0 * weight.time)
+abbrev pub counted_of : Report → Counted
+counted_of (R.Search s) = counts (s.range.0 * weight.coarse_range) (s.azimuth.0 * weight.coarse_azimuth) (s.time.0 * weight.time)
+counted_of (R.Strobe s) = counts (s.range.0 * weight.coarse_range) (s.azimuth.0 * weight.coarse_azimuth) (s.time.0 * weight.time)
+counted_of (R.Map m) = counts (m.start.0 * weight.coarse_range) (m.azimuth.0 * weight.coarse_azimuth) 0
+counted_of (R.Status s) = none
+counted_of (R.Rtqc s) = counts (s.range.0 * weight.coarse_range) (s.azimuth.0 * weight.coarse_azimuth) (s.time.0 * weight.time)
+counted_of (R.Dabs d) = counts (d.range.0 * weight.fine_range) (d.azimuth.0 * weight.fine_azimuth) (d.time.0 * weight.time)
+counted_of (R.Atcrbs a) = counts (a.range.0 * weight.fine_range) (a.azimuth.0 * weight.fine_azimuth) (a.time.0 * weight.time)
+counted_of (R.Mtd m) = counts (m.range.0 * weight.fine_range) (m.azimuth.0 * weight.fine_azimuth) (m.time.0 * weight.time)
+counted_of (R.Rdas r) = counts (r.range.0 * weight.fine_range) (r.azimuth.0 * weight.fine_azimuth) (r.time.0 * weight.time)
 
 -- the values are these counts, exactly
 abbrev pub Yields : Counted → Values → Type 0

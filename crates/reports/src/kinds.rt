@@ -1,7 +1,7 @@
 // The lister's name of each report: nine kinds, and DABS and ATCRBS once more for each radar that may stand in for the height.
 // Relies on the records of the crate.
 ghost use Rattle.std.specs.Prelude.{◌≡◌};
-ghost use Rattle.reports.specs.Kinds.{dabsKind, atcrbsKind, kind_of, kindNumber};
+ghost use Rattle.reports.specs.Kinds.{dabs_kind, atcrbs_kind, kind_of, kind_number};
 
 use crate::{Height, Report};
 
@@ -58,7 +58,7 @@ pub const RDAS: u32 = 115;
 
 impl Kind {
     pub fn number(self) -> u8
-        ensures { result ≡ kindNumber self }
+        ensures { result ≡ kind_number self }
     {
         match self {
             Kind::Search => SEARCH as u8,
@@ -82,7 +82,7 @@ impl Kind {
 
 // A DABS report's kind, by what stands in bits 79 to 90.
 fn dabs_kind(height: Height) -> Kind
-    ensures { result ≡ dabsKind height }
+    ensures { result ≡ dabs_kind height }
 {
     match height {
         Height::Altitude(_) => Kind::Dabs,
@@ -101,7 +101,7 @@ fn dabs_kind(height: Height) -> Kind
 
 // An ATCRBS report's kind, by what stands in bits 79 to 90.
 fn atcrbs_kind(height: Height) -> Kind
-    ensures { result ≡ atcrbsKind height }
+    ensures { result ≡ atcrbs_kind height }
 {
     match height {
         Height::Altitude(_) => Kind::Atcrbs,

@@ -1,6 +1,6 @@
 // Range in nmi, azimuth in degrees and time in seconds of each report that has them, exactly. Status has none, and says so.
 // Relies on the records of the crate, and on measures.
-ghost use Rattle.reports.specs.Values.{countedOf, Yields};
+ghost use Rattle.reports.specs.Values.{counted_of, Yields};
 
 use crate::Report;
 use measures::{Measured, Time};
@@ -12,7 +12,7 @@ pub enum Values {
 }
 
 pub fn values_of(report: Report) -> Values
-    ensures { Yields (countedOf report) result }
+    ensures { Yields (counted_of report) result }
 {
     match report {
         Report::Search(s) => Values::Measured(Measured::coarse(s.range, s.azimuth, s.time)),

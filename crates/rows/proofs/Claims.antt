@@ -21,32 +21,32 @@ module _ {A : Type 0} (accepts : A → Bool) where
   step true x y a e = inl (refl, e)
   step false x y a e = inr (refl, e)
 
-  refused-first : (rows : List (Row A)) (other a : A) → accepts other ≡ true → accepts a ≡ false → first_of rows other ≡ a → FirstIs rows a
-  refused-first [] other a good bad e = apart other a good bad e
-  refused-first (x ∷ rows) other a good bad e =
-      ⊎_elim (λ k. inl k) (λ k. inr (k.0, refused-first rows other a good bad k.1)) (step x.holds x.answer (first_of rows other) a e)
+  refused_first : (rows : List (Row A)) (other a : A) → accepts other ≡ true → accepts a ≡ false → first_of rows other ≡ a → FirstIs rows a
+  refused_first [] other a good bad e = apart other a good bad e
+  refused_first (x ∷ rows) other a good bad e =
+      ⊎_elim (λ k. inl k) (λ k. inr (k.0, refused_first rows other a good bad k.1)) (step x.holds x.answer (first_of rows other) a e)
 
-  first-refused : (rows : List (Row A)) (other a : A) → FirstIs rows a → first_of rows other ≡ a
-  first-refused [] other a h = absurd h
-  first-refused (x ∷ rows) other a (inl k) = rw k.0 k.1
-  first-refused (x ∷ rows) other a (inr k) = rw k.0 (first-refused rows other a k.1)
+  first_refused : (rows : List (Row A)) (other a : A) → FirstIs rows a → first_of rows other ≡ a
+  first_refused [] other a h = absurd h
+  first_refused (x ∷ rows) other a (inl k) = rw k.0 k.1
+  first_refused (x ∷ rows) other a (inr k) = rw k.0 (first_refused rows other a k.1)
 
-  accepted-none : (rows : List (Row A)) (other a : A) → Refusing accepts rows → accepts a ≡ true → first_of rows other ≡ a → NoneHolds rows × (other ≡ a)
-  accepted-none [] other a bad good e = (tt, e)
-  accepted-none (x ∷ rows) other a bad good e =
+  accepted_none : (rows : List (Row A)) (other a : A) → Refusing accepts rows → accepts a ≡ true → first_of rows other ≡ a → NoneHolds rows × (other ≡ a)
+  accepted_none [] other a bad good e = (tt, e)
+  accepted_none (x ∷ rows) other a bad good e =
       ⊎_elim (λ k. apart a x.answer good bad.0 (sym k.1))
-      (λ k. let m = accepted-none rows other a bad.1 good k.1 in ((k.0, m.0), m.1))
+      (λ k. let m = accepted_none rows other a bad.1 good k.1 in ((k.0, m.0), m.1))
       (step x.holds x.answer (first_of rows other) a e)
 
-  none-accepted : (rows : List (Row A)) (other a : A) → NoneHolds rows → other ≡ a → first_of rows other ≡ a
-  none-accepted [] other a h e = e
-  none-accepted (x ∷ rows) other a h e = rw h.0 (none-accepted rows other a h.1 e)
+  none_accepted : (rows : List (Row A)) (other a : A) → NoneHolds rows → other ≡ a → first_of rows other ≡ a
+  none_accepted [] other a h e = e
+  none_accepted (x ∷ rows) other a h e = rw h.0 (none_accepted rows other a h.1 e)
 
-pub refused-exactly : RefusedExactly
-refused-exactly A accepts rows other a good bad = (refused-first accepts rows other a good bad, first-refused accepts rows other a)
+pub refused_exactly : RefusedExactly
+refused_exactly A accepts rows other a good bad = (refused_first accepts rows other a good bad, first_refused accepts rows other a)
 
-pub accepted-exactly : AcceptedExactly
-accepted-exactly A accepts rows other a bad good = (accepted-none accepts rows other a bad good, λ h. none-accepted accepts rows other a h.0 h.1)
+pub accepted_exactly : AcceptedExactly
+accepted_exactly A accepts rows other a bad good = (accepted_none accepts rows other a bad good, λ h. none_accepted accepts rows other a h.0 h.1)
 
 pub joined : Joined
 joined A [] more other = refl

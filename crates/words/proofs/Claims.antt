@@ -9,26 +9,26 @@ use native.Mathlib.Omega.{arith}
 use lib.Count.{ones, ones_step}
 use lib.Dec.{eqb, lit<}
 use lib.Pow.{shr-shr}
-use Rattle.words.specs.Word.{idle, largest, dataBits, bits, onesTo, Good, AllGood}
+use Rattle.words.specs.Word.{idle, largest, data_bits, bits, ones_to, Good, AllGood}
 use Rattle.words.specs.Layout.{Laid}
 use Rattle.words.specs.Claims.{IdleIsEven, NoReportWordIsIdle, OneWordForData, OnesByBits, OddByBits, FlipTurnsParity, LaidOut}
-use Rattle.words.proofs.Parity.{zero-ones, turned}
-use Rattle.words.proofs.Layouts.{data-of-word, word-of-data, word_good, same_digits, laid-words, words-laid, words-good}
+use Rattle.words.proofs.Parity.{zero_ones, turned}
+use Rattle.words.proofs.Layouts.{data_of_word, word_of_data, word_good, same_digits, laid_words, words_laid, words_good}
 
-idle-ones : ones idle ≡ 10
+idle_ones : ones idle ≡ 10
 unfolding ones
-idle-ones = refl
+idle_ones = refl
 
-pub idle-is-even : IdleIsEven
-idle-is-even = ap (λ (n : ℕ). not (eqb (n % 2) 1)) idle-ones
+pub idle_is_even : IdleIsEven
+idle_is_even = ap (λ (n : ℕ). not (eqb (n % 2) 1)) idle_ones
 
-pub no-report-word-is-idle : NoReportWordIsIdle
-no-report-word-is-idle w g e = let p = g.parity in omega (arith, ap ones e, idle-ones)
+pub no_report_word_is_idle : NoReportWordIsIdle
+no_report_word_is_idle w g e = let p = g.parity in omega (arith, ap ones e, idle_ones)
 
-pub one-word-for-data : OneWordForData
-one-word-for-data d w h = (
-  λ g. word-of-data w d g.0 g.1,
-  λ e. (subst Good (sym e) (word_good d h), ap dataBits e ∙ data-of-word d),
+pub one_word_for_data : OneWordForData
+one_word_for_data d w h = (
+  λ g. word_of_data w d g.0 g.1,
+  λ e. (subst Good (sym e) (word_good d h), ap data_bits e ∙ data_of_word d),
 )
 
 -- bit k + 1 of one word
@@ -36,9 +36,9 @@ one_bit : (w k : ℕ) → k < 13 → bits (w ∷ []) (suc k) (suc k) ≡ w / 2 ^
 one_bit w k h = same_digits (w ∷ []) {i = (suc k - 1) / 13} {j = 0} {t = 13 - suc k} {n = 1} (omega arith) (omega arith) (omega arith)
 
 -- bits 1 to k are what stands above the other 13 - k
-ones-to : (w k : ℕ) → w ≤ largest → k ≤ 13 → onesTo k (w ∷ []) ≡ ones (w / 2 ^ (13 - k))
-unfolding onesTo
-ones-to w zero h g = sym (ap ones (let e : w / 8192 ≡ 0 = omega arith in e) ∙ zero-ones)
+ones-to : (w k : ℕ) → w ≤ largest → k ≤ 13 → ones_to k (w ∷ []) ≡ ones (w / 2 ^ (13 - k))
+unfolding ones_to
+ones-to w zero h g = sym (ap ones (let e : w / 8192 ≡ 0 = omega arith in e) ∙ zero_ones)
 ones-to w (suc k) h g =
     ap₂ (λ (x y : ℕ). x + y) (ones-to w k h (omega arith)) (one_bit w k (omega arith))
     ∙ next (13 - suc k) (13 - k) (omega arith)
@@ -46,14 +46,14 @@ ones-to w (suc k) h g =
     next : (d e : ℕ) → e ≡ d + 1 → ones (w / 2 ^ e) + w / 2 ^ d % 2 ≡ ones (w / 2 ^ d)
     next d e p = rw p (omega (arith, ones_step (w / 2 ^ d), ap ones (shr-shr w d 1)))
 
-pub ones-by-bits : OnesByBits
-ones-by-bits w h = sym (ones-to w 13 h (omega arith) ∙ ap ones (let e : w / 1 ≡ w = omega arith in e))
+pub ones_by_bits : OnesByBits
+ones_by_bits w h = sym (ones-to w 13 h (omega arith) ∙ ap ones (let e : w / 1 ≡ w = omega arith in e))
 
-pub odd-by-bits : OddByBits
-odd-by-bits w h = ap (λ (n : ℕ). eqb (n % 2) 1) (ones-by-bits w h)
+pub odd_by_bits : OddByBits
+odd_by_bits w h = ap (λ (n : ℕ). eqb (n % 2) 1) (ones_by_bits w h)
 
-pub flip-turns-parity : FlipTurnsParity
-flip-turns-parity k w = ap (λ (n : ℕ). eqb n 1) (turned (13 - k) w) ∙ digit (ones w % 2) (mod-lt (ones w) (lit< tt))
+pub flip_turns_parity : FlipTurnsParity
+flip_turns_parity k w = ap (λ (n : ℕ). eqb n 1) (turned (13 - k) w) ∙ digit (ones w % 2) (mod-lt (ones w) (lit< tt))
   where
     digit : (n : ℕ) → n < 2 → eqb (1 - n) 1 ≡ not (eqb n 1)
     digit zero h = refl
@@ -62,6 +62,6 @@ flip-turns-parity k w = ap (λ (n : ℕ). eqb n 1) (turned (13 - k) w) ∙ digit
 
 pub laid_out : LaidOut
 laid_out l ws t = (
-  λ h. laid-words l ws t h.0 h.1,
-  λ h. (subst AllGood (sym h.0) (words-good l t h.1), subst (Laid l) (sym h.0) (words-laid l t h.1)),
+  λ h. laid_words l ws t h.0 h.1,
+  λ h. (subst AllGood (sym h.0) (words_good l t h.1), subst (Laid l) (sym h.0) (words_laid l t h.1)),
 )

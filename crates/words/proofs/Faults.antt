@@ -9,7 +9,7 @@ use borrow.Author.Tests.{eqb-true, eq-eqb, ltb-false, le-ltb, not-false}
 use lib.Count.{ones}
 use lib.Dec.{ltb, leb-suc-suc}
 use lib.ListN.{length}
-use Rattle.words.specs.Word.{largest, tooWide, odd, even, Good, AllGood, first}
+use Rattle.words.specs.Word.{largest, wider_than_a_word, odd, even, Good, AllGood, first}
 
 -- no word has the fault p
 abbrev pub NoneHas : (ℕ → Bool) → List ℕ → Type 0
@@ -21,10 +21,10 @@ unfolding first
 none_first p [] h = refl
 none_first p (w ∷ ws) h = rw (h.0, leb-suc-suc (suc (first p ws)) (length ws)) (none_first p ws h.1)
 
-pub first-none : (p : ℕ → Bool) (ws : List ℕ) → ltb (first p ws) (length ws) ≡ false → NoneHas p ws
+pub first_none : (p : ℕ → Bool) (ws : List ℕ) → ltb (first p ws) (length ws) ≡ false → NoneHas p ws
 unfolding first
-first-none p [] h = tt
-first-none p (w ∷ ws) h = go (p w) refl h (first-none p ws)
+first_none p [] h = tt
+first_none p (w ∷ ws) h = go (p w) refl h (first_none p ws)
   where
     go : (b : Bool) → p w ≡ b → ltb (cond b 0 (suc (first p ws))) (suc (length ws)) ≡ false
         → (ltb (first p ws) (length ws) ≡ false → NoneHas p ws) → NoneHas p (w ∷ ws)
@@ -33,26 +33,26 @@ first-none p (w ∷ ws) h = go (p w) refl h (first-none p ws)
 
 -- ---- one word
 
-good_of : (w : ℕ) → tooWide w ≡ false → even w ≡ false → Good w
+good_of : (w : ℕ) → wider_than_a_word w ≡ false → even w ≡ false → Good w
 good_of w p q = record { narrow = ltb-false largest w p; parity = eqb-true (ones w % 2) 1 (not-false (odd w) q) }
 
-pub not-too-wide : (w : ℕ) → Good w → tooWide w ≡ false
-not-too-wide w g = le-ltb largest w g.narrow
+pub not_too_wide : (w : ℕ) → Good w → wider_than_a_word w ≡ false
+not_too_wide w g = le-ltb largest w g.narrow
 
-pub not-even : (w : ℕ) → Good w → even w ≡ false
-not-even w g = rw (eq-eqb (ones w % 2) 1 g.parity)
+pub not_even : (w : ℕ) → Good w → even w ≡ false
+not_even w g = rw (eq-eqb (ones w % 2) 1 g.parity)
 
 -- ---- all of them
 
-pub first_good : (ws : List ℕ) → ltb (first tooWide ws) (length ws) ≡ false → ltb (first even ws) (length ws) ≡ false → AllGood ws
-first_good ws p q = go ws (first-none tooWide ws p) (first-none even ws q)
+pub first_good : (ws : List ℕ) → ltb (first wider_than_a_word ws) (length ws) ≡ false → ltb (first even ws) (length ws) ≡ false → AllGood ws
+first_good ws p q = go ws (first_none wider_than_a_word ws p) (first_none even ws q)
   where
-    go : (ws : List ℕ) → NoneHas tooWide ws → NoneHas even ws → AllGood ws
+    go : (ws : List ℕ) → NoneHas wider_than_a_word ws → NoneHas even ws → AllGood ws
     go [] p q = tt
     go (w ∷ ws) p q = (good_of w p.0 q.0, go ws p.1 q.1)
 
-pub good-first : (p : ℕ → Bool) → ((w : ℕ) → Good w → p w ≡ false) → (ws : List ℕ) → AllGood ws → ltb (first p ws) (length ws) ≡ false
-good-first p each ws h = none_first p ws (go ws h)
+pub good_first : (p : ℕ → Bool) → ((w : ℕ) → Good w → p w ≡ false) → (ws : List ℕ) → AllGood ws → ltb (first p ws) (length ws) ≡ false
+good_first p each ws h = none_first p ws (go ws h)
   where
     go : (ws : List ℕ) → AllGood ws → NoneHas p ws
     go [] h = tt

@@ -9,9 +9,9 @@ pub passed : {X : Type 0} (a b : X) {t : Bool} → t ≡ false → cond t a b �
 passed a b e = rw e
 
 -- a test holds or it does not
-pub by-test : {X : Type 0} (t : Bool) → (t ≡ true → X) → (t ≡ false → X) → X
-by-test true f g = f refl
-by-test false f g = g refl
+pub by_test : {X : Type 0} (t : Bool) → (t ≡ true → X) → (t ≡ false → X) → X
+by_test true f g = f refl
+by_test false f g = g refl
 
 -- a test whose contrary does not hold does
 pub holds : (t : Bool) → not t ≡ false → t ≡ true

@@ -48,9 +48,9 @@ abbrev pub joined : List Field → ℕ
 joined [] = 0
 joined (f ∷ fs) = value f * 2 ^ span fs + joined fs
 
-abbrev pub fittingAll : List Field → Bool
-fittingAll [] = true
-fittingAll (f ∷ fs) = cond (fitting f) (fittingAll fs) false
+abbrev pub fitting_all : List Field → Bool
+fitting_all [] = true
+fitting_all (f ∷ fs) = cond (fitting f) (fitting_all fs) false
 
 -- they stand in the words from bit a on, each where the one before it ends
 abbrev pub StandFrom : ℕ → List Field → List ℕ → Type 0
@@ -60,19 +60,19 @@ StandFrom a (f ∷ fs) ws = (bits ws a (a + width f - 1) ≡ value f) × StandFr
 -- ---- a report's words
 
 -- the words that a layout makes
-abbrev pub wordsBy : List (List Field) → List ℕ
-wordsBy [] = []
-wordsBy (fs ∷ l) = word_of (joined fs) ∷ wordsBy l
+abbrev pub words_by : List (List Field) → List ℕ
+words_by [] = []
+words_by (fs ∷ l) = word_of (joined fs) ∷ words_by l
 
 -- every value fits its field
-abbrev pub fittingBy : List (List Field) → Bool
-fittingBy [] = true
-fittingBy (fs ∷ l) = cond (fittingAll fs) (fittingBy l) false
+abbrev pub fitting_by : List (List Field) → Bool
+fitting_by [] = true
+fitting_by (fs ∷ l) = cond (fitting_all fs) (fitting_by l) false
 
 -- every word has all of its twelve data bits laid out
-abbrev pub twelveEach : List (List Field) → Bool
-twelveEach [] = true
-twelveEach (fs ∷ l) = cond (eqb (span fs) 12) (twelveEach l) false
+abbrev pub twelve_each : List (List Field) → Bool
+twelve_each [] = true
+twelve_each (fs ∷ l) = cond (eqb (span fs) 12) (twelve_each l) false
 
 -- the fields stand where the layout has them: a word's begin thirteen bits after those of the word before
 abbrev pub LaidFrom : ℕ → List (List Field) → List ℕ → Type 0

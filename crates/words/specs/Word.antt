@@ -15,8 +15,8 @@ abbrev pub largest : ℕ
 largest = 8191
 
 -- more than thirteen bits
-abbrev pub tooWide : ℕ → Bool
-tooWide w = ltb largest w
+abbrev pub wider_than_a_word : ℕ → Bool
+wider_than_a_word w = ltb largest w
 
 -- an odd number of ones
 abbrev pub odd : ℕ → Bool
@@ -27,8 +27,8 @@ abbrev pub even : ℕ → Bool
 even w = not (odd w)
 
 -- bits 1 to 12, which are the data; in a word that is too wide, whatever stands above bit 1 too
-abbrev pub dataBits : ℕ → ℕ
-dataBits w = w / 2
+abbrev pub data_bits : ℕ → ℕ
+data_bits w = w / 2
 
 -- the word of its data bits: bit 13 is one where their number of ones is even
 abbrev pub word_of : ℕ → ℕ
@@ -63,10 +63,10 @@ abbrev pub bit : List ℕ → ℕ → Bool
 bit ws a = eqb (bits ws a a) 1
 
 -- how many of a report's bits 1 to k are one, parity bits counted
-unfoldable pub onesTo : ℕ → List ℕ → ℕ
-onesTo zero ws = 0
-onesTo (suc k) ws = onesTo k ws + bits ws (suc k) (suc k)
+unfoldable pub ones_to : ℕ → List ℕ → ℕ
+ones_to zero ws = 0
+ones_to (suc k) ws = ones_to k ws + bits ws (suc k) (suc k)
 
 -- bits a to b and then bits c to d, as one number: a number that a parity bit divides
-abbrev pub bitsThen : List ℕ → ℕ → ℕ → ℕ → ℕ → ℕ
-bitsThen ws a b c d = bits ws a b * 2 ^ (d + 1 - c) + bits ws c d
+abbrev pub bits_then : List ℕ → ℕ → ℕ → ℕ → ℕ → ℕ
+bits_then ws a b c d = bits ws a b * 2 ^ (d + 1 - c) + bits ws c d

@@ -1,7 +1,7 @@
 // The 13-bit word of a line (document 01, "The line"): idle, too wide, odd or even, and the word of its data bits.
 // Every function takes every u16. Relies on nothing; specs/Word.antt says what each answer means.
 ghost use Rattle.std.specs.Prelude.{◌≡◌, eqb};
-ghost use Rattle.words.specs.Word.{idle, tooWide, odd, word_of};
+ghost use Rattle.words.specs.Word.{idle, wider_than_a_word, odd, word_of};
 
 pub mod weights; // weights.rt: the bits of a word by name
 
@@ -19,7 +19,7 @@ pub fn is_idle(w: u16) -> bool
 }
 
 pub fn is_too_wide(w: u16) -> bool
-    ensures { result ≡ tooWide w }
+    ensures { result ≡ wider_than_a_word w }
 {
     w > LARGEST
 }

@@ -43,13 +43,13 @@ use denote.Exit.{yes}
 use Rattle.reports.specs.Altitude.{chosen}
 use Rattle.index.specs.declared.Entry.{Entry}
 use Rattle.index.specs.declared.Indexed.{Indexed}
-use Rattle.index.specs.Indexing.{Indexes, indexed, leftBy}
-use Rattle.index.proofs.Calls.{Back, Given-back, gets-value, gets-lent, typed-entry, typed-indexed}
+use Rattle.index.specs.Indexing.{Indexes, indexed, left_as}
+use Rattle.index.proofs.Calls.{Back, Given-back, gets_value, gets_lent, typed_entry, typed_indexed}
 use Rattle.index.specs.contracts.Entry as T
 use Rattle.index.proofs.Entry.TheLaws as T'
 use Rattle.index.specs.contracts.Indexed as E
 use Rattle.index.proofs.Indexed.TheLaws as E'
-use Rattle.index_host.specs.Calls.{answerNumber, entry_at, Enters}
+use Rattle.index_host.specs.Calls.{answer_number, entry_at, Enters}
 use Rattle.index_host.specs.contracts.brought as brought'
 use Rattle.index_host.proofs.brought.Symbol as brought-def
 use Rattle.index_host.proofs.brought.Symbol.{name as #index_host·brought}
@@ -78,11 +78,11 @@ Arg = Bor (List Entry) × (Bor (List ℕ) × (ℕ × (ℕ × (ℕ × (ℕ × Uni
 
 -- what the callees give, one after the other, is what the contract says
 told : (ys : List Entry) (bs : List ℕ) (place form link scan : ℕ) (e : Entry) (r : Indexed) (zs : List Entry) (k : ℕ)
-    → e ≡ entry_at (chosen form) link bs place scan → Indexes ys e r zs → k ≡ answerNumber r → Enters (chosen form) link ys bs place scan k zs
+    → e ≡ entry_at (chosen form) link bs place scan → Indexes ys e r zs → k ≡ answer_number r → Enters (chosen form) link ys bs place scan k zs
 told ys bs place form link scan e r zs k is-e is-r is-k =
     record {
-      answers = is-k ∙ ap answerNumber is-r.answers ∙ ap (λ (d : Entry). answerNumber (indexed ys d.number)) is-e;
-      leaves = is-r.leaves ∙ ap (λ (d : Entry). leftBy (indexed ys d.number) ys d) is-e;
+      answers = is-k ∙ ap answer_number is-r.answers ∙ ap (λ (d : Entry). answer_number (indexed ys d.number)) is-e;
+      leaves = is-r.leaves ∙ ap (λ (d : Entry). left_as (indexed ys d.number) ys d) is-e;
     }
 
 module _ {M : Type 1} {𝓤 : Ura M} (𝓛 : Logic 𝓤) (mem : Memory → SProp 𝓤) (run : Routine → Fun 𝓤) where
@@ -136,7 +136,7 @@ module _ {M : Type 1} {𝓤 : Ura M} (𝓛 : Logic 𝓤) (mem : Memory → SProp
 
     gets-brought : (w : Val) → ent 𝓤 ((Brought 𝓛 mem run).post to-brought w) (H.⇛ (ex 𝓤 (λ (e : Entry). guard 𝓤 (Back R (λ d. d ≡ new) w e) (A.lft κ' q'))))
     gets-brought w =
-        gets-lent 𝓛 κ' q' R (λ e. ensured 𝓛 brought'.ended (brought'.clauses 𝓛 mem run) (κ', tt) (x₀.1.0, (place, (form, (link, (scan, tt))))) tt e) (λ d. d ≡ new)
+        gets_lent 𝓛 κ' q' R (λ e. ensured 𝓛 brought'.ended (brought'.clauses 𝓛 mem run) (κ', tt) (x₀.1.0, (place, (form, (link, (scan, tt))))) tt e) (λ d. d ≡ new)
         (λ e. ex_e 𝓤 _ (λ ws. snd∗ 𝓤 (sem 𝓛 (lasts brought'.ended (κ', tt) (x₀.1.0, (place, (form, (link, (scan, tt))))) ws)) (fact 𝓤 (e ≡ new)))) w
 
     -- `enter`, at the table's own lifetime, share and name
@@ -170,10 +170,10 @@ module _ {M : Type 1} {𝓤 : Ura M} (𝓛 : Logic 𝓤) (mem : Memory → SProp
     goes-answer-number : (r : Indexed) (vr : Val) → Is E.the_row r (vr ∷ []) → ent 𝓤 (emp 𝓤) ((Answer-number 𝓛 mem run).pre (to-answer-number r vr))
     goes-answer-number r vr is-r = qed 𝓛 [] ∵ nothing ! $ owned ! E.the_row (Is E.the_row) ((EL.makes E.the_type E'.the_plain) 𝓛) r (vr ∷ []) is-r $ fjoin ! $ nothing ! $ join ! $ frame ! $ done !
 
-    gets-answer-number : (r : Indexed) (vr w : Val) → ent 𝓤 ((Answer-number 𝓛 mem run).post (to-answer-number r vr) w) (H.⇛ (Given-back 𝓤 u32 (λ k. k ≡ answerNumber r) w))
+    gets-answer-number : (r : Indexed) (vr w : Val) → ent 𝓤 ((Answer-number 𝓛 mem run).post (to-answer-number r vr) w) (H.⇛ (Given-back 𝓤 u32 (λ k. k ≡ answer_number r) w))
     gets-answer-number r vr w =
-        gets-value 𝓛 u32 (λ k. ensured 𝓛 answer-number'.ended (answer-number'.clauses 𝓛 mem run) tt (r, tt) tt k) (λ k. k ≡ answerNumber r)
-        (λ k. ex_e 𝓤 _ (λ ws. snd∗ 𝓤 (sem 𝓛 (lasts answer-number'.ended tt (r, tt) ws)) (fact 𝓤 (k ≡ answerNumber r)))) w
+        gets_value 𝓛 u32 (λ k. ensured 𝓛 answer-number'.ended (answer-number'.clauses 𝓛 mem run) tt (r, tt) tt k) (λ k. k ≡ answer_number r)
+        (λ k. ex_e 𝓤 _ (λ ws. snd∗ 𝓤 (sem 𝓛 (lasts answer-number'.ended tt (r, tt) ws)) (fact 𝓤 (k ≡ answer_number r)))) w
 
     exits : (k : ℕ) (w : Val) → Is u32 k (w ∷ []) → (zs : List Entry) → Enters (chosen form) link ys bs place scan k zs → length zs ≡ length ys
         → ent 𝓤 (⋆ 𝓛 (‵ (flft κ q) ∷ ‵ (finally R γ zs) ∷ ‵ (flft κ' q') ∷ ‵ Own ∷ [])) (Post w)
@@ -199,17 +199,17 @@ module _ {M : Type 1} {𝓤 : Ura M} (𝓛 : Logic 𝓤) (mem : Memory → SProp
           use2 𝓛 (raw ((Brought 𝓛 mem run).pre to-brought)) goes-brought $
           calls_at ! fm (Brought 𝓛 mem run) known-brought to-brought (and_then ! (load ! (from ! (stop !)) (look ! 21 refl)) (and_then ! (load ! (from ! (stop !)) (look ! 19 refl)) (and_then ! (load ! (from ! (stop !)) (look ! 17 refl)) (and_then ! (load ! (from ! (stop !)) (look ! 15 refl)) (and_then ! (load ! (from ! (stop !)) (look ! 13 refl)) (no_more !)))))) (λ we.
           use1 𝓛 (later (some (λ (res : Entry). given (Back R (λ d. d ≡ new) we res) (‵ (flft κ' q'))))) (gets-brought we) $ await ! tt $ pick ! (λ e. learn ! (λ is-e.
-          land ! (from ! (stop !)) (init ! 11 refl (typed-entry 𝓛 e we is-e.1)) $ move ! (1 ∷ 2 ∷ 3 ∷ []) $
+          land ! (from ! (stop !)) (init ! 11 refl (typed_entry 𝓛 e we is-e.1)) $ move ! (1 ∷ 2 ∷ 3 ∷ []) $
           assigns ! (addr ! (from ! (fld ! refl (hop ! (look_in ! 23 (sub ! 0 refl (whole !))) (stop !))))) (from ! (stop !)) (init ! 7 refl (tt, tt)) $
           assigns ! (agg ! (and_then ! (load ! (from ! (stop !)) (look ! 7 refl)) (and_then ! (load ! (from ! (fld ! refl (stop !))) (look_in ! 23 (sub ! 1 refl (whole !)))) (no_more !)))) (from ! (stop !)) (init ! 5 refl (tt, (tt, (record { fits = gn.0 }, tt)))) $
           -- the borrow is given up to `enter`
           fjoin ! $ pure_i ! (shr_slice_at R x₀.0 (s ∷ [])) (tt, (tt, tt)) (refl, gn) $ fjoin ! $ move ! (1 ∷ 0 ∷ []) $ use2 𝓛 (raw ((Enter 𝓛 mem run).pre (to-enter e we))) (goes-enter e we is-e.1) $
           calls_at ! fm (Enter 𝓛 mem run) known-enter (to-enter e we) (and_then ! (load ! (from ! (stop !)) (look ! 3 refl)) (and_then ! (load ! (from ! (stop !)) (look ! 9 refl)) (no_more !))) (λ wr.
           use1 𝓛 (later (some (λ (r : Indexed). some (λ (zs : List Entry). given (Of-enter e wr r zs) (‵ (flft κ q) ⊛ ‵ (finally R γ zs)))))) (gets-enter e we wr) $ await ! tt $ pick ! (λ r. pick ! (λ zs. learn ! (λ is-r. split ! $
-          land ! (from ! (stop !)) (init ! 8 refl (typed-indexed 𝓛 r wr is-r.1.1)) $
+          land ! (from ! (stop !)) (init ! 8 refl (typed_indexed 𝓛 r wr is-r.1.1)) $
           use0 𝓛 (raw ((Answer-number 𝓛 mem run).pre (to-answer-number r wr))) (goes-answer-number r wr is-r.1.1) $
           calls_at ! fm (Answer-number 𝓛 mem run) known-answer-number (to-answer-number r wr) (and_then ! (load ! (from ! (stop !)) (look ! 9 refl)) (no_more !)) (λ wk.
-          use1 𝓛 (later (some (λ (res : ℕ). given (Back u32 (λ k. k ≡ answerNumber r) wk res) (raw (emp 𝓤))))) (gets-answer-number r wr wk) $ await ! tt $ pick ! (λ k. learn ! (λ is-k. drop ! $
+          use1 𝓛 (later (some (λ (res : ℕ). given (Back u32 (λ k. k ≡ answer_number r) wk res) (raw (emp 𝓤))))) (gets-answer-number r wr wk) $ await ! tt $ pick ! (λ k. learn ! (λ is-k. drop ! $
           land ! (from ! (stop !)) (init ! 24 refl ((uint_Lawful 𝓛 w32).typed k _ is-k.1).0) $
           returns ! (look ! 24 refl) $ forget ! 4 refl $ forget ! 6 refl $ forget ! 8 refl $ forget ! 10 refl $ forget ! 12 refl $ forget ! 14 refl $ forget ! 16 refl $ forget ! 18 refl $ forget ! 20 refl $ forget ! 22 refl $ forget ! 24 refl $
           move ! (24 ∷ 25 ∷ []) $ free1 ! $ move ! (22 ∷ 23 ∷ []) $ free1 ! $ move ! (20 ∷ 21 ∷ []) $ free1 ! $ move ! (18 ∷ 19 ∷ []) $ free1 ! $ move ! (16 ∷ 17 ∷ []) $ free1 ! $ move ! (14 ∷ 15 ∷ []) $ free1 ! $ move ! (12 ∷ 13 ∷ []) $ free1 ! $ move ! (10 ∷ 11 ∷ []) $ free1 ! $ move ! (8 ∷ 9 ∷ []) $ free1 ! $ move ! (6 ∷ 7 ∷ []) $ free1 ! $ move ! (4 ∷ 5 ∷ []) $ free1 ! $ free0 ! $

@@ -43,11 +43,11 @@ use denote.Exit.{yes}
 use Rattle.index.specs.declared.Entry.{Entry}
 use Rattle.index.specs.declared.Found.{Found}
 use Rattle.index.specs.Indexing.{found}
-use Rattle.index.proofs.Calls.{Back, Given-back, gets-value, gets-lent, typed-found}
+use Rattle.index.proofs.Calls.{Back, Given-back, gets_value, gets_lent, typed_found}
 use Rattle.index.specs.contracts.Entry as T
 use Rattle.index.specs.contracts.Found as F
 use Rattle.index.proofs.Found.TheLaws as F'
-use Rattle.index_host.specs.Calls.{foundNumber, fileNumber}
+use Rattle.index_host.specs.Calls.{found_number, file_number}
 use Rattle.index_host.specs.contracts.file_number as file-number'
 use Rattle.index_host.proofs.file_number.Symbol as file-number-def
 use Rattle.index_host.proofs.file_number.Symbol.{name as #index_host·file-number}
@@ -110,10 +110,10 @@ module _ {M : Type 1} {𝓤 : Ura M} (𝓛 : Logic 𝓤) (mem : Memory → SProp
     goes-file-number : ent 𝓤 (emp 𝓤) ((File-number 𝓛 mem run).pre to-file-number)
     goes-file-number = qed 𝓛 [] ∵ nothing ! $ owned ! u32 (Is u32) (uint_Makes 𝓛 w32) number _ (refl, gx) $ fjoin ! $ nothing ! $ join ! $ frame ! $ done !
 
-    gets-file-number : (w : Val) → ent 𝓤 ((File-number 𝓛 mem run).post to-file-number w) (H.⇛ (Given-back 𝓤 u16 (λ r. r ≡ fileNumber number) w))
+    gets-file-number : (w : Val) → ent 𝓤 ((File-number 𝓛 mem run).post to-file-number w) (H.⇛ (Given-back 𝓤 u16 (λ r. r ≡ file_number number) w))
     gets-file-number w =
-        gets-value 𝓛 u16 (λ r. ensured 𝓛 file-number'.ended (file-number'.clauses 𝓛 mem run) tt (number, tt) tt r) (λ r. r ≡ fileNumber number)
-        (λ r. ex_e 𝓤 _ (λ ws. snd∗ 𝓤 (sem 𝓛 (lasts file-number'.ended tt (number, tt) ws)) (fact 𝓤 (r ≡ fileNumber number)))) w
+        gets_value 𝓛 u16 (λ r. ensured 𝓛 file-number'.ended (file-number'.clauses 𝓛 mem run) tt (number, tt) tt r) (λ r. r ≡ file_number number)
+        (λ r. ex_e 𝓤 _ (λ ws. snd∗ 𝓤 (sem 𝓛 (lasts file-number'.ended tt (number, tt) ws)) (fact 𝓤 (r ≡ file_number number)))) w
 
     -- `find`, lent the table
     abbrev to-find : (x : ℕ) (vx : Val) → (Find 𝓛 mem run).Ghost
@@ -126,7 +126,7 @@ module _ {M : Type 1} {𝓤 : Ura M} (𝓛 : Logic 𝓤) (mem : Memory → SProp
 
     gets-find : (x : ℕ) (vx w : Val) → ent 𝓤 ((Find 𝓛 mem run).post (to-find x vx) w) (H.⇛ (ex 𝓤 (λ (r : Found). guard 𝓤 (Back F.the_row (λ a. a ≡ found ys x) w r) (A.lft κ q))))
     gets-find x vx w =
-        gets-lent 𝓛 κ q F.the_row (λ r. ensured 𝓛 find'.ended (find'.clauses 𝓛 mem run) (κ, tt) (x₀.0, (x, tt)) tt r) (λ a. a ≡ found ys x)
+        gets_lent 𝓛 κ q F.the_row (λ r. ensured 𝓛 find'.ended (find'.clauses 𝓛 mem run) (κ, tt) (x₀.0, (x, tt)) tt r) (λ a. a ≡ found ys x)
         (λ r. ex_e 𝓤 _ (λ ws. snd∗ 𝓤 (sem 𝓛 (lasts find'.ended (κ, tt) (x₀.0, (x, tt)) ws)) (fact 𝓤 (r ≡ found ys x)))) w
 
     -- `found_number`
@@ -136,12 +136,12 @@ module _ {M : Type 1} {𝓤 : Ura M} (𝓛 : Logic 𝓤) (mem : Memory → SProp
     goes-found-number : (r : Found) (vr : Val) → Is F.the_row r (vr ∷ []) → ent 𝓤 (emp 𝓤) ((Found-number 𝓛 mem run).pre (to-found-number r vr))
     goes-found-number r vr is-r = qed 𝓛 [] ∵ nothing ! $ owned ! F.the_row (Is F.the_row) ((EL.makes F.the_type F'.the_plain) 𝓛) r (vr ∷ []) is-r $ fjoin ! $ nothing ! $ join ! $ frame ! $ done !
 
-    gets-found-number : (r : Found) (vr w : Val) → ent 𝓤 ((Found-number 𝓛 mem run).post (to-found-number r vr) w) (H.⇛ (Given-back 𝓤 u32 (λ k. k ≡ foundNumber r) w))
+    gets-found-number : (r : Found) (vr w : Val) → ent 𝓤 ((Found-number 𝓛 mem run).post (to-found-number r vr) w) (H.⇛ (Given-back 𝓤 u32 (λ k. k ≡ found_number r) w))
     gets-found-number r vr w =
-        gets-value 𝓛 u32 (λ k. ensured 𝓛 found-number'.ended (found-number'.clauses 𝓛 mem run) tt (r, tt) tt k) (λ k. k ≡ foundNumber r)
-        (λ k. ex_e 𝓤 _ (λ ws. snd∗ 𝓤 (sem 𝓛 (lasts found-number'.ended tt (r, tt) ws)) (fact 𝓤 (k ≡ foundNumber r)))) w
+        gets_value 𝓛 u32 (λ k. ensured 𝓛 found-number'.ended (found-number'.clauses 𝓛 mem run) tt (r, tt) tt k) (λ k. k ≡ found_number r)
+        (λ k. ex_e 𝓤 _ (λ ws. snd∗ 𝓤 (sem 𝓛 (lasts found-number'.ended tt (r, tt) ws)) (fact 𝓤 (k ≡ found_number r)))) w
 
-    exits : (k : ℕ) (w : Val) → Is u32 k (w ∷ []) → k ≡ foundNumber (found ys (fileNumber number)) → ent 𝓤 (⋆ 𝓛 (‵ (flft κ q) ∷ ‵ Own ∷ [])) (Post w)
+    exits : (k : ℕ) (w : Val) → Is u32 k (w ∷ []) → k ≡ found_number (found ys (file_number number)) → ent 𝓤 (⋆ 𝓛 (‵ (flft κ q) ∷ ‵ Own ∷ [])) (Post w)
     exits k w gk is =
         qed 𝓛 (‵ (flft κ q) ∷ ‵ Own ∷ []) ∵
         suffices ! _ (ends_at 𝓛 f.ended stayed (f.clauses 𝓛 mem run) (((κ, tt), (q, tt), tt, x₀, at), tt) w k (tt, (tt, tt)) (tt, (tt, tt))) $ says ! is $
@@ -158,19 +158,19 @@ module _ {M : Type 1} {𝓤 : Ura M} (𝓛 : Logic 𝓤) (mem : Memory → SProp
           -- [the token; the slice; the slice; _4; …; _0; …]
           use0 𝓛 (raw ((File-number 𝓛 mem run).pre to-file-number)) goes-file-number $
           calls_at ! fm (File-number 𝓛 mem run) known-file-number to-file-number (and_then ! (load ! (from ! (stop !)) (look ! 8 refl)) (no_more !)) (λ wx.
-          use1 𝓛 (later (some (λ (res : ℕ). given (Back u16 (λ r. r ≡ fileNumber number) wx res) (raw (emp 𝓤))))) (gets-file-number wx) $ await ! tt $ pick ! (λ x. learn ! (λ is_x. drop ! $
+          use1 𝓛 (later (some (λ (res : ℕ). given (Back u16 (λ r. r ≡ file_number number) wx res) (raw (emp 𝓤))))) (gets-file-number wx) $ await ! tt $ pick ! (λ x. learn ! (λ is_x. drop ! $
           land ! (from ! (stop !)) (init ! 5 refl ((uint_Lawful 𝓛 w16).typed x _ is_x.1).0) $
           use2 𝓛 (raw ((Find 𝓛 mem run).pre (to-find x wx))) (goes-find x wx is_x.1) $
           calls_at ! fm (Find 𝓛 mem run) known-find (to-find x wx) (and_then ! (load ! (from ! (stop !)) (look ! 8 refl)) (and_then ! (load ! (from ! (stop !)) (look ! 4 refl)) (no_more !))) (λ wr.
           use1 𝓛 (later (some (λ (res : Found). given (Back F.the_row (λ a. a ≡ found ys x) wr res) (‵ (flft κ q))))) (gets-find x wx wr) $ await ! tt $ pick ! (λ r. learn ! (λ is-r.
-          land ! (from ! (stop !)) (init ! 2 refl (typed-found 𝓛 r wr is-r.1)) $
+          land ! (from ! (stop !)) (init ! 2 refl (typed_found 𝓛 r wr is-r.1)) $
           use0 𝓛 (raw ((Found-number 𝓛 mem run).pre (to-found-number r wr))) (goes-found-number r wr is-r.1) $
           calls_at ! fm (Found-number 𝓛 mem run) known-found-number (to-found-number r wr) (and_then ! (load ! (from ! (stop !)) (look ! 3 refl)) (no_more !)) (λ wk.
-          use1 𝓛 (later (some (λ (res : ℕ). given (Back u32 (λ k. k ≡ foundNumber r) wk res) (raw (emp 𝓤))))) (gets-found-number r wr wk) $ await ! tt $ pick ! (λ k. learn ! (λ is-k. drop ! $
+          use1 𝓛 (later (some (λ (res : ℕ). given (Back u32 (λ k. k ≡ found_number r) wk res) (raw (emp 𝓤))))) (gets-found-number r wr wk) $ await ! tt $ pick ! (λ k. learn ! (λ is-k. drop ! $
           land ! (from ! (stop !)) (init ! 10 refl ((uint_Lawful 𝓛 w32).typed k _ is-k.1).0) $
           returns ! (look ! 10 refl) $ forget ! 2 refl $ forget ! 4 refl $ forget ! 6 refl $ forget ! 8 refl $ forget ! 10 refl $
           move ! (10 ∷ 11 ∷ []) $ free1 ! $ move ! (8 ∷ 9 ∷ []) $ free1 ! $ move ! (6 ∷ 7 ∷ []) $ free1 ! $ move ! (4 ∷ 5 ∷ []) $ free1 ! $ move ! (2 ∷ 3 ∷ []) $ free1 ! $ free0 ! $
-          by ! (exits k wk is-k.1 (is-k.0 ∙ ap foundNumber (is-r.0 ∙ ap (found ys) is_x.0)))))))))))))))))
+          by ! (exits k wk is-k.1 (is-k.0 ∙ ap found_number (is-r.0 ∙ ap (found ys) is_x.0)))))))))))))))))
 
 module _ {M : Type 1} {𝓤 : Ura M} (𝓛 : Logic 𝓤) (mem : Memory → SProp 𝓤) (run : Routine → Fun 𝓤) where
   open 𝓛 use {H}

@@ -4,9 +4,9 @@ use mathlib.Core.Path.{refl, ap, sym, ◌∙◌}
 use lib.ListN.{length}
 use Rattle.listing.specs.declared.Walk.{Walk}
 use Rattle.listing.specs.Letters.{text}
-use Rattle.listing.specs.Walking.{Says, stepOn}
+use Rattle.listing.specs.Walking.{Says, step_on}
 use Rattle.listing.proofs.Bounded.{within}
-use Rattle.listing.proofs.Telling.{tells, silent, tells_as, is-cramped, is-done, is-long, is_odd, is-beyond, is-over, is-more, is_read, roomy}
+use Rattle.listing.proofs.Telling.{tells, silent, tells_as, is_cramped, is_done, is_long, is_odd, is_beyond, is_over, is_more, is_read, roomy}
 use borrow.Author.Rules.{rules}
 use Rattle.listing.proofs.next.Statement.{statement}
 use Rattle.listing.proofs.next.Tie as tie
@@ -18,7 +18,7 @@ returns c =
     let bs = a.recording.now in
     let w = a.walk in
     let room = length a.out.now in
-    silent (is-cramped room bs w c.if1.true) refl
+    silent (is_cramped room bs w c.if1.true) refl
 
 returns-2 : tie.Need-returns-2
 returns-2 c =
@@ -27,7 +27,7 @@ returns-2 c =
     let bs = a.recording.now in
     let w = a.walk in
     let room = length a.out.now in
-    silent (is-done room bs w c.before.if1.false c.if2.true) refl
+    silent (is_done room bs w c.before.if1.false c.if2.true) refl
 
 returns-3 : tie.Need-returns-3
 returns-3 c =
@@ -36,7 +36,7 @@ returns-3 c =
     let bs = a.recording.now in
     let w = a.walk in
     let room = length a.out.now in
-    tells (is-long room bs w c.before.before.before.before.before.before.before.before.if1.false c.before.before.before.before.before.before.before.if2.false c.before.before.before.before.before.before.if3.true ∙ ap (λ (x : Walk). Says (text "LONG\n") x) (sym c.closed.ensures)) c.before.before.before.put-text.ensures
+    tells (is_long room bs w c.before.before.before.before.before.before.before.before.if1.false c.before.before.before.before.before.before.before.if2.false c.before.before.before.before.before.before.if3.true ∙ ap (λ (x : Walk). Says (text "LONG\n") x) (sym c.closed.ensures)) c.before.before.before.put-text.ensures
 
 returns-4 : tie.Need-returns-4
 returns-4 c =
@@ -54,7 +54,7 @@ returns-5 c =
     let bs = a.recording.now in
     let w = a.walk in
     let room = length a.out.now in
-    silent (roomy room bs w c.before.before.before.before.before.if1.false ∙ is-beyond bs w (length bs / 2) c.before.before.before.before.if2.false c.before.before.before.if3.false c.before.before.if4.false refl c.if5.true) refl
+    silent (roomy room bs w c.before.before.before.before.before.if1.false ∙ is_beyond bs w (length bs / 2) c.before.before.before.before.if2.false c.before.before.before.if3.false c.before.before.if4.false refl c.if5.true) refl
 
 returns-6 : tie.Need-returns-6
 returns-6 c =
@@ -63,7 +63,7 @@ returns-6 c =
     let bs = a.recording.now in
     let w = a.walk in
     let room = length a.out.now in
-    silent (roomy room bs w c.before.before.before.before.before.before.before.if1.false ∙ is-over bs w (length bs / 2) c.before.before.before.before.before.before.if2.false c.before.before.before.before.before.if3.false c.before.before.before.before.if4.false refl c.before.before.if5.false c.if6.true) refl
+    silent (roomy room bs w c.before.before.before.before.before.before.before.if1.false ∙ is_over bs w (length bs / 2) c.before.before.before.before.before.before.if2.false c.before.before.before.before.before.if3.false c.before.before.before.before.if4.false refl c.before.before.if5.false c.if6.true) refl
 
 returns-7 : tie.Need-returns-7
 returns-7 c =
@@ -72,7 +72,7 @@ returns-7 c =
     let bs = a.recording.now in
     let w = a.walk in
     let room = length a.out.now in
-    silent (roomy room bs w c.before.before.before.before.before.before.before.before.before.before.if1.false ∙ is-more bs w (length bs / 2) c.before.before.before.before.before.before.before.before.before.if2.false c.before.before.before.before.before.before.before.before.if3.false c.before.before.before.before.before.before.before.if4.false refl c.before.before.before.before.before.if5.false c.before.before.before.if6.false c.if7.true) refl
+    silent (roomy room bs w c.before.before.before.before.before.before.before.before.before.before.if1.false ∙ is_more bs w (length bs / 2) c.before.before.before.before.before.before.before.before.before.if2.false c.before.before.before.before.before.before.before.before.if3.false c.before.before.before.before.before.before.before.if4.false refl c.before.before.before.before.before.if5.false c.before.before.before.if6.false c.if7.true) refl
 
 say-requires : tie.Need-say-requires
 say-requires c κs =
@@ -90,7 +90,7 @@ returns-8 c =
     let bs = a.recording.now in
     let w = a.walk in
     let room = length a.out.now in
-    tells_as (roomy room bs w c.before.before.before.before.before.before.before.before.before.before.before.before.before.before.before.if1.false ∙ is_read bs w (length bs / 2) c.before.before.before.before.before.before.before.before.before.before.before.before.before.before.if2.false c.before.before.before.before.before.before.before.before.before.before.before.before.before.if3.false c.before.before.before.before.before.before.before.before.before.before.before.before.if4.false refl c.before.before.before.before.before.before.before.before.before.before.if5.false c.before.before.before.before.before.before.before.before.if6.false c.before.before.before.before.before.if7.false ∙ ap (stepOn (length bs / 2) w) (sym c.before.before.before.before.outcome-at.ensures)) c.before.before.say.ensures
+    tells_as (roomy room bs w c.before.before.before.before.before.before.before.before.before.before.before.before.before.before.before.if1.false ∙ is_read bs w (length bs / 2) c.before.before.before.before.before.before.before.before.before.before.before.before.before.before.if2.false c.before.before.before.before.before.before.before.before.before.before.before.before.before.if3.false c.before.before.before.before.before.before.before.before.before.before.before.before.if4.false refl c.before.before.before.before.before.before.before.before.before.before.if5.false c.before.before.before.before.before.before.before.before.if6.false c.before.before.before.before.before.if7.false ∙ ap (step_on (length bs / 2) w) (sym c.before.before.before.before.outcome-at.ensures)) c.before.before.say.ensures
 
 pub next-spec : {M : Type 1} → statement M
 next-spec =

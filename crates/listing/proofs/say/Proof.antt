@@ -4,8 +4,8 @@ use mathlib.Core.Path.{ap, sym, ◌∙◌}
 use Rattle.reports.specs.declared.kinds.Kind.{Kind}
 use Rattle.lines.specs.declared.What.{What}
 use Rattle.listing.specs.declared.Walk.{Walk}
-use Rattle.listing.specs.Letters.{reportLine, refusedLine, totalsLine}
-use Rattle.listing.specs.Walking.{at, Says, stepFor}
+use Rattle.listing.specs.Letters.{report_line, refused_line, totals_line}
+use Rattle.listing.specs.Walking.{at, Says, step_for}
 use Rattle.listing.proofs.Telling.{tells}
 use borrow.Author.Rules.{rules}
 use Rattle.listing.proofs.say.Statement.{statement}
@@ -17,8 +17,8 @@ returns c =
     let a = s.args in
     let o = a.o in
     tells
-    (ap (λ (x : What). stepFor a.n a.walk x o.first o.after o.named) c.before.before.before.before.before.before.before.what.given.1
-    ∙ ap (λ (k : Kind). Says (reportLine o.first k (o.after - o.first)) (at o.after (a.walk.reported + (o.after - o.first)) a.walk.refused)) (sym c.before.before.before.before.kind-of.ensures))
+    (ap (λ (x : What). step_for a.n a.walk x o.first o.after o.named) c.before.before.before.before.before.before.before.what.given.1
+    ∙ ap (λ (k : Kind). Says (report_line o.first k (o.after - o.first)) (at o.after (a.walk.reported + (o.after - o.first)) a.walk.refused)) (sym c.before.before.before.before.kind-of.ensures))
     c.before.before.before.report.ensures
 
 returns-2 : tie.Need-returns-2
@@ -27,8 +27,8 @@ returns-2 c =
     let a = s.args in
     let o = a.o in
     tells
-    (ap (λ (x : What). stepFor a.n a.walk x o.first o.after o.named) c.before.before.before.before.before.before.before.what2.given.1
-    ∙ ap (λ (k : ℕ). Says (refusedLine o.first k (o.after - o.first) o.named) (at o.after a.walk.reported (a.walk.refused + (o.after - o.first)))) (sym c.before.before.before.before.number.ensures))
+    (ap (λ (x : What). step_for a.n a.walk x o.first o.after o.named) c.before.before.before.before.before.before.before.what2.given.1
+    ∙ ap (λ (k : ℕ). Says (refused_line o.first k (o.after - o.first) o.named) (at o.after a.walk.reported (a.walk.refused + (o.after - o.first)))) (sym c.before.before.before.before.number.ensures))
     c.before.before.before.refused.ensures
 
 returns-3 : tie.Need-returns-3
@@ -37,8 +37,8 @@ returns-3 c =
     let a = s.args in
     let o = a.o in
     tells
-    (ap (λ (x : What). stepFor a.n a.walk x o.first o.after o.named) c.before.before.before.before.before.before.before.enum_told.given.1
-    ∙ ap (λ (w : Walk). Says (totalsLine (a.n - a.walk.reported - a.walk.refused) a.walk.reported a.walk.refused a.n) w) (sym c.closed.ensures))
+    (ap (λ (x : What). step_for a.n a.walk x o.first o.after o.named) c.before.before.before.before.before.before.before.enum_told.given.1
+    ∙ ap (λ (w : Walk). Says (totals_line (a.n - a.walk.reported - a.walk.refused) a.walk.reported a.walk.refused a.n) w) (sym c.closed.ensures))
     c.before.before.before.totals.ensures
 
 pub say-spec : {M : Type 1} → statement M

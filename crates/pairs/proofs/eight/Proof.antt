@@ -6,7 +6,7 @@ use mathlib.Core.List.{List}
 use Prim.Native.Nat.{ℕ, ◌-◌}
 use lib.ListN.{length, drop, length-drop}
 use lib.Seq.{take_all}
-use Rattle.bits.specs.Bits.{bitsOf}
+use Rattle.bits.specs.Bits.{bits_of}
 use Rattle.bits.proofs.Laws.{whole}
 use Rattle.pairs.proofs.eight.Statement.{statement}
 use Rattle.pairs.proofs.eight.Tie as tie
@@ -15,7 +15,7 @@ returns : tie.Need-returns
 returns c =
     let a = c.before.before.before.args in
     c.read.ensures ∙ whole _ 0 64 (omega arith)
-    ∙ ap (λ (l : List ℕ). bitsOf l 0 64) (take_all (length a.items.now - a.at) (drop a.at a.items.now) (rw length-drop (omega arith)))
+    ∙ ap (λ (l : List ℕ). bits_of l 0 64) (take_all (length a.items.now - a.at) (drop a.at a.items.now) (rw length-drop (omega arith)))
 
 pub eight-spec : {M : Type 1} → statement M
 eight-spec = tie.close (tie.spec (λ c. search rules) (λ c. search rules) (λ c. search rules) (λ c κs. search rules) returns)

@@ -7,8 +7,8 @@ use Prim.Native.Nat.{ℕ, suc, ◌+◌, ◌-◌, ◌*◌, ◌/◌, ◌≤◌, �
 use lib.ListN.{length, drop, set, replicate}
 use Rattle.pairs.specs.declared.Found.{Found}
 use Rattle.pairs.specs.declared.Found.TheVariants as F
-use Rattle.pairs.specs.Pairs.{Pair, eight, pairs, pairsIn, findIn, isFound, value_of, eachFrom, gatheredFrom, Slot, slots}
-use Rattle.pairs.proofs.Laws.{pairs-before, slot-anew, slot-other}
+use Rattle.pairs.specs.Pairs.{Pair, eight, pairs, pairs_in, find_in, is_found, value_of, each_from, gathered_from, Slot, slots}
+use Rattle.pairs.proofs.Laws.{pairs_before, slot_anew, slot_other}
 use Rattle.pairs.proofs.gather.Statement.{statement}
 use Rattle.pairs.proofs.gather.Tie as tie
 
@@ -22,40 +22,40 @@ one_more s left m e h =
     let k : length s / 16 - m ≡ suc (length s / 16 - left) = omega arith in
     let n : 16 * m + 16 ≡ 16 * left = omega arith in
     ap (λ (x : ℕ). pairs x (drop (16 * m) s)) k
-    ∙ pairs-before (length s / 16 - left) (16 * m) s
+    ∙ pairs_before (length s / 16 - left) (16 * m) s
     ∙ ap (λ (x : ℕ). (eight (drop (16 * m) s), eight (drop (16 * m + 8) s)) ∷ pairs (length s / 16 - left) (drop x s)) n
 
 -- none yet
-none : {X : Type 0} (f : Found → X) (n : ℕ) (s : List ℕ) {l : List X} → l ≡ replicate slots (f F.Missing) → l ≡ eachFrom f n slots (behind s (length s / 16))
-unfolding pairs eachFrom findIn
+none : {X : Type 0} (f : Found → X) (n : ℕ) (s : List ℕ) {l : List X} → l ≡ replicate slots (f F.Missing) → l ≡ each_from f n slots (behind s (length s / 16))
+unfolding pairs each_from find_in
 none f n s e =
     let z : length s / 16 - length s / 16 ≡ 0 = omega arith in
     rw z e
 
 -- it is a pair of one of the numbers, or of none
 module _ {X : Type 0} (f : Found → X) (first : ℕ) (s : List ℕ) (left n k : ℕ) (l : List X) (h : 0 < left) (m : left ≤ length s / 16)
-    (e : l ≡ eachFrom f first slots (behind s left)) (p : n ≡ eight (drop (16 * (left - 1)) s)) (o : Slot first n k) where
+    (e : l ≡ each_from f first slots (behind s left)) (p : n ≡ eight (drop (16 * (left - 1)) s)) (o : Slot first n k) where
   q : left ≡ suc (left - 1)
   q = omega arith
 
-  sets : (v : ℕ) → v ≡ eight (drop (16 * (left - 1) + 8) s) → k < slots → set l k (f (F.Value v)) ≡ eachFrom f first slots (behind s (left - 1))
+  sets : (v : ℕ) → v ≡ eight (drop (16 * (left - 1) + 8) s) → k < slots → set l k (f (F.Value v)) ≡ each_from f first slots (behind s (left - 1))
   sets v w a =
       ap (λ (x : List X). set x k (f (F.Value v))) e
-      ∙ slot-anew f first n v k (behind s left) o a
-      ∙ ap (λ (x : ℕ). eachFrom f first slots ((x, v) ∷ behind s left)) p
-      ∙ ap (λ (x : ℕ). eachFrom f first slots ((eight (drop (16 * (left - 1)) s), x) ∷ behind s left)) w
-      ∙ ap (λ (x : List Pair). eachFrom f first slots x) (sym (one_more s left (left - 1) q m))
+      ∙ slot_anew f first n v k (behind s left) o a
+      ∙ ap (λ (x : ℕ). each_from f first slots ((x, v) ∷ behind s left)) p
+      ∙ ap (λ (x : ℕ). each_from f first slots ((eight (drop (16 * (left - 1)) s), x) ∷ behind s left)) w
+      ∙ ap (λ (x : List Pair). each_from f first slots x) (sym (one_more s left (left - 1) q m))
 
-  leaves : slots ≤ k → l ≡ eachFrom f first slots (behind s (left - 1))
+  leaves : slots ≤ k → l ≡ each_from f first slots (behind s (left - 1))
   leaves a =
       e
-      ∙ sym (slot-other f first n (eight (drop (16 * (left - 1) + 8) s)) k (behind s left) o a)
-      ∙ ap (λ (x : ℕ). eachFrom f first slots ((x, eight (drop (16 * (left - 1) + 8) s)) ∷ behind s left)) p
-      ∙ ap (λ (x : List Pair). eachFrom f first slots x) (sym (one_more s left (left - 1) q m))
+      ∙ sym (slot_other f first n (eight (drop (16 * (left - 1) + 8) s)) k (behind s left) o a)
+      ∙ ap (λ (x : ℕ). each_from f first slots ((x, eight (drop (16 * (left - 1) + 8) s)) ∷ behind s left)) p
+      ∙ ap (λ (x : List Pair). each_from f first slots x) (sym (one_more s left (left - 1) q m))
 
 abbrev invariant-loop : tie.invariant-loop
 invariant-loop items first there₀ values₀ left₀ there values left =
-    (left ≤ length items / 16) × (there ≡ eachFrom isFound first slots (behind items left)) × (values ≡ eachFrom value_of first slots (behind items left))
+    (left ≤ length items / 16) × (there ≡ each_from is_found first slots (behind items left)) × (values ≡ each_from value_of first slots (behind items left))
 
 abbrev decreases-loop : tie.decreases-loop
 decreases-loop items first there₀ values₀ left₀ there values left = left
@@ -63,7 +63,7 @@ decreases-loop items first there₀ values₀ left₀ there values left = left
 loop-holds : tie.Need-loop-init invariant-loop decreases-loop
 loop-holds c =
     let s = c.before.args.items.now in
-    (omega arith, none isFound _ s refl, none value_of _ s refl)
+    (omega arith, none is_found _ s refl, none value_of _ s refl)
 
 loop-again : tie.Need-loop-preserved invariant-loop decreases-loop
 loop-again c =
@@ -73,7 +73,7 @@ loop-again c =
     let n = t.before.eight.result in
     let p = t.before.eight.ensures in (
       omega arith,
-      sets isFound a.first a.items.now l.left n _ l.there (omega arith) (omega arith) l.invariant.1 p t.slot.ensures _ c.eight2.ensures (omega arith),
+      sets is_found a.first a.items.now l.left n _ l.there (omega arith) (omega arith) l.invariant.1 p t.slot.ensures _ c.eight2.ensures (omega arith),
       sets value_of a.first a.items.now l.left n _ l.values (omega arith) (omega arith) l.invariant.2 p t.slot.ensures _ c.eight2.ensures (omega arith),
     )
 
@@ -85,18 +85,18 @@ loop-again-2 c =
     let n = t.before.eight.result in
     let p = t.before.eight.ensures in (
       omega arith,
-      leaves isFound a.first a.items.now l.left n _ l.there (omega arith) (omega arith) l.invariant.1 p t.slot.ensures (omega arith),
+      leaves is_found a.first a.items.now l.left n _ l.there (omega arith) (omega arith) l.invariant.1 p t.slot.ensures (omega arith),
       leaves value_of a.first a.items.now l.left n _ l.values (omega arith) (omega arith) l.invariant.2 p t.slot.ensures (omega arith),
     )
 
 returns : tie.Need-returns invariant-loop decreases-loop
-unfolding gatheredFrom pairsIn
+unfolding gathered_from pairs_in
 returns c =
     let l = c.before.loop in
     let s = c.before.before.before.args.items.now in
     let z : l.left ≡ 0 = omega arith in
     let n : length s / 16 - 0 ≡ length s / 16 = omega arith in
-    let b : behind s l.left ≡ pairsIn s = rw (z, n) refl in
+    let b : behind s l.left ≡ pairs_in s = rw (z, n) refl in
     rw (l.invariant.1, l.invariant.2, b) refl
 
 pub gather-spec : {M : Type 1} → statement M

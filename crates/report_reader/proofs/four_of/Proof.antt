@@ -11,38 +11,38 @@ use Rattle.reports.specs.declared.Map.{Map}
 use Rattle.reports.specs.declared.Status.{Status}
 use Rattle.reports.specs.declared.Rtqc.{Rtqc}
 use Rattle.reports.specs.declared.Report.TheVariants as R
-use Rattle.reports.specs.Forms.{searchPattern, strobePattern, statusPattern, mapPattern, isFour}
-use Rattle.reports.specs.Records.{searchOf, strobeOf, mapOf, statusOf, rtqcOf, fourOf}
-use Rattle.reports.specs.Conditions.{fourZeros}
-use Rattle.report_reader.specs.Content.{content, fourContent}
+use Rattle.reports.specs.Forms.{search_pattern, strobe_pattern, status_pattern, map_pattern, is_four}
+use Rattle.reports.specs.Records.{search_of, strobe_of, map_of, status_of, rtqc_of, four_of}
+use Rattle.reports.specs.Conditions.{four_zeros}
+use Rattle.report_reader.specs.Content.{content, four_content}
 use borrow.Author.Rules.{rules}
 use borrow.Author.Tests.{eq-eqb, ne_eqb}
 use Rattle.report_reader.proofs.four_of.Statement.{statement}
 use Rattle.report_reader.proofs.four_of.Tie as tie
 
 -- the tests of four words, of which each was answered
-module _ (ws : List ℕ) (f : isFour ws ≡ true) where
-  search-read : eqb (bits ws 4 10) searchPattern ≡ true → (r : Search) → r ≡ searchOf ws → content (R.Search r) (bits ws 25 25) ≡ fourContent ws
-  unfolding fourOf fourZeros
+module _ (ws : List ℕ) (f : is_four ws ≡ true) where
+  search-read : eqb (bits ws 4 10) search_pattern ≡ true → (r : Search) → r ≡ search_of ws → content (R.Search r) (bits ws 25 25) ≡ four_content ws
+  unfolding four_of four_zeros
   search-read k r e = simp (f, k, e)
 
-  module _ (n1 : eqb (bits ws 4 10) searchPattern ≡ false) where
-    strobe-read : eqb (bits ws 4 10) strobePattern ≡ true → (r : Strobe) → r ≡ strobeOf ws → content (R.Strobe r) (bits ws 25 25) ≡ fourContent ws
-    unfolding fourOf fourZeros
+  module _ (n1 : eqb (bits ws 4 10) search_pattern ≡ false) where
+    strobe-read : eqb (bits ws 4 10) strobe_pattern ≡ true → (r : Strobe) → r ≡ strobe_of ws → content (R.Strobe r) (bits ws 25 25) ≡ four_content ws
+    unfolding four_of four_zeros
     strobe-read k r e = simp (f, n1, k, e)
 
-    module _ (n2 : eqb (bits ws 4 10) strobePattern ≡ false) where
-      status-read : eqb (bits ws 4 10) statusPattern ≡ true → (r : Status) → r ≡ statusOf ws → content (R.Status r) 0 ≡ fourContent ws
-      unfolding fourOf fourZeros
+    module _ (n2 : eqb (bits ws 4 10) strobe_pattern ≡ false) where
+      status-read : eqb (bits ws 4 10) status_pattern ≡ true → (r : Status) → r ≡ status_of ws → content (R.Status r) 0 ≡ four_content ws
+      unfolding four_of four_zeros
       status-read k r e = simp (f, n1, n2, k, e)
 
-      module _ (n3 : eqb (bits ws 4 10) statusPattern ≡ false) where
-        map_read : eqb (bits ws 4 8) mapPattern ≡ true → (r : Map) → r ≡ mapOf ws → content (R.Map r) (bits ws 25 25 + bits ws 51 51) ≡ fourContent ws
-        unfolding fourOf fourZeros
+      module _ (n3 : eqb (bits ws 4 10) status_pattern ≡ false) where
+        map_read : eqb (bits ws 4 8) map_pattern ≡ true → (r : Map) → r ≡ map_of ws → content (R.Map r) (bits ws 25 25 + bits ws 51 51) ≡ four_content ws
+        unfolding four_of four_zeros
         map_read k r e = simp (f, n1, n2, n3, k, e)
 
-        rtqc-read : eqb (bits ws 4 8) mapPattern ≡ false → (r : Rtqc) → r ≡ rtqcOf ws → content (R.Rtqc r) (bits ws 25 25) ≡ fourContent ws
-        unfolding fourOf fourZeros
+        rtqc-read : eqb (bits ws 4 8) map_pattern ≡ false → (r : Rtqc) → r ≡ rtqc_of ws → content (R.Rtqc r) (bits ws 25 25) ≡ four_content ws
+        unfolding four_of four_zeros
         rtqc-read k r e = simp (f, n1, n2, n3, k, e)
 
 returns : tie.Need-returns

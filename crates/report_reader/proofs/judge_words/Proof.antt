@@ -8,24 +8,24 @@ use Rattle.reports.specs.declared.RunAnswer.{RunAnswer}
 use Rattle.reports.specs.declared.RunAnswer.TheVariants.{Accepted, Refused}
 use Rattle.report_reader.specs.declared.Content.{Content}
 use Rattle.reports.specs.Altitude.{AltitudeForm, form_of}
-use Rattle.reports.specs.Records.{reportOf}
-use Rattle.reports.specs.Conditions.{unassigned, zeros, minusZero}
-use Rattle.reports.specs.Runs.{lastRows}
+use Rattle.reports.specs.Records.{report_of}
+use Rattle.reports.specs.Conditions.{unassigned, zeros, minus_zero}
+use Rattle.reports.specs.Runs.{last_rows}
 use Rattle.rows.specs.Rows.{first_of}
-use Rattle.report_reader.specs.Content.{contentOf}
+use Rattle.report_reader.specs.Content.{content_of}
 use borrow.Author.Rules.{rules}
 use borrow.Author.Tests.{ne_eqb}
 use Rattle.report_reader.proofs.judge_words.Statement.{statement}
 use Rattle.report_reader.proofs.judge_words.Tie as tie
 
 abbrev answered : AltitudeForm → List ℕ → RunAnswer
-answered form ws = first_of (lastRows form ws) (Accepted (reportOf form ws))
+answered form ws = first_of (last_rows form ws) (Accepted (report_of form ws))
 
-minus : (form : AltitudeForm) (ws : List ℕ) → unassigned ws ≡ false → zeros ws ≡ 0 → minusZero form ws ≡ true → Refused MinusZero 0 ≡ answered form ws
+minus : (form : AltitudeForm) (ws : List ℕ) → unassigned ws ≡ false → zeros ws ≡ 0 → minus_zero form ws ≡ true → Refused MinusZero 0 ≡ answered form ws
 minus form ws h7 h8 h9 = simp (h7, h8, h9)
 
-last : (form : AltitudeForm) (ws : List ℕ) → unassigned ws ≡ false → zeros ws ≡ 0 → minusZero form ws ≡ false
-    → (x : Content) → x ≡ contentOf form ws → Accepted x.report ≡ answered form ws
+last : (form : AltitudeForm) (ws : List ℕ) → unassigned ws ≡ false → zeros ws ≡ 0 → minus_zero form ws ≡ false
+    → (x : Content) → x ≡ content_of form ws → Accepted x.report ≡ answered form ws
 last form ws h7 h8 h9 x p = simp (h7, h8, h9) (ap (λ (y : Content). Accepted y.report) p)
 
 returns-2 : tie.Need-returns-2

@@ -5,13 +5,13 @@ use Rattle.report_writer.specs.declared.Data.{Data}
 use Rattle.reports.specs.declared.altitude.Form.{Form}
 use Rattle.reports.specs.Altitude.{form_of}
 use Rattle.reports.specs.Layouts.{layout_of}
-use Rattle.report_writer.specs.Data.{dataBy}
+use Rattle.report_writer.specs.Data.{data_by}
 use borrow.Author.Rules.{rules}
 use Rattle.report_writer.proofs.data_of.Statement.{statement}
 use Rattle.report_writer.proofs.data_of.Tie as tie
 
 abbrev data_of : Form → Report → Data
-data_of form r = dataBy (layout_of (form_of form) r)
+data_of form r = data_by (layout_of (form_of form) r)
 
 pub data-of-spec : {M : Type 1} → statement M
 data-of-spec =

@@ -3,13 +3,13 @@ use Prim.Native.Nat.{ℕ}
 use mathlib.Core.Path.{ap, sym, ◌∙◌}
 use mathlib.Core.Bool.{cond}
 use Rattle.reports.specs.declared.Height.{Height}
-use Rattle.reports.specs.Layouts.{modeC}
+use Rattle.reports.specs.Layouts.{mode_c_of}
 use borrow.Author.Rules.{rules}
 use Rattle.report_writer.proofs.mode_c_of.Statement.{statement}
 use Rattle.report_writer.proofs.mode_c_of.Tie as tie
 
 abbrev sixth : Height → ℕ
-sixth h = cond (modeC h) 1 0
+sixth h = cond (mode_c_of h) 1 0
 
 pub mode-c-of-spec : {M : Type 1} → statement M
 mode-c-of-spec =

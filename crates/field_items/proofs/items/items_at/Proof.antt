@@ -1,11 +1,11 @@
 -- `field_items::items::items_at` meets its contract: an arm is its key, and the place that is none of them is the last. Assumes nothing.
-use Rattle.fields.proofs.Rows.{last-is}
-use Rattle.field_items.specs.Items.{itemTable, itemsAt}
+use Rattle.fields.proofs.Rows.{last_is}
+use Rattle.field_items.specs.Items.{item_table, items_at}
 use Rattle.field_items.proofs.items.items_at.Statement.{statement}
 use Rattle.field_items.proofs.items.items_at.Tie as tie
 
 pub items-at-spec : {M : Type 1} → statement M
-unfolding itemTable itemsAt
+unfolding item_table items_at
 items-at-spec =
     tie.close
     (tie.spec
@@ -30,4 +30,4 @@ items-at-spec =
     (λ c. rw c.match.keys19)
     (λ c. rw c.match.keys20)
     (λ c. rw c.match.keys21)
-    (λ c. rw (last-is c.before.args.i 21 c.before.requires c.match.rest)))
+    (λ c. rw (last_is c.before.args.i 21 c.before.requires c.match.rest)))

@@ -2,16 +2,16 @@
 use borrow.Author.Rules.{rules}
 use mathlib.Core.Path.{refl, sym}
 use borrow.Author.Tests.{ne_eqb}
-use Rattle.pairs.specs.Pairs.{findIn}
+use Rattle.pairs.specs.Pairs.{find_in}
 use Rattle.field_items.proofs.items.relay_item.Statement.{statement}
 use Rattle.field_items.proofs.items.relay_item.Tie as tie
 
 returns : tie.Need-returns
-unfolding findIn
+unfolding find_in
 returns c = rw c.if1.true refl
 
 returns-2 : tie.Need-returns-2
-unfolding findIn
+unfolding find_in
 returns-2 c = rw (ne_eqb 237 c.before.before.args.item (λ q. c.before.if1.false (sym q))) c.field-item.ensures
 
 pub relay-item-spec : {M : Type 1} → statement M

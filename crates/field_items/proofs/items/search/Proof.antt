@@ -4,14 +4,14 @@ use mathlib.Core.Path.{◌≡◌, refl, sym, ◌∙◌}
 use native.Mathlib.Omega.{arith}
 use Prim.Native.Nat.{◌-◌, ◌≤◌}
 use lib.ListN.{length, drop, drop_of_length-le}
-use Rattle.pairs.specs.Pairs.{findIn}
-use Rattle.field_items.specs.Items.{pairsBy}
+use Rattle.pairs.specs.Pairs.{find_in}
+use Rattle.field_items.specs.Items.{pairs_by}
 use Rattle.field_items.proofs.Laws.{hit, miss, no_zero}
 use Rattle.field_items.proofs.items.search.Statement.{statement}
 use Rattle.field_items.proofs.items.search.Tie as tie
 
 abbrev invariant-loop : tie.invariant-loop
-invariant-loop item items v i₀ i = (i ≤ 11) × (findIn item (pairsBy (drop i items) (drop i v)) ≡ findIn item (pairsBy items v))
+invariant-loop item items v i₀ i = (i ≤ 11) × (find_in item (pairs_by (drop i items) (drop i v)) ≡ find_in item (pairs_by items v))
 
 abbrev decreases-loop : tie.decreases-loop
 decreases-loop item items v i₀ i = 11 - i
@@ -40,7 +40,7 @@ loop-again c =
     (omega arith, sym (miss a.t1 a.t2 l.i (omega arith) (omega arith) a.item c.if2.false) ∙ l.invariant.1)
 
 returns-3 : tie.Need-returns-3 invariant-loop decreases-loop
-unfolding findIn pairsBy
+unfolding find_in pairs_by
 returns-3 c =
     let l = c.before.loop in
     let a = c.before.before.before.args in

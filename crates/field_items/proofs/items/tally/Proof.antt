@@ -5,7 +5,7 @@ use native.Mathlib.Omega.{arith}
 use Prim.Native.Nat.{◌+◌, ◌-◌, ◌≤◌}
 use lib.ListN.{length, drop, drop_of_length-le}
 use Rattle.field_items.specs.Items.{tally_of}
-use Rattle.field_items.proofs.Laws.{tally-step}
+use Rattle.field_items.proofs.Laws.{tally_step}
 use Rattle.field_items.proofs.items.tally.Statement.{statement}
 use Rattle.field_items.proofs.items.tally.Tie as tie
 
@@ -26,7 +26,7 @@ loop-again c =
     let l = c.before.before.loop in
     let a = c.before.before.before.args in
     let m : length a.t1 ≡ 11 = search rules in
-    (omega arith, omega (arith, c.one.ensures.1), omega (arith, l.invariant.2, tally-step a.t1 l.i (omega arith), c.one.ensures.0))
+    (omega arith, omega (arith, c.one.ensures.1), omega (arith, l.invariant.2, tally_step a.t1 l.i (omega arith), c.one.ensures.0))
 
 returns : tie.Need-returns invariant-loop decreases-loop
 unfolding tally_of

@@ -5,13 +5,13 @@ use native.Mathlib.Omega.{arith}
 use Prim.Native.Nat.{ℕ, ◌<◌}
 use mathlib.Core.List.{List}
 use lib.ListN.{get_or}
-use Rattle.field_items.proofs.Laws.{type-small}
+use Rattle.field_items.proofs.Laws.{type_small}
 use Rattle.field_items.proofs.items.type_of.Statement.{statement}
 use Rattle.field_items.proofs.items.type_of.Tie as tie
 
 cast-result : tie.Need-overflow-cast-result
 cast-result c =
-    let h : get_or c.numbers.result 0 0 < 256 = rw c.numbers.ensures (type-small c.before.args.f) in
+    let h : get_or c.numbers.result 0 0 < 256 = rw c.numbers.ensures (type_small c.before.args.f) in
     omega arith
 
 returns : tie.Need-returns

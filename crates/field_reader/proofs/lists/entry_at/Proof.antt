@@ -6,8 +6,8 @@ use Prim.Native.Nat.{ℕ, ◌<◌, ◌^◌}
 use native.Mathlib.Omega.{arith}
 use mir.Facts.{to_z-of_z}
 use mir.Syntax.{w32}
-use Rattle.bits.proofs.Laws.{bitsOf-lt}
-use Rattle.fields.specs.Lists.{entryOf}
+use Rattle.bits.proofs.Laws.{bits_of-lt}
+use Rattle.fields.specs.Lists.{entry_of}
 use Rattle.field_reader.specs.Lists.{entry_at}
 use Rattle.fields.proofs.Entries.{product}
 use Rattle.field_reader.proofs.lists.entry_at.Statement.{statement}
@@ -26,13 +26,13 @@ add-piece c =
 entry-of-requires : tie.Need-entry-of-requires
 entry-of-requires c κs =
     let a = c.before.before.before.args in
-    (omega arith, subst (λ (x : ℕ). x < 2 ^ a.step) (sym c.piece.ensures) (bitsOf-lt _ _ _))
+    (omega arith, subst (λ (x : ℕ). x < 2 ^ a.step) (sym c.piece.ensures) (bits_of-lt _ _ _))
 
 returns : tie.Need-returns
 unfolding entry_at
 returns c =
     simp (lt-ltb _ _ c.before.before.if1.true)
-    (to_z-of_z {w = w32} (record { sfits = c.entry_of.type-inv }) ∙ c.entry_of.ensures ∙ ap (entryOf _) c.before.piece.ensures)
+    (to_z-of_z {w = w32} (record { sfits = c.entry_of.type-inv }) ∙ c.entry_of.ensures ∙ ap (entry_of _) c.before.piece.ensures)
 
 returns-2 : tie.Need-returns-2
 unfolding entry_at

@@ -4,8 +4,8 @@ use Prim.Native.Nat.{ℕ, ◌*◌, ◌/◌, ◌<◌}
 use native.Mathlib.Omega.{arith}
 use lib.ListN.{get_or}
 use borrow.Author.Rules.{rules}
-use Rattle.bits.specs.Bits.{bitsOf}
-use Rattle.bits.proofs.Laws.{byte-is, whole}
+use Rattle.bits.specs.Bits.{bits_of}
+use Rattle.bits.proofs.Laws.{byte_is, whole}
 use Rattle.field_reader.proofs.lists.piece.Statement.{statement}
 use Rattle.field_reader.proofs.lists.piece.Tie as tie
 
@@ -20,7 +20,7 @@ returns c =
     let h : x < 256 = omega (arith, c.shared-slice-known2.given (a.at / 8)) in
     let e : a.at / 8 * 8 ≡ a.at = omega arith in
     let m : 8 ≡ a.n = omega arith in
-    byte-is s (a.at / 8) x refl h ∙ ap (λ (f : ℕ). bitsOf s f 8) e ∙ ap (bitsOf s a.at) m
+    byte_is s (a.at / 8) x refl h ∙ ap (λ (f : ℕ). bits_of s f 8) e ∙ ap (bits_of s a.at) m
 
 returns-2 : tie.Need-returns-2
 returns-2 c = c.read.ensures ∙ whole _ _ _ (omega arith)

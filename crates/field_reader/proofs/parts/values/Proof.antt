@@ -9,8 +9,8 @@ use lib.ListN.{length, take, get_or, replicate, length-set}
 use lib.Seq.{take-suc, take-suc-set, take_all, get_or-set_other}
 use Rattle.bits.proofs.Laws.{whole}
 use Rattle.fields.specs.Table.{values_of}
-use Rattle.fields.proofs.Rounds.{valuesOf-snoc, sum-join}
-use Rattle.field_reader.proofs.Values.{values-are, zeros-at}
+use Rattle.fields.proofs.Rounds.{values_of_snoc, sum_join}
+use Rattle.field_reader.proofs.Values.{values-are, zeros_at}
 use Rattle.fields.specs.Writing.{sum_of}
 use Rattle.field_reader.proofs.parts.values.Statement.{statement}
 use Rattle.field_reader.proofs.parts.values.Tie as tie
@@ -40,7 +40,7 @@ loop-holds c =
       omega (arith, s.requires.2 0),
       rw t (omega arith),
       rw (t, s.requires.1) refl,
-      λ k h. get_or-set_other (replicate 11 0) 0 k _ 0 (λ e. omega arith) ∙ zeros-at 11 k,
+      λ k h. get_or-set_other (replicate 11 0) 0 k _ 0 (λ e. omega arith) ∙ zeros_at 11 k,
     )
 
 cast-w : tie.Need-overflow-cast-w invariant-loop decreases-loop
@@ -68,8 +68,8 @@ loop-again c =
       omega arith,
       simp length-set l.invariant.1,
       omega (arith, s.requires.2 l.i),
-      rw (t, sum-join) (omega (arith, l.invariant.3)),
-      rw (t, valuesOf-snoc, ← l.invariant.3, ← l.invariant.4, ← whole a.b.now l.at w (omega (arith, s.requires.2 l.i)), ← c.read.ensures, add-one) (take-suc-set l.v l.i _ (omega arith)),
+      rw (t, sum_join) (omega (arith, l.invariant.3)),
+      rw (t, values_of_snoc, ← l.invariant.3, ← l.invariant.4, ← whole a.b.now l.at w (omega (arith, s.requires.2 l.i)), ← c.read.ensures, add-one) (take-suc-set l.v l.i _ (omega arith)),
       λ k h. get_or-set_other l.v l.i k _ 0 (λ e. omega arith) ∙ l.invariant.5 k (omega arith),
     )
 

@@ -2,17 +2,17 @@
 use borrow.Author.Rules.{rules}
 use mathlib.Core.Path.{◌∙◌}
 use borrow.Author.Tests.{eq-eqb, ne_eqb}
-use Rattle.fields.specs.Reading.{blockCount}
-use Rattle.fields.proofs.Rows.{count-whole}
+use Rattle.fields.specs.Reading.{block_count}
+use Rattle.fields.proofs.Rows.{count_whole}
 use Rattle.field_reader.proofs.reading.block_count.Statement.{statement}
 use Rattle.field_reader.proofs.reading.block_count.Tie as tie
 
 returns : tie.Need-returns
-unfolding blockCount
-returns c = rw (eq-eqb _ _ c.before.if1.true) ((c.count-in.ensures ∙ count-whole _ _ c.before.before.before.requires))
+unfolding block_count
+returns c = rw (eq-eqb _ _ c.before.if1.true) ((c.count-in.ensures ∙ count_whole _ _ c.before.before.before.requires))
 
 returns-2 : tie.Need-returns-2
-unfolding blockCount
+unfolding block_count
 returns-2 c = rw (ne_eqb _ _ c.if1.false)
 
 pub block-count-spec : {M : Type 1} → statement M

@@ -4,32 +4,32 @@ use borrow.Author.Tests.{not-true, not-false}
 use mathlib.Core.Path.{◌≡◌, refl, sym, ◌∙◌}
 use mathlib.Core.Bool.{true}
 use native.Mathlib.Omega.{arith}
-use Rattle.fields.specs.Table.{rowAt, widthsAt, values_of, RowSmall}
-use Rattle.fields.specs.Reading.{sameWay, notRelayed, sizedBy}
-use Rattle.field_reader.specs.Steps.{rowRead}
-use Rattle.fields.proofs.Rows.{first_width, widths-narrow, widths-taper, row_small, rest-quiet, values-fit}
+use Rattle.fields.specs.Table.{row_at, widths_at, values_of, RowSmall}
+use Rattle.fields.specs.Reading.{same_way_as, not_relayed, sized_by}
+use Rattle.field_reader.specs.Steps.{row_read}
+use Rattle.fields.proofs.Rows.{first_width, widths_narrow, widths_taper, row_small, rest_quiet, values_fit}
 use Rattle.field_reader.proofs.reading.row_read.Statement.{statement}
 use Rattle.field_reader.proofs.reading.row_read.Tie as tie
 
 way-is : (c : tie.After-same-way) →
     let a = c.before.before.before.args in
-    sameWay (rowAt a.i).way a.way ≡ c.same_way.result
+    same_way_as (row_at a.i).way a.way ≡ c.same_way.result
 way-is c = rw (← c.before.row_at.ensures) (sym c.same_way.ensures)
 
 returns : tie.Need-returns
-unfolding rowRead
+unfolding row_read
 returns c = rw (way-is c.before ∙ not-true _ c.if1.true)
 
 values-requires : tie.Need-values-requires
 values-requires c κs =
     let s = c.before.before.before.before.before in
     let w = c.widths-at.ensures in
-    (omega arith, rw (w, first_width s.args.i s.requires.1) s.requires.2, rw w (widths-narrow s.args.i s.requires.1), rw w (widths-taper s.args.i s.requires.1))
+    (omega arith, rw (w, first_width s.args.i s.requires.1) s.requires.2, rw w (widths_narrow s.args.i s.requires.1), rw w (widths_taper s.args.i s.requires.1))
 
 -- the values are those of the type's parts
 values-are : (c : tie.After-values) →
     let a = c.before.before.before.before.before.before.args in
-    c.values.result ≡ values_of a.b.now a.before (widthsAt a.i)
+    c.values.result ≡ values_of a.b.now a.before (widths_at a.i)
 values-are c = rw (← c.before.widths-at.ensures) c.values.ensures
 
 small : (c : tie.After-values) → RowSmall c.before.before.before.before.row_at.result c.values.result
@@ -37,12 +37,12 @@ small c =
     let q = c.before.before.before.before in
     let s = q.before.before in
     let a = s.args in
-    let vs = values_of a.b.now a.before (widthsAt a.i) in
-    rw (values-are c, q.row_at.ensures) (row_small a.i vs s.requires.1 (values-fit a.b.now a.before (widthsAt a.i)))
+    let vs = values_of a.b.now a.before (widths_at a.i) in
+    rw (values-are c, q.row_at.ensures) (row_small a.i vs s.requires.1 (values_fit a.b.now a.before (widths_at a.i)))
 
 relayed-is : (c : tie.After-not-relayed) →
     let a = c.before.before.before.before.before.before.before.args in
-    notRelayed (rowAt a.i).code a.before ≡ c.not-relayed.result
+    not_relayed (row_at a.i).code a.before ≡ c.not-relayed.result
 relayed-is c = rw (← c.before.before.before.before.before.row_at.ensures) (sym c.not-relayed.ensures)
 
 is-sized-requires : tie.Need-is-sized-requires
@@ -50,21 +50,21 @@ is-sized-requires c κs = (small c.before, omega arith)
 
 sized-is : (c : tie.After-is-sized) →
     let a = c.before.before.before.before.before.before.before.before.args in
-    sizedBy a.count a.before (rowAt a.i) (values_of a.b.now a.before (widthsAt a.i)) ≡ c.is-sized.result
+    sized_by a.count a.before (row_at a.i) (values_of a.b.now a.before (widths_at a.i)) ≡ c.is-sized.result
 sized-is c = rw (← values-are c.before.before, ← c.before.before.before.before.before.before.row_at.ensures) (sym c.is-sized.ensures)
 
 -- the way is the type's
 same : (c : tie.After-is-sized) →
     let a = c.before.before.before.before.before.before.before.before.args in
-    sameWay (rowAt a.i).way a.way ≡ true
+    same_way_as (row_at a.i).way a.way ≡ true
 same c = let e = c.before.before.before.before in way-is e.before ∙ not-false _ e.if1.false
 
 returns-2 : tie.Need-returns-2
-unfolding rowRead
+unfolding row_read
 returns-2 c = let k = c.before in rw (same k, relayed-is k.before ∙ c.if2.true)
 
 returns-3 : tie.Need-returns-3
-unfolding rowRead
+unfolding row_read
 returns-3 c =
     let e = c.before in
     let k = e.before in
@@ -75,10 +75,10 @@ judged-requires c κs =
     let k = c.before.before.before.before.before in
     let s = k.before.before.before.before.before.before in
     let a = s.args in
-    (small k, omega arith, omega arith, rw (values-are k, k.before.widths-at.ensures) (rest-quiet a.i _ s.requires.1 (values-fit a.b.now a.before (widthsAt a.i))))
+    (small k, omega arith, omega arith, rw (values-are k, k.before.widths-at.ensures) (rest_quiet a.i _ s.requires.1 (values_fit a.b.now a.before (widths_at a.i))))
 
 returns-4 : tie.Need-returns-4
-unfolding rowRead
+unfolding row_read
 returns-4 c =
     let t = c.before.before in
     let e = t.before in

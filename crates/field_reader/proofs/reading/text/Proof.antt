@@ -4,28 +4,28 @@ use mathlib.Core.Path.{◌≡◌, refl, sym, ap, ◌∙◌}
 use native.Mathlib.Omega.{arith}
 use lib.ListN.{length, drop_of_length-le}
 use lib.Seq.{drop-length}
-use Rattle.fields.specs.Reading.{text_of, textPlace, answer_of}
-use Rattle.field_reader.proofs.Values.{rest-whole}
+use Rattle.fields.specs.Reading.{text_of, text_place, answer_of}
+use Rattle.field_reader.proofs.Values.{rest_whole}
 use Rattle.field_reader.proofs.reading.text.Statement.{statement}
 use Rattle.field_reader.proofs.reading.text.Tie as tie
 
 -- the place is the definition's
 place : (c : tie.After-text-place) →
     let a = c.before.before.before.args in
-    c.text-place.result ≡ textPlace a.b.now (answer_of a.b.now a.count a.way)
-place c = c.text-place.ensures ∙ ap (textPlace _) c.before.judge.ensures
+    c.text-place.result ≡ text_place a.b.now (answer_of a.b.now a.count a.way)
+place c = c.text-place.ensures ∙ ap (text_place _) c.before.judge.ensures
 
 returns : tie.Need-returns
 unfolding text_of
-returns c = rest-whole c.before.before.before.before.before.args.b.now c.before.before.text-place.result ∙ rw (place c.before.before) refl
+returns c = rest_whole c.before.before.before.before.before.args.b.now c.before.before.text-place.result ∙ rw (place c.before.before) refl
 
 returns-2 : tie.Need-returns-2
 unfolding text_of
 returns-2 c =
     let a = c.before.before.before.before.before.args in
     let b = a.b.now in
-    rest-whole b (length b) ∙ drop-length b
-    ∙ sym (drop_of_length-le b {i = textPlace b (answer_of b a.count a.way)} (rw (← place c.before.before) (omega (arith, c.before.if1.false))))
+    rest_whole b (length b) ∙ drop-length b
+    ∙ sym (drop_of_length-le b {i = text_place b (answer_of b a.count a.way)} (rw (← place c.before.before) (omega (arith, c.before.if1.false))))
 
 pub text-spec : {M : Type 1} → statement M
 text-spec =

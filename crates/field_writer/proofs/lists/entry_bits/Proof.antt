@@ -5,7 +5,7 @@ use mathlib.Core.Path.{◌≡◌, sym, ap, ◌∙◌}
 use native.Mathlib.Omega.{arith}
 use lib.IntN.{nat_abs}
 use mir.Facts.{to_z-of_z}
-use Rattle.fields.specs.Lists.{entryBits, negative}
+use Rattle.fields.specs.Lists.{entry_bits, negative}
 use Rattle.field_writer.proofs.lists.entry_bits.Statement.{statement}
 use Rattle.field_writer.proofs.lists.entry_bits.Tie as tie
 
@@ -16,15 +16,15 @@ sign : (c : tie.After-is-negative) → negative c.before.before.before.args.z �
 sign c = ap negative (sym (to_z-of_z c.before.before.before.ranges.z)) ∙ sym c.is_negative.ensures
 
 returns : tie.Need-returns
-unfolding entryBits
+unfolding entry_bits
 returns c = rw (eq-eqb _ _ c.before.before.if1.true, sign c.before ∙ c.if2.true, abs c.before.before.before)
 
 returns-2 : tie.Need-returns-2
-unfolding entryBits
+unfolding entry_bits
 returns-2 c = rw (eq-eqb _ _ c.before.before.if1.true, sign c.before ∙ c.if2.false, abs c.before.before.before) (omega arith)
 
 returns-3 : tie.Need-returns-3
-unfolding entryBits
+unfolding entry_bits
 returns-3 c = rw (ne_eqb _ _ c.if1.false) (abs c.before)
 
 pub entry-bits-spec : {M : Type 1} → statement M

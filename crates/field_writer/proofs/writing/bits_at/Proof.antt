@@ -3,17 +3,17 @@ use borrow.Author.Rules.{rules}
 use mathlib.Core.Path.{◌≡◌, refl, ap, ◌∙◌}
 use Prim.Native.Nat.{◌*◌, ◌≤◌}
 use native.Mathlib.Omega.{arith}
-use Rattle.fields.specs.Table.{sizeIn, RowSmall}
-use Rattle.fields.specs.Records.{numbersOf}
-use Rattle.fields.specs.Writing.{numbersIn}
-use Rattle.fields.proofs.Rows.{count_small, count-whole}
+use Rattle.fields.specs.Table.{size_in, RowSmall}
+use Rattle.fields.specs.Records.{numbers_of}
+use Rattle.fields.specs.Writing.{numbers_in}
+use Rattle.fields.proofs.Rows.{count_small, count_whole}
 use Rattle.fields.proofs.Entries.{product}
 use Rattle.fields.proofs.Puts.{head_small}
 use Rattle.field_writer.proofs.writing.bits_at.Statement.{statement}
 use Rattle.field_writer.proofs.writing.bits_at.Tie as tie
 
-numbers-are : (c : tie.After-numbers) → c.numbers.result ≡ numbersIn c.before.before.before.args.given
-numbers-are c = c.numbers.ensures ∙ ap numbersOf c.before.field_in.ensures
+numbers-are : (c : tie.After-numbers) → c.numbers.result ≡ numbers_in c.before.before.before.args.given
+numbers-are c = c.numbers.ensures ∙ ap numbers_of c.before.field_in.ensures
 
 small : (c : tie.After-numbers) → RowSmall c.before.before.row_at.result c.numbers.result
 small c = rw (numbers-are c, c.before.before.row_at.ensures) c.before.before.before.requires.1
@@ -21,7 +21,7 @@ small c = rw (numbers-are c, c.before.before.row_at.ensures) c.before.before.bef
 most : (c : tie.After-count-in) → c.before.before.before.before.row_at.result.step * c.count-in.result ≤ 80 * 46
 most c =
     let p = small c.before.before in
-    product c.before.before.before.before.row_at.result.step c.count-in.result 80 46 p.step (rw ((c.count-in.ensures ∙ count-whole _ _ p)) (count_small _ _ p))
+    product c.before.before.before.before.row_at.result.step c.count-in.result 80 46 p.step (rw ((c.count-in.ensures ∙ count_whole _ _ p)) (count_small _ _ p))
 
 mul-result : tie.Need-overflow-mul-result
 mul-result c = omega (arith, most c.before)
@@ -36,12 +36,12 @@ add-result-2 c =
     omega (arith, most c.before.before)
 
 returns : tie.Need-returns
-unfolding sizeIn
+unfolding size_in
 returns c =
     let p = small c.before.before.before.before in
     let h : c.before.before.before.head-bits.result ≤ 16 = rw c.before.before.before.head-bits.ensures (head_small c.before.before.before.before.before.before.before.args.given) in
     let q = c.before.before.before.before in (
-      rw ((c.before.before.count-in.ensures ∙ count-whole _ _ p), numbers-are q, q.before.before.row_at.ensures, c.before.before.before.head-bits.ensures) refl,
+      rw ((c.before.before.count-in.ensures ∙ count_whole _ _ p), numbers-are q, q.before.before.row_at.ensures, c.before.before.before.head-bits.ensures) refl,
       omega (arith, most c.before.before),
     )
 

@@ -4,13 +4,13 @@ use mathlib.Core.Path.{◌≡◌, refl, sym, ◌∙◌}
 use Prim.Native.Nat.{◌-◌, ◌≤◌}
 use native.Mathlib.Omega.{arith}
 use lib.ListN.{length, drop, drop_of_length-le}
-use Rattle.fields.specs.Writing.{fitAll}
-use Rattle.field_writer.proofs.Puts.{fitAll-good, fitAll-bad, shifted-out, shifted_in}
+use Rattle.fields.specs.Writing.{fit_all}
+use Rattle.field_writer.proofs.Puts.{fit_all_good, fit_all_bad, shifted_out, shifted_in}
 use Rattle.field_writer.proofs.writing.fit_all.Statement.{statement}
 use Rattle.field_writer.proofs.writing.fit_all.Tie as tie
 
 abbrev invariant-loop : tie.invariant-loop
-invariant-loop widths v i₀ i = (i ≤ 11) × (fitAll (drop i widths) (drop i v) ≡ fitAll widths v)
+invariant-loop widths v i₀ i = (i ≤ 11) × (fit_all (drop i widths) (drop i v) ≡ fit_all widths v)
 
 abbrev decreases-loop : tie.decreases-loop
 decreases-loop widths v i₀ i = 11 - i
@@ -30,7 +30,7 @@ loop-again c =
     let a = c.before.before.before.args in
     let n : length a.t1 ≡ 11 = search rules in
     let m : length a.t2 ≡ 11 = search rules in
-    (omega arith, sym (fitAll-good a.t1 a.t2 l.i (omega arith) (omega arith) (shifted-out _ _ c.if1.true)) ∙ l.invariant.1)
+    (omega arith, sym (fit_all_good a.t1 a.t2 l.i (omega arith) (omega arith) (shifted_out _ _ c.if1.true)) ∙ l.invariant.1)
 
 returns : tie.Need-returns invariant-loop decreases-loop
 returns c =
@@ -38,10 +38,10 @@ returns c =
     let a = c.before.before.before.args in
     let n : length a.t1 ≡ 11 = search rules in
     let m : length a.t2 ≡ 11 = search rules in
-    sym (fitAll-bad a.t1 a.t2 l.i (omega arith) (omega arith) (shifted_in _ _ c.if1.false)) ∙ l.invariant.1
+    sym (fit_all_bad a.t1 a.t2 l.i (omega arith) (omega arith) (shifted_in _ _ c.if1.false)) ∙ l.invariant.1
 
 returns-2 : tie.Need-returns-2 invariant-loop decreases-loop
-unfolding fitAll
+unfolding fit_all
 returns-2 c =
     let l = c.before.loop in
     let a = c.before.before.args in

@@ -4,25 +4,25 @@ use mathlib.Core.Path.{◌≡◌, refl, ap, ◌∙◌}
 use Prim.Native.Nat.{◌*◌, ◌≤◌}
 use native.Mathlib.Omega.{arith}
 use lib.ListN.{length}
-use Rattle.fields.specs.Table.{rowAt, RowSmall}
-use Rattle.fields.specs.Records.{numbersOf}
+use Rattle.fields.specs.Table.{row_at, RowSmall}
+use Rattle.fields.specs.Records.{numbers_of}
 use Rattle.fields.specs.Reading.{listed}
-use Rattle.fields.specs.Writing.{numbersIn, putField}
-use Rattle.fields.proofs.Rows.{widths-narrow}
+use Rattle.fields.specs.Writing.{numbers_in, put_field}
+use Rattle.fields.proofs.Rows.{widths_narrow}
 use Rattle.fields.proofs.Entries.{product}
-use Rattle.fields.proofs.Puts.{listFits-room, head_small}
-use Rattle.fields.proofs.Taking.{Taken, taken, taken-small, text-small, groups}
+use Rattle.fields.proofs.Puts.{list_fits_room, head_small}
+use Rattle.fields.proofs.Taking.{Taken, taken, taken_small, text_small, groups}
 use Rattle.field_writer.proofs.writing.put_field.Statement.{statement}
 use Rattle.field_writer.proofs.writing.put_field.Tie as tie
 
-numbers-are : (c : tie.After-numbers) → c.numbers.result ≡ numbersIn c.before.before.before.before.before.args.given
-numbers-are c = c.numbers.ensures ∙ ap numbersOf c.before.field_in.ensures
+numbers-are : (c : tie.After-numbers) → c.numbers.result ≡ numbers_in c.before.before.before.before.before.args.given
+numbers-are c = c.numbers.ensures ∙ ap numbers_of c.before.field_in.ensures
 
 told : (c : tie.Start) → Taken c.args.i c.args.given c.args.list (length c.args.text.now)
 told c = taken _ _ _ _ c.requires.1
 
-small : (c : tie.Start) → RowSmall (rowAt c.args.i) (numbersIn c.args.given)
-small c = taken-small c.args.i c.args.given c.requires.0 (told c).ranges
+small : (c : tie.Start) → RowSmall (row_at c.args.i) (numbers_in c.args.given)
+small c = taken_small c.args.i c.args.given c.requires.0 (told c).ranges
 
 listed-in-requires : tie.Need-listed-in-requires
 listed-in-requires c κs =
@@ -32,7 +32,7 @@ listed-in-requires c κs =
 bits-at-requires : tie.Need-bits-at-requires
 bits-at-requires c κs = let s = c.before.before.before.before.before.before.before in (s.requires.0, small s)
 
-listed-is : (c : tie.After-listed-in) → let a = c.before.before.before.before.before.before.before.args in c.Listed-in.result ≡ listed a.i (numbersIn a.given)
+listed-is : (c : tie.After-listed-in) → let a = c.before.before.before.before.before.before.before.args in c.Listed-in.result ≡ listed a.i (numbers_in a.given)
 listed-is c =
     let n = c.before.before in
     rw (← numbers-are n, ← n.before.before.row_at.ensures) c.Listed-in.ensures
@@ -48,7 +48,7 @@ bounds c =
     let s = c.before.before.before.before.before.before.before.before in
     let r = c.before.before.before.before.before in
     let m : length s.args.list ≡ 30 = search rules in
-    let room = listFits-room (rowAt s.args.i).step (listed s.args.i (numbersIn s.args.given)) s.args.list (told s).list in
+    let room = list_fits_room (row_at s.args.i).step (listed s.args.i (numbers_in s.args.given)) s.args.list (told s).list in
     let n : c.before.Listed-in.result ≤ 30 = rw (listed-is c.before) (omega arith) in
     let q : r.row_at.result.step ≤ 80 = rw r.row_at.ensures (small s).step in (
       rw c.before.before.head-bits.ensures (head_small s.args.given),
@@ -62,7 +62,7 @@ put-parts-requires : tie.Need-put-parts-requires
 put-parts-requires c κs =
     let b = bounds c.before.before.before.before.before.before in
     let s = c.before.before.before.before.before.before.before.before.before.before.before.before.before.before in
-    (omega arith, rw c.widths-at.ensures (widths-narrow s.args.i s.requires.0))
+    (omega arith, rw c.widths-at.ensures (widths_narrow s.args.i s.requires.0))
 
 add-put-entries : tie.Need-overflow-add-put-entries
 add-put-entries c = omega (arith, bounds c.before.before.before.before.before.before.before.before.before.before)
@@ -82,11 +82,11 @@ add-put-text-2 c = omega (arith, bounds c.before.before.before.before.before.bef
 put-text-requires : tie.Need-put-text-requires
 put-text-requires c κs =
     let s = c.before.before.before.before.before.before.before.before.before.before.before.before.before.before.before.before.before.before.before.before.before.before in
-    let t = text-small (rowAt s.args.i) (numbersIn s.args.given) (small s) in
+    let t = text_small (row_at s.args.i) (numbers_in s.args.given) (small s) in
     (omega (arith, bounds c.before.before.before.before.before.before.before.before.before.before.before.before.before.before), omega (arith, (told s).text))
 
 returns : tie.Need-returns
-unfolding putField
+unfolding put_field
 returns c =
     let s = c.before.before.before.before.before.before.before.before.before.before.before.before.before.before.before.before.before.before.before.before.before.before.before.before.before.before.before.before.before in
     let a = s.args in

@@ -4,9 +4,9 @@ use mathlib.Core.Path.{◌≡◌, refl, sym, ◌∙◌}
 use Prim.Native.Nat.{◌+◌, ◌-◌, ◌*◌, ◌≤◌}
 use native.Mathlib.Omega.{arith}
 use lib.ListN.{length, drop, drop_of_length-le}
-use Rattle.bits.proofs.Laws.{length-putBits}
+use Rattle.bits.proofs.Laws.{length-put_bits}
 use Rattle.fields.specs.Writing.{put_all}
-use Rattle.field_writer.proofs.Puts.{putAll-step}
+use Rattle.field_writer.proofs.Puts.{put_all_step}
 use Rattle.field_writer.proofs.writing.put_parts.Statement.{statement}
 use Rattle.field_writer.proofs.writing.put_parts.Tie as tie
 
@@ -38,8 +38,8 @@ loop-again c =
     let m : length a.t4 ≡ 11 = search rules in (
       omega arith,
       omega (arith, h.before.before.requires.1 l.i),
-      rw (p.ensures, length-putBits) l.invariant.2,
-      rw p.ensures (sym (putAll-step l.s l.at a.t3 a.t4 l.i (omega arith) (omega arith)) ∙ l.invariant.3),
+      rw (p.ensures, length-put_bits) l.invariant.2,
+      rw p.ensures (sym (put_all_step l.s l.at a.t3 a.t4 l.i (omega arith) (omega arith)) ∙ l.invariant.3),
     )
 
 same_length : tie.Need-same-length invariant-loop decreases-loop

@@ -4,7 +4,7 @@ use mathlib.Core.Path.{◌≡◌, refl, sym, ◌∙◌}
 use Prim.Native.Nat.{ℕ, ◌+◌, ◌-◌, ◌*◌, ◌≤◌}
 use native.Mathlib.Omega.{arith}
 use lib.ListN.{length, drop, replicate}
-use Rattle.bits.proofs.Laws.{length-putBits}
+use Rattle.bits.proofs.Laws.{length-put_bits}
 use Rattle.fields.specs.Writing.{put_all}
 use Rattle.fields.proofs.Entries.{from_first}
 use Rattle.field_writer.proofs.Puts.{same_step, same_none}
@@ -32,7 +32,7 @@ loop-again c =
     let l = h.loop in
     let a = h.before.before.before.args in (
       omega arith,
-      rw (p.ensures, length-putBits) l.invariant.1,
+      rw (p.ensures, length-put_bits) l.invariant.1,
       rw (p.ensures, x.ensures) (sym (same_step l.s a.before 8 (length a.text.now) a.text.now l.k (omega arith) (omega arith)) ∙ l.invariant.2),
     )
 

@@ -2,27 +2,27 @@
 use borrow.Author.Rules.{rules}
 use borrow.Author.Tests.{lt-ltb, le-ltb}
 use mathlib.Core.Path.{◌≡◌, sym, ◌∙◌}
-use Rattle.fields.specs.Table.{rowAt}
-use Rattle.fields.specs.Reading.{fromSensor}
-use Rattle.fields.specs.Writing.{relaysAt}
+use Rattle.fields.specs.Table.{row_at}
+use Rattle.fields.specs.Reading.{from_sensor}
+use Rattle.fields.specs.Writing.{relays_at}
 use Rattle.field_writer.proofs.writing.relays.Statement.{statement}
 use Rattle.field_writer.proofs.writing.relays.Tie as tie
 
 returns : tie.Need-returns
-unfolding relaysAt
+unfolding relays_at
 returns c = rw (le-ltb _ _ c.if1.true)
 
-way-is : (c : tie.After-from-sensor) → fromSensor (rowAt c.before.before.before.args.i).way ≡ c.from-sensor.result
-way-is c = rw (← c.before.before.row_at.ensures) (sym c.from-sensor.ensures)
+way-is : (c : tie.After-from-sensor) → from_sensor (row_at c.before.before.before.args.i).way ≡ c.from_sensor_is.result
+way-is c = rw (← c.before.before.row_at.ensures) (sym c.from_sensor_is.ensures)
 
 returns-2 : tie.Need-returns-2
-unfolding relaysAt
+unfolding relays_at
 returns-2 c =
     let f = c.before.before in
     rw (lt-ltb _ _ f.before.if1.false, way-is f ∙ c.before.if2.true, f.before.before.row_at.ensures)
 
 returns-3 : tie.Need-returns-3
-unfolding relaysAt
+unfolding relays_at
 returns-3 c =
     let f = c.before in
     rw (lt-ltb _ _ f.before.if1.false, way-is f ∙ c.if2.false)

@@ -1,7 +1,7 @@
 -- `field_writer::writing::write_at` meets its contract: a refusal leaves the bytes as they were. Assumes nothing.
 use borrow.Author.Rules.{rules}
 use mathlib.Core.Path.{sym, ◌∙◌}
-use Rattle.field_writer.proofs.Left.{bits-taken, left_by}
+use Rattle.field_writer.proofs.Left.{bits_taken, left_by}
 use Rattle.field_writer.proofs.writing.write_at.Statement.{statement}
 use Rattle.field_writer.proofs.writing.write_at.Tie as tie
 
@@ -15,7 +15,7 @@ put-field-requires c κs =
     let t = c.before in
     let a = t.before.before in
     let s = a.before.before.before in
-    (s.requires, bits-taken _ _ _ _ _ _ (sym a.answer_at.ensures ∙ t.enum_told.given.1))
+    (s.requires, bits_taken _ _ _ _ _ _ (sym a.answer_at.ensures ∙ t.enum_told.given.1))
 
 returns-2 : tie.Need-returns-2
 returns-2 c =

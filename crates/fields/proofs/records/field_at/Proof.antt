@@ -1,7 +1,7 @@
 -- `fields::records::field_at` meets its contract: the arms stand in the table's order. Assumes nothing.
 use Rattle.std.proofs.Common.{◌≡◌, ℕ, suc, ◌≤◌, sym, zero-le}
 use lib.Arith.{lt_of_le-ne}
-use Rattle.fields.proofs.Rows.{fieldAt-last}
+use Rattle.fields.proofs.Rows.{field_at-last}
 use Rattle.fields.specs.Records.{field_at}
 use Rattle.fields.proofs.records.field_at.Statement.{statement}
 use Rattle.fields.proofs.records.field_at.Tie as tie
@@ -95,7 +95,7 @@ returns-21 c =
     let m = c.match.rest in
     let h : 20 ≤ c.before.args.at =
     past (past (past (past (past (past (past (past (past (past (past (past (past (past (past (past (past (past (past (past zero-le m.0.0.0.0.0.0.0.0.0.0.0.0.0.0.0.0.0.0.0.1) m.0.0.0.0.0.0.0.0.0.0.0.0.0.0.0.0.0.0.1) m.0.0.0.0.0.0.0.0.0.0.0.0.0.0.0.0.0.1) m.0.0.0.0.0.0.0.0.0.0.0.0.0.0.0.0.1) m.0.0.0.0.0.0.0.0.0.0.0.0.0.0.0.1) m.0.0.0.0.0.0.0.0.0.0.0.0.0.0.1) m.0.0.0.0.0.0.0.0.0.0.0.0.0.1) m.0.0.0.0.0.0.0.0.0.0.0.0.1) m.0.0.0.0.0.0.0.0.0.0.0.1) m.0.0.0.0.0.0.0.0.0.0.1) m.0.0.0.0.0.0.0.0.0.1) m.0.0.0.0.0.0.0.0.1) m.0.0.0.0.0.0.0.1) m.0.0.0.0.0.0.1) m.0.0.0.0.0.1) m.0.0.0.0.1) m.0.0.0.1) m.0.0.1) m.0.1) m.1 in
-    sym (fieldAt-last _ _ _ _ _ _ _ _ _ _ _ h)
+    sym (field_at-last _ _ _ _ _ _ _ _ _ _ _ h)
 
 pub field-at-spec : {M : Type 1} → statement M
 field-at-spec =

@@ -1,71 +1,71 @@
 -- `fields::records::numbers` meets its contract. Assumes nothing.
 use Rattle.std.proofs.Common.{sym, ap, rules}
-use Rattle.fields.specs.Records.{numbersOf}
+use Rattle.fields.specs.Records.{numbers_of}
 use Rattle.fields.proofs.records.numbers.Statement.{statement}
 use Rattle.fields.proofs.records.numbers.Tie as tie
 
 returns : tie.Need-returns
-returns c = sym (ap numbersOf c.before.f.given.1)
+returns c = sym (ap numbers_of c.before.f.given.1)
 
 returns-2 : tie.Need-returns-2
-returns-2 c = sym (ap numbersOf c.before.f2.given.1)
+returns-2 c = sym (ap numbers_of c.before.f2.given.1)
 
 returns-3 : tie.Need-returns-3
-returns-3 c = sym (ap numbersOf c.before.f3.given.1)
+returns-3 c = sym (ap numbers_of c.before.f3.given.1)
 
 returns-4 : tie.Need-returns-4
-returns-4 c = sym (ap numbersOf c.before.f4.given.1)
+returns-4 c = sym (ap numbers_of c.before.f4.given.1)
 
 returns-5 : tie.Need-returns-5
-returns-5 c = sym (ap numbersOf c.before.f5.given.1)
+returns-5 c = sym (ap numbers_of c.before.f5.given.1)
 
 returns-6 : tie.Need-returns-6
-returns-6 c = sym (ap numbersOf c.before.f6.given.1)
+returns-6 c = sym (ap numbers_of c.before.f6.given.1)
 
 returns-7 : tie.Need-returns-7
-returns-7 c = sym (ap numbersOf c.before.f7.given.1)
+returns-7 c = sym (ap numbers_of c.before.f7.given.1)
 
 returns-8 : tie.Need-returns-8
-returns-8 c = sym (ap numbersOf c.before.f8.given.1)
+returns-8 c = sym (ap numbers_of c.before.f8.given.1)
 
 returns-9 : tie.Need-returns-9
-returns-9 c = sym (ap numbersOf c.before.f9.given.1)
+returns-9 c = sym (ap numbers_of c.before.f9.given.1)
 
 returns-10 : tie.Need-returns-10
-returns-10 c = sym (ap numbersOf c.before.f10.given.1)
+returns-10 c = sym (ap numbers_of c.before.f10.given.1)
 
 returns-11 : tie.Need-returns-11
-returns-11 c = sym (ap numbersOf c.before.f11.given.1)
+returns-11 c = sym (ap numbers_of c.before.f11.given.1)
 
 returns-12 : tie.Need-returns-12
-returns-12 c = sym (ap numbersOf c.before.f12.given.1)
+returns-12 c = sym (ap numbers_of c.before.f12.given.1)
 
 returns-13 : tie.Need-returns-13
-returns-13 c = sym (ap numbersOf c.before.f13.given.1)
+returns-13 c = sym (ap numbers_of c.before.f13.given.1)
 
 returns-14 : tie.Need-returns-14
-returns-14 c = sym (ap numbersOf c.before.f14.given.1)
+returns-14 c = sym (ap numbers_of c.before.f14.given.1)
 
 returns-15 : tie.Need-returns-15
-returns-15 c = sym (ap numbersOf c.before.f15.given.1)
+returns-15 c = sym (ap numbers_of c.before.f15.given.1)
 
 returns-16 : tie.Need-returns-16
-returns-16 c = sym (ap numbersOf c.before.f16.given.1)
+returns-16 c = sym (ap numbers_of c.before.f16.given.1)
 
 returns-17 : tie.Need-returns-17
-returns-17 c = sym (ap numbersOf c.before.f17.given.1)
+returns-17 c = sym (ap numbers_of c.before.f17.given.1)
 
 returns-18 : tie.Need-returns-18
-returns-18 c = sym (ap numbersOf c.before.f18.given.1)
+returns-18 c = sym (ap numbers_of c.before.f18.given.1)
 
 returns-19 : tie.Need-returns-19
-returns-19 c = sym (ap numbersOf c.before.f19.given.1)
+returns-19 c = sym (ap numbers_of c.before.f19.given.1)
 
 returns-20 : tie.Need-returns-20
-returns-20 c = sym (ap numbersOf c.before.f20.given.1)
+returns-20 c = sym (ap numbers_of c.before.f20.given.1)
 
 returns-21 : tie.Need-returns-21
-returns-21 c = sym (ap numbersOf c.before.f21.given.1)
+returns-21 c = sym (ap numbers_of c.before.f21.given.1)
 
 pub numbers-spec : {M : Type 1} → statement M
 numbers-spec =

@@ -1,12 +1,12 @@
 -- `fields::table::find` meets its contract: an arm is its key, and what is none of the keys has no row. Assumes nothing.
 use Rattle.std.proofs.Common.{sym}
-use Rattle.fields.specs.Table.{table, rows, placeFrom}
-use Rattle.fields.proofs.Rows.{placeFrom-none}
+use Rattle.fields.specs.Table.{table, rows, place_from}
+use Rattle.fields.proofs.Rows.{place_from_none}
 use Rattle.fields.proofs.table.find.Statement.{statement}
 use Rattle.fields.proofs.table.find.Tie as tie
 
 pub find_spec : {M : Type 1} → statement M
-unfolding table rows placeFrom
+unfolding table rows place_from
 find_spec =
     tie.close
     (tie.spec
@@ -32,4 +32,4 @@ find_spec =
     (λ c. rw c.match.keys20)
     (λ c. rw c.match.keys21)
     (λ c. rw c.match.keys22)
-    (λ c. sym (placeFrom-none c.before.args.code rows c.match.rest)))
+    (λ c. sym (place_from_none c.before.args.code rows c.match.rest)))

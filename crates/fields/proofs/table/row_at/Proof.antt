@@ -2,17 +2,17 @@
 -- row that the code gives. Assumes nothing.
 use Rattle.std.proofs.Common.{◌≡◌, ℕ, ◌≤◌, sym, ◌∙◌, arith, rules}
 use lib.ListN.{get_or-eq_default}
-use Rattle.fields.specs.Table.{table, rows, no_row, rowAt}
-use Rattle.fields.proofs.Rows.{known, unpacked-at}
+use Rattle.fields.specs.Table.{table, rows, no_row, row_at}
+use Rattle.fields.proofs.Rows.{known, unpacked_at}
 use Rattle.fields.proofs.table.row_at.Statement.{statement}
 use Rattle.fields.proofs.table.row_at.Tie as tie
 
 returns : tie.Need-returns
 unfolding known table rows
-returns c = c.row_of.ensures ∙ unpacked-at _ _ c.before.before.if1.true
+returns c = c.row_of.ensures ∙ unpacked_at _ _ c.before.before.if1.true
 
-past : (i : ℕ) → 22 ≤ i → rowAt i ≡ no_row
-unfolding table rows rowAt
+past : (i : ℕ) → 22 ≤ i → row_at i ≡ no_row
+unfolding table rows row_at
 past i h = get_or-eq_default rows no_row h
 
 returns-2 : tie.Need-returns-2

@@ -1,13 +1,13 @@
 -- `fields::table::rules_at` meets its contract: an arm is its key, and the place that is none of them is past the end. Assumes nothing.
 use Rattle.std.proofs.Common.{sym}
 use lib.ListN.{get_or-eq_default}
-use Rattle.fields.specs.Table.{table, noParts, rules, rulesAt}
-use Rattle.fields.proofs.Rows.{not-below}
+use Rattle.fields.specs.Table.{table, no_parts, rules, rules_at}
+use Rattle.fields.proofs.Rows.{not_below}
 use Rattle.fields.proofs.table.rules_at.Statement.{statement}
 use Rattle.fields.proofs.table.rules_at.Tie as tie
 
 pub rules-at-spec : {M : Type 1} → statement M
-unfolding table rules rulesAt
+unfolding table rules rules_at
 rules-at-spec =
     tie.close
     (tie.spec
@@ -33,4 +33,4 @@ rules-at-spec =
     (λ c. rw c.match.keys20)
     (λ c. rw c.match.keys21)
     (λ c. rw c.match.keys22)
-    (λ c. sym (get_or-eq_default rules noParts (not-below c.before.args.i 22 c.match.rest))))
+    (λ c. sym (get_or-eq_default rules no_parts (not_below c.before.args.i 22 c.match.rest))))

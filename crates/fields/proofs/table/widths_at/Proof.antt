@@ -1,13 +1,13 @@
 -- `fields::table::widths_at` meets its contract: an arm is its key, and the place that is none of them is past the end. Assumes nothing.
 use Rattle.std.proofs.Common.{sym}
 use lib.ListN.{get_or-eq_default}
-use Rattle.fields.specs.Table.{table, noParts, widths, widthsAt}
-use Rattle.fields.proofs.Rows.{not-below}
+use Rattle.fields.specs.Table.{table, no_parts, widths, widths_at}
+use Rattle.fields.proofs.Rows.{not_below}
 use Rattle.fields.proofs.table.widths_at.Statement.{statement}
 use Rattle.fields.proofs.table.widths_at.Tie as tie
 
 pub widths-at-spec : {M : Type 1} → statement M
-unfolding table widths widthsAt
+unfolding table widths widths_at
 widths-at-spec =
     tie.close
     (tie.spec
@@ -33,4 +33,4 @@ widths-at-spec =
     (λ c. rw c.match.keys20)
     (λ c. rw c.match.keys21)
     (λ c. rw c.match.keys22)
-    (λ c. sym (get_or-eq_default widths noParts (not-below c.before.args.i 22 c.match.rest))))
+    (λ c. sym (get_or-eq_default widths no_parts (not_below c.before.args.i 22 c.match.rest))))

@@ -7,32 +7,32 @@ use borrow.Author.Rules.{rules}
 use borrow.Author.Tests.{lt-ltb, le-ltb}
 use lib.ListN.{length, take, drop}
 use Rattle.frames.specs.declared.Found.{Found}
-use Rattle.frames.specs.Reading.{readFrame}
-use Rattle.frame_host.specs.Calls.{countOf, copied, fieldLeft}
+use Rattle.frames.specs.Reading.{read_frame}
+use Rattle.frame_host.specs.Calls.{count_of, copied, field_left}
 use Rattle.frame_host.proofs.Fields.{count_most}
 use Rattle.frame_host.proofs.reading.siamrung_frame_field.Statement.{statement}
 use Rattle.frame_host.proofs.reading.siamrung_frame_field.Tie as tie
 
-module _ (f : Found) (lent : List ℕ) (n : ℕ) (is : n ≡ (countOf f.what + 7) / 8) where
+module _ (f : Found) (lent : List ℕ) (n : ℕ) (is : n ≡ (count_of f.what + 7) / 8) where
   -- it does not fit
-  none : length lent < n → (0 ≡ copied f.what (length lent)) × (lent ≡ fieldLeft f lent)
-  none h = let e = lt-ltb (length lent) ((countOf f.what + 7) / 8) (rw is at h) in rw e (refl, refl)
+  none : length lent < n → (0 ≡ copied f.what (length lent)) × (lent ≡ field_left f lent)
+  none h = let e = lt-ltb (length lent) ((count_of f.what + 7) / 8) (rw is at h) in rw e (refl, refl)
 
   -- it fits
-  all : n ≤ length lent → (exit : List ℕ) → exit ≡ take n f.field ++ drop n lent → (n ≡ copied f.what (length lent)) × (exit ≡ fieldLeft f lent)
-  all h exit put = let e = le-ltb (length lent) ((countOf f.what + 7) / 8) (rw is at h) in rw e (is, rw is at put)
+  all : n ≤ length lent → (exit : List ℕ) → exit ≡ take n f.field ++ drop n lent → (n ≡ copied f.what (length lent)) × (exit ≡ field_left f lent)
+  all h exit put = let e = le-ltb (length lent) ((count_of f.what + 7) / 8) (rw is at h) in rw e (is, rw is at put)
 
 -- how many bytes the field has
 size_is : (c : tie.After-size-of) → let r = c.before.before.before in let a = r.before.before.before.args in
-    c.type_size.result ≡ (countOf (readFrame a.bytes.now a.count a.place).what + 7) / 8
+    c.type_size.result ≡ (count_of (read_frame a.bytes.now a.count a.place).what + 7) / 8
 size_is c =
     let r = c.before.before.before in
-    c.type_size.ensures ∙ ap (λ (k : ℕ). (k + 7) / 8) (c.before.count_of.ensures ∙ ap (λ (f : Found). countOf f.what) r.read.ensures)
+    c.type_size.ensures ∙ ap (λ (k : ℕ). (k + 7) / 8) (c.before.count_of.ensures ∙ ap (λ (f : Found). count_of f.what) r.read.ensures)
 
 returns : tie.Need-returns
 returns c =
     let a = c.before.before.before.before.before.before.before.args in
-    none (readFrame a.bytes.now a.count a.place) a.field.now _ (size_is c.before) c.if1.true
+    none (read_frame a.bytes.now a.count a.place) a.field.now _ (size_is c.before) c.if1.true
 
 copy-requires : tie.Need-copy-requires
 copy-requires c κs =
@@ -47,7 +47,7 @@ returns-2 c =
     let s = i.before in
     let r = s.before.before.before in
     let a = r.before.before.before.args in
-    all (readFrame a.bytes.now a.count a.place) a.field.now _ (size_is s) i.if1.false _
+    all (read_frame a.bytes.now a.count a.place) a.field.now _ (size_is s) i.if1.false _
     (w.copy.ensures ∙ ap (λ (f : Found). take s.type_size.result f.field ++ drop s.type_size.result a.field.now) r.read.ensures)
 
 pub siamrung-frame-field-spec : {M : Type 1} → statement M

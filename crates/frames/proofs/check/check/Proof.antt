@@ -4,17 +4,17 @@ use mathlib.Core.List.{List}
 use Prim.Native.Nat.{ℕ, ◌-◌, ◌≤◌, ◌<◌}
 use native.Mathlib.Omega.{arith}
 use borrow.Author.Rules.{rules}
-use Rattle.frames.specs.Steps.{registerAt}
-use Rattle.frames.proofs.Bytewise.{register-lt, bit-on, check-is}
+use Rattle.frames.specs.Steps.{register_at}
+use Rattle.frames.proofs.Bytewise.{register_lt, bit_on, check_is}
 use Rattle.frames.proofs.check.check.Statement.{statement}
 use Rattle.frames.proofs.check.check.Tie as tie
 
 record Fed (b : List ℕ) (n register i : ℕ) : Type 0 where
   pub within : i ≤ n
-  pub is : register ≡ registerAt b i
+  pub is : register ≡ register_at b i
 
 below : {b : List ℕ} {n register i : ℕ} → Fed b n register i → register < 65536
-below {b} {n} {register} {i} f = rw f.is (register-lt b i)
+below {b} {n} {register} {i} f = rw f.is (register_lt b i)
 
 abbrev invariant-loop : tie.invariant-loop
 invariant-loop b n m register₀ i₀ register i = Fed b n register i
@@ -31,7 +31,7 @@ loop-again c =
     let l = c.before.before.before in
     record {
       within = omega arith;
-      is = c.fed.ensures ∙ sym (bit-on l.before.before.before.before.args.b.now l.loop.i x.result l.loop.register x.ensures.0 l.loop.invariant.is);
+      is = c.fed.ensures ∙ sym (bit_on l.before.before.before.before.args.b.now l.loop.i x.result l.loop.register x.ensures.0 l.loop.invariant.is);
     }
 
 returns : tie.Need-returns invariant-loop decreases-loop
@@ -39,7 +39,7 @@ returns c =
     let l = c.before.loop in
     let a = c.before.before.before.before.before.args in
     let e : l.i ≡ a.n = omega (arith, l.invariant.within) in
-    check-is a.b.now a.n l.register (l.invariant.is ∙ ap (registerAt a.b.now) e)
+    check_is a.b.now a.n l.register (l.invariant.is ∙ ap (register_at a.b.now) e)
 
 pub check-spec : {M : Type 1} → statement M
 check-spec =

@@ -9,11 +9,11 @@ use Rattle.frames.proofs.flag.clear.Statement.{statement}
 use Rattle.frames.proofs.flag.clear.Tie as tie
 
 -- what the window shows
-shown : (c : tie.After-six-ones) → let a = c.before.before.before.args in Cleared a.b.now a.p a.n (count_leading_zeros 64 c.six-ones.result)
+shown : (c : tie.After-six-ones) → let a = c.before.before.before.args in Cleared a.b.now a.p a.n (count_leading_zeros 64 c.six_ones.result)
 shown c =
     let s = c.before.before.before in
     let e = c.before.read.ensures ∙ whole _ _ s.args.n (omega (arith, s.requires.1)) in
-    cleared _ _ _ _ s.requires.0 s.requires.1 (rw e at c.six-ones.ensures)
+    cleared _ _ _ _ s.requires.0 s.requires.1 (rw e at c.six_ones.ensures)
 
 cast-result : tie.Need-overflow-cast-result
 cast-result c = omega (arith, (shown c).most)

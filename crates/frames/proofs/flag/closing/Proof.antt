@@ -6,18 +6,18 @@ use Prim.Native.Nat.{ℕ, ◌+◌, ◌-◌, ◌≤◌}
 use native.Mathlib.Nat.{add-zero}
 use native.Mathlib.Omega.{arith}
 use lib.ListN.{length}
-use Rattle.bits.specs.Bits.{bitsOf}
-use Rattle.frames.specs.Reading.{upToFlag, streamAt}
+use Rattle.bits.specs.Bits.{bits_of}
+use Rattle.frames.specs.Reading.{up_to_flag, stream_at}
 use Rattle.frames.specs.Steps.{NoFlags}
-use Rattle.frames.proofs.Flagged.{flag_is, up-to-flag, up-to-end}
-use Rattle.frames.proofs.Windows.{up-to-clear}
+use Rattle.frames.proofs.Flagged.{flag_is, up-to-flag, up_to_end}
+use Rattle.frames.proofs.Windows.{up_to_clear}
 use Rattle.frames.proofs.flag.closing.Statement.{statement}
 use Rattle.frames.proofs.flag.closing.Tie as tie
 
 -- the search has come to p
 record Sought (b : List ℕ) (count from p : ℕ) : Type 0 where
   pub within : p ≤ count
-  pub same : p + length (upToFlag (streamAt b count p)) ≡ from + length (upToFlag (streamAt b count from))
+  pub same : p + length (up_to_flag (stream_at b count p)) ≡ from + length (up_to_flag (stream_at b count from))
 
 -- as many bits of a window as are left
 record Left (count p n : ℕ) : Type 0 where
@@ -31,13 +31,13 @@ module _ {b : List ℕ} {count from p : ℕ} (s : Sought b count from p) where
   on q r h k l x y =
       record {
         within = omega arith;
-        same = sym (up-to-clear b count p q h (omega arith) x ∙ up-to-clear b count q r k l y) ∙ s.same;
+        same = sym (up_to_clear b count p q h (omega arith) x ∙ up_to_clear b count q r k l y) ∙ s.same;
       }
 
   -- it ends here
-  here : p + 8 ≤ count → bitsOf b p 8 ≡ 0x7E → p ≡ from + length (upToFlag (streamAt b count from))
+  here : p + 8 ≤ count → bits_of b p 8 ≡ 0x7E → p ≡ from + length (up_to_flag (stream_at b count from))
   here h e =
-      let z : length (upToFlag (streamAt b count p)) ≡ 0 = ap length (up-to-flag _ (flag_is b count p (omega arith) e)) in
+      let z : length (up_to_flag (stream_at b count p)) ≡ 0 = ap length (up-to-flag _ (flag_is b count p (omega arith) e)) in
       sym (add-zero p) ∙ ap (λ (k : ℕ). p + k) (sym z) ∙ s.same
 
 abbrev invariant-loop : tie.invariant-loop
@@ -78,7 +78,7 @@ loop-again : tie.Need-loop-preserved invariant-loop decreases-loop
 loop-again c = come c.before
 
 returns-2 : tie.Need-returns-2 invariant-loop decreases-loop
-returns-2 c = sym (up-to-end _ _ _ c.before.loop.invariant.within (omega (arith, c.loop-test.false))) ∙ c.before.loop.invariant.same
+returns-2 c = sym (up_to_end _ _ _ c.before.loop.invariant.within (omega (arith, c.loop-test.false))) ∙ c.before.loop.invariant.same
 
 pub closing-spec : {M : Type 1} → statement M
 closing-spec =

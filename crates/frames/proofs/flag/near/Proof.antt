@@ -5,10 +5,10 @@ use Prim.Native.Nat.{ℕ, ◌+◌, ◌-◌, ◌*◌, ◌%◌, ◌≤◌, ◌<◌
 use native.Mathlib.Decide.{dec_lt}
 use native.Mathlib.Omega.{arith}
 use borrow.Author.Rules.{rules}
-use Rattle.bits.specs.Bits.{bit_at, bitsOf}
-use Rattle.bits.proofs.Laws.{whole, bitsOf-lt}
+use Rattle.bits.specs.Bits.{bit_at, bits_of}
+use Rattle.bits.proofs.Laws.{whole, bits_of-lt}
 use Rattle.frames.specs.Steps.{NoFlags}
-use Rattle.frames.proofs.Flagged.{eight-on}
+use Rattle.frames.proofs.Flagged.{eight_on}
 use Rattle.frames.proofs.flag.near.Statement.{statement}
 use Rattle.frames.proofs.flag.near.Tie as tie
 
@@ -16,12 +16,12 @@ use Rattle.frames.proofs.flag.near.Tie as tie
 record Sought (b : List ℕ) (from to p eight : ℕ) : Type 0 where
   pub later : from ≤ p
   pub within : p ≤ to
-  pub is : eight ≡ bitsOf b p 8
+  pub is : eight ≡ bits_of b p 8
   pub none : NoFlags b from p
 
 module _ {b : List ℕ} {from to p eight : ℕ} (s : Sought b from to p eight) where
   small : eight < 256
-  small = rw s.is (bitsOf-lt b p 8)
+  small = rw s.is (bits_of-lt b p 8)
 
   -- none there, and it goes on one place
   on : (eight ≡ 0x7E → ⊥) → p < to → (x : ℕ) → x ≡ bit_at b (p + 8) → Sought b from to (p + 1) (eight * 2 % 256 + x)
@@ -29,7 +29,7 @@ module _ {b : List ℕ} {from to p eight : ℕ} (s : Sought b from to p eight) w
       record {
         later = omega (arith, s.later);
         within = omega arith;
-        is = rw (e, s.is) (sym (eight-on b p));
+        is = rw (e, s.is) (sym (eight_on b p));
         none = passed;
       }
     where

@@ -5,7 +5,7 @@ use native.Mathlib.Nat.{mod-eq_of_lt}
 use native.Mathlib.Omega.{arith}
 use borrow.Author.Rules.{rules}
 use lib.Pow.{pow_pos, pow_mono}
-use Rattle.frames.proofs.Runs.{fronted, fronted-lt}
+use Rattle.frames.proofs.Runs.{fronted, fronted_lt}
 use Rattle.frames.proofs.inserted.behind_ones.Statement.{statement}
 use Rattle.frames.proofs.inserted.behind_ones.Tie as tie
 
@@ -15,7 +15,7 @@ whole n h = let w : 2 ^ n ≤ 16 = pow_mono h in omega arith
 shifted : (n m x : ℕ) → n ≤ 4 → m ≤ 56 → x < 2 ^ m
     → ((1 * 2 ^ n % 2 ^ 64 - 1) * 2 ^ m % 2 ^ 64 + x ≡ fronted n m x) × (fronted n m x < 2 ^ 60)
 shifted n m x h k l =
-    let f = fronted-lt n m x h l in
+    let f = fronted_lt n m x h l in
     let w : 2 ^ m ≤ 2 ^ 56 = pow_mono k in
     (rw (whole n h) (ap (λ (z : ℕ). z + x) (mod-eq_of_lt (omega arith))), omega arith)
 

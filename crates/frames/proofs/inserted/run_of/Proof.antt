@@ -5,7 +5,7 @@ use native.Mathlib.Omega.{arith}
 use borrow.Author.Rules.{rules}
 use lib.Count.{count_leading_zeros, leading_le, trailing_le}
 use Rattle.frames.specs.Steps.{RunIs}
-use Rattle.frames.proofs.Runs.{all-clear, found}
+use Rattle.frames.proofs.Runs.{all_clear, found}
 use Rattle.frames.proofs.inserted.run_of.Statement.{statement}
 use Rattle.frames.proofs.inserted.run_of.Tie as tie
 
@@ -15,7 +15,7 @@ returns c =
     let y = f.before in
     let a = y.before.args in
     let h = y.before.requires in
-    all-clear a.n a.m a.x y.behind-ones.result h.0 h.1 h.3 y.behind-ones.ensures.0 (sym f.fives.ensures ∙ c.if1.true)
+    all_clear a.n a.m a.x y.behind-ones.result h.0 h.1 h.3 y.behind-ones.ensures.0 (sym f.fives.ensures ∙ c.if1.true)
 
 run-found : (c : tie.Else1) → let a = c.before.before.before.args in let z = count_leading_zeros 64 c.before.fives.result in
     (63 ≤ a.m + z) × RunIs a.n a.m a.x (a.m + z - 63) 5

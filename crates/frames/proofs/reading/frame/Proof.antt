@@ -2,13 +2,13 @@
 use mathlib.Core.Path.{sym, ◌∙◌}
 use native.Mathlib.Omega.{arith}
 use borrow.Author.Rules.{rules}
-use Rattle.bits.proofs.Laws.{whole, bitsOf-lt}
+use Rattle.bits.proofs.Laws.{whole, bits_of-lt}
 use Rattle.frames.proofs.Judging.{frame_found}
 use Rattle.frames.proofs.reading.frame.Statement.{statement}
 use Rattle.frames.proofs.reading.frame.Tie as tie
 
 cast-control : tie.Need-overflow-cast-control
-cast-control c = omega (arith, c.read.ensures ∙ whole _ 8 8 (omega arith), bitsOf-lt c.before.before.before.args.t1 8 8)
+cast-control c = omega (arith, c.read.ensures ∙ whole _ 8 8 (omega arith), bits_of-lt c.before.before.before.args.t1 8 8)
 
 returns : tie.Need-returns
 returns c =

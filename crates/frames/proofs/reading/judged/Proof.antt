@@ -4,7 +4,7 @@ use native.Mathlib.Omega.{arith}
 use borrow.Author.Rules.{rules}
 use Rattle.bits.proofs.Laws.{whole}
 use Rattle.frames.specs.Reading.{found_at}
-use Rattle.frames.proofs.Judging.{wrong-length, too_short, too_long, right-check, wrong-check}
+use Rattle.frames.proofs.Judging.{wrong-length, too_short, too_long, right_check, wrong-check}
 use Rattle.frames.proofs.reading.judged.Statement.{statement}
 use Rattle.frames.proofs.reading.judged.Tie as tie
 
@@ -19,7 +19,7 @@ returns-3 c =
     let r = c.before.before in
     let k = r.before.before.check.ensures in
     let e = r.read.ensures ∙ whole _ _ 16 (omega arith) in
-    c.addressed.ensures ∙ ap (found_at _) (right-check _ _ (omega arith) (omega arith) (sym k ∙ c.before.if3.true ∙ e))
+    c.addressed.ensures ∙ ap (found_at _) (right_check _ _ (omega arith) (omega arith) (sym k ∙ c.before.if3.true ∙ e))
 
 returns-4 : tie.Need-returns-4
 returns-4 c =

@@ -9,23 +9,23 @@ use borrow.Author.Rules.{rules}
 use lib.ListN.{length}
 use Rattle.frames.specs.declared.FrameRefusal.TheVariants as R
 use Rattle.frames.specs.Frame.{flag}
-use Rattle.frames.specs.Reading.{refused, begins, countOver, readBits, streamAt, found_at, readFrame}
-use Rattle.frames.specs.Steps.{behindFlag}
+use Rattle.frames.specs.Reading.{refused, begins, count_over, read_bits, stream_at, found_at, read_frame}
+use Rattle.frames.specs.Steps.{behind_flag}
 use Rattle.frames.proofs.reading.read.Statement.{statement}
 use Rattle.frames.proofs.reading.read.Tie as tie
 
 module _ (b : List ℕ) (count place : ℕ) where
-  over : countOver (length b) count ≡ true → found_at place (refused R.CountOrFlag) ≡ readFrame b count place
-  unfolding readFrame readBits
+  over : count_over (length b) count ≡ true → found_at place (refused R.CountOrFlag) ≡ read_frame b count place
+  unfolding read_frame read_bits
   over e = sym (rw (e, add-zero place) refl)
 
-  module _ (within : countOver (length b) count ≡ false) where
-    no_flag : begins flag (streamAt b count place) ≡ false → found_at place (refused R.CountOrFlag) ≡ readFrame b count place
-    unfolding readFrame readBits
+  module _ (within : count_over (length b) count ≡ false) where
+    no_flag : begins flag (stream_at b count place) ≡ false → found_at place (refused R.CountOrFlag) ≡ read_frame b count place
+    unfolding read_frame read_bits
     no_flag e = sym (rw (within, e, add-zero place) refl)
 
-    flagged : behindFlag place (streamAt b count place) ≡ readFrame b count place
-    unfolding readFrame
+    flagged : behind_flag place (stream_at b count place) ≡ read_frame b count place
+    unfolding read_frame
     flagged = sym (rw within refl)
 
 returns : tie.Need-returns

@@ -3,15 +3,15 @@ use native.Mathlib.Omega.{arith}
 use mathlib.Core.Path.{◌≡◌, sym}
 use mathlib.Core.Bool.{true, false}
 use Prim.Native.Nat.{ℕ, ◌*◌, ◌≤◌, ◌<◌}
-use Rattle.frames.specs.Reading.{countOver}
+use Rattle.frames.specs.Reading.{count_over}
 use borrow.Author.Tests.{lt-ltb, le-ltb}
 use Rattle.frames.proofs.stream.count_over.Statement.{statement}
 use Rattle.frames.proofs.stream.count_over.Tie as tie
 
-within : (length count : ℕ) → count ≤ length * 8 → false ≡ countOver length count
+within : (length count : ℕ) → count ≤ length * 8 → false ≡ count_over length count
 within length count h = sym (le-ltb _ _ h)
 
-over : (length count : ℕ) → length * 8 < count → true ≡ countOver length count
+over : (length count : ℕ) → length * 8 < count → true ≡ count_over length count
 over length count h = sym (lt-ltb _ _ h)
 
 returns : tie.Need-returns

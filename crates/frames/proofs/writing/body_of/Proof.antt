@@ -2,7 +2,7 @@
 use Prim.Native.Nat.{◌<◌}
 use native.Mathlib.Omega.{arith}
 use borrow.Author.Rules.{rules}
-use Rattle.frames.proofs.Filled.{with-address, with-control, with-field, with-check}
+use Rattle.frames.proofs.Filled.{with_address, with_control, with_field, with_check}
 use Rattle.frames.proofs.writing.body_of.Statement.{statement}
 use Rattle.frames.proofs.writing.body_of.Tie as tie
 
@@ -18,10 +18,10 @@ returns c =
     let a = s.args in
     let byte : a.control < 256 = omega arith in
     let few = s.requires in
-    with-check a.way a.control a.field.now a.n byte few _ _ k.check.result
-    (with-field a.way a.control a.field.now a.n byte few _ _
-    (with-control a.way a.control a.field.now a.n byte few _ _
-    (with-address a.way a.control a.field.now a.n byte few o.address-of.result _ o.address-of.ensures w1.write.ensures)
+    with_check a.way a.control a.field.now a.n byte few _ _ k.check.result
+    (with_field a.way a.control a.field.now a.n byte few _ _
+    (with_control a.way a.control a.field.now a.n byte few _ _
+    (with_address a.way a.control a.field.now a.n byte few o.address-of.result _ o.address-of.ensures w1.write.ensures)
     w2.write2.ensures)
     f.copy-bits.ensures)
     k.check.ensures w3.write3.ensures

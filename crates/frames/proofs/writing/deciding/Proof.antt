@@ -2,32 +2,32 @@
 use mathlib.Core.Path.{◌≡◌, sym, ap, ◌∙◌}
 use mathlib.Core.Bool.{false}
 use lib.ListN.{length}
-use Rattle.frames.specs.Stream.{bitsFrom}
-use Rattle.frames.specs.Zeros.{withZeros}
+use Rattle.frames.specs.Stream.{bits_from}
+use Rattle.frames.specs.Zeros.{with_zeros}
 use Rattle.frames.specs.Frame.{between}
-use Rattle.frames.specs.Reading.{countOver}
+use Rattle.frames.specs.Reading.{count_over}
 use Rattle.frames.specs.Writing.{given}
 use native.Mathlib.Omega.{arith}
 use borrow.Author.Rules.{rules}
-use Rattle.frames.proofs.Decided.{refused-so, bytes-over, field-over, too_long, no_room, room}
+use Rattle.frames.proofs.Decided.{refused_so, bytes_over, field_over, too_long, no_room, room}
 use Rattle.frames.proofs.writing.deciding.Statement.{statement}
 use Rattle.frames.proofs.writing.deciding.Tie as tie
 
 returns : tie.Need-returns
 returns c =
     let o = c.before.before in
-    refused-so _ _ _ _ _ _ _ _ _ _ _ _ c.refused.ensures (bytes-over _ _ _ _ _ _ _ (sym o.count-over.ensures ∙ c.before.if1.true))
+    refused_so _ _ _ _ _ _ _ _ _ _ _ _ c.refused.ensures (bytes_over _ _ _ _ _ _ _ (sym o.count-over.ensures ∙ c.before.if1.true))
 
 returns-2 : tie.Need-returns-2
 returns-2 c =
     let p = c.before.before in
     let e = p.before in
-    refused-so _ _ _ _ _ _ _ _ _ _ _ _ c.refused2.ensures
-    (field-over _ _ _ _ _ _ _ (sym e.before.count-over.ensures ∙ e.if1.false) (sym p.count-over2.ensures ∙ c.before.if2.true))
+    refused_so _ _ _ _ _ _ _ _ _ _ _ _ c.refused2.ensures
+    (field_over _ _ _ _ _ _ _ (sym e.before.count-over.ensures ∙ e.if1.false) (sym p.count-over2.ensures ∙ c.before.if2.true))
 
 -- the two counts are within their bits
 lent-and-full : (c : tie.Else2) → let p = c.before in let e = p.before in let a = e.before.before.before.args in
-    (countOver a.length a.count ≡ false) × (countOver (length a.field.now) a.n ≡ false)
+    (count_over a.length a.count ≡ false) × (count_over (length a.field.now) a.n ≡ false)
 lent-and-full c =
     let p = c.before in
     let e = p.before in
@@ -36,19 +36,19 @@ lent-and-full c =
 returns-3 : tie.Need-returns-3
 returns-3 c =
     let l = lent-and-full c.before.before in
-    refused-so _ _ _ _ _ _ _ _ _ _ _ _ c.refused3.ensures (too_long _ _ _ _ _ _ _ l.0 l.1 c.before.if3.true)
+    refused_so _ _ _ _ _ _ _ _ _ _ _ _ c.refused3.ensures (too_long _ _ _ _ _ _ _ l.0 l.1 c.before.if3.true)
 
 -- what stands between the flags
 between_is : (c : tie.After-with-zeros) → let b = c.before.before in let a = b.before.before.before.before.before.before.before.args in
-    bitsFrom c.with-zeros.result.bytes 0 c.with-zeros.result.count ≡ between (given a.way a.control a.field.now a.n)
-between_is c = c.with-zeros.ensures.0 ∙ ap (withZeros 0) c.before.before.body_of.ensures
+    bits_from c.with-zeros.result.bytes 0 c.with-zeros.result.count ≡ between (given a.way a.control a.field.now a.n)
+between_is c = c.with-zeros.ensures.0 ∙ ap (with_zeros 0) c.before.before.body_of.ensures
 
 returns-4 : tie.Need-returns-4
 returns-4 c =
     let z = c.before.before in
     let b = z.before.before in
     let l = lent-and-full b.before.before in
-    refused-so _ _ _ _ _ _ _ _ _ _ _ _ c.refused4.ensures
+    refused_so _ _ _ _ _ _ _ _ _ _ _ _ c.refused4.ensures
     (no_room _ _ _ _ _ _ _ l.0 l.1 b.before.if3.false _ _ (between_is z) (omega (arith, c.before.if4.true)))
 
 returns-5 : tie.Need-returns-5
@@ -57,7 +57,7 @@ returns-5 c =
     let z = e.before in
     let b = z.before.before in
     let l = lent-and-full b.before.before in
-    refused-so _ _ _ _ _ _ _ _ _ _ _ _ c.refused5.ensures
+    refused_so _ _ _ _ _ _ _ _ _ _ _ _ c.refused5.ensures
     (no_room _ _ _ _ _ _ _ l.0 l.1 b.before.if3.false _ _ (between_is z) (omega (arith, e.if4.false, c.before.if5.true)))
 
 returns-6 : tie.Need-returns-6

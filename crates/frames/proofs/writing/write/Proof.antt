@@ -15,7 +15,7 @@ put-frame-requires c κs =
     let w = c.before.before.before in
     let d = w.before.before.before.before.deciding.ensures in
     let e = w.wrote.given.1 in
-    places _ _ _ _ _ _ _ _ _ _ (sym e ∙ d.wrote-is) (d.between_is _ e)
+    places _ _ _ _ _ _ _ _ _ _ (sym e ∙ d.wrote_is) (d.between_is _ e)
 
 returns-2 : tie.Need-returns-2
 returns-2 c =

@@ -46,12 +46,12 @@ use denote.Triple.Walked.{says, Stays, stay_none, gave_slice, walk_of, Goes-none
 use denote.Exit.{yes}
 use Rattle.index.specs.declared.Entry.{Entry}
 use Rattle.index.specs.declared.Indexed.{Indexed}
-use Rattle.index.specs.Table.{numbersOf}
-use Rattle.index.specs.Indexing.{Indexes, indexed, leftBy}
+use Rattle.index.specs.Table.{numbers_of}
+use Rattle.index.specs.Indexing.{Indexes, indexed, left_as}
 use Rattle.index.specs.Steps.{onto, bounded as boundedOf, judged, spot_of}
-use Rattle.index.proofs.Frames.{numbersRow}
-use Rattle.index.proofs.Lent.{bounded-fits, answered, stores}
-use Rattle.index.proofs.Calls.{Bounded, No-numbers, Numbers, Judge, Spot, Put, Back, Numbered, typed-usize, typed-numbers, typed-entry, typed-indexed, to-bounded, goes-bounded, gets-bounded, to-no-numbers, goes-no-numbers, gets-no-numbers, to-numbers, goes-numbers, gets-numbers, to-judge, goes-judge, gets-judge, to-spot, goes-spot, gets-spot, to-put, goes-put, Of-put, gets-put}
+use Rattle.index.proofs.Frames.{numbers_row}
+use Rattle.index.proofs.Lent.{bounded_fits, answered, stores}
+use Rattle.index.proofs.Calls.{Bounded, No-numbers, Numbers, Judge, Spot, Put, Back, Numbered, typed_usize, typed_numbers, typed_entry, typed_indexed, to_bounded, goes_bounded, gets_bounded, to_no_numbers, goes_no_numbers, gets_no_numbers, to_numbers, goes_numbers, gets_numbers, to_judge, goes_judge, gets_judge, to_spot, goes_spot, gets_spot, to_put, goes_put, Of-put, gets_put}
 use Rattle.index.specs.contracts.Entry as T
 use Rattle.index.proofs.Entry.TheLaws as T'
 use Rattle.index.specs.contracts.Indexed as E
@@ -90,16 +90,16 @@ Arg = Bor (List Entry) × (Entry × Unit {0})
 
 -- what the callees give, one after the other, is what the contract says
 told : (ys : List Entry) (e : Entry) (n : ℕ) (none ns : List ℕ) (r : Indexed) (i : ℕ) (zs : List Entry) → length ys < 2 ^ 64
-    → n ≡ boundedOf (length ys) → none ≡ replicate 512 0 → ns ≡ onto (numbersOf (take n ys)) none → r ≡ judged ns (length ys) e.number → i ≡ spot_of r → zs ≡ set ys i e
+    → n ≡ boundedOf (length ys) → none ≡ replicate 512 0 → ns ≡ onto (numbers_of (take n ys)) none → r ≡ judged ns (length ys) e.number → i ≡ spot_of r → zs ≡ set ys i e
     → Indexes ys e r zs
 told ys e n none ns r i zs room is-n is_none is-ns is-r is-i is-zs =
     let answers : r ≡ indexed ys e.number =
     is-r
-    ∙ ap (λ (l : List ℕ). judged l (length ys) e.number) (is-ns ∙ ap (onto (numbersOf (take n ys))) is_none ∙ ap (λ (k : ℕ). onto (numbersOf (take k ys)) (replicate 512 0)) is-n)
+    ∙ ap (λ (l : List ℕ). judged l (length ys) e.number) (is-ns ∙ ap (onto (numbers_of (take n ys))) is_none ∙ ap (λ (k : ℕ). onto (numbers_of (take k ys)) (replicate 512 0)) is-n)
     ∙ answered ys e.number in
     record {
       answers = answers;
-      leaves = is-zs ∙ ap (λ (k : ℕ). set ys k e) is-i ∙ stores r ys e room ∙ ap (λ (a : Indexed). leftBy a ys e) answers;
+      leaves = is-zs ∙ ap (λ (k : ℕ). set ys k e) is-i ∙ stores r ys e room ∙ ap (λ (a : Indexed). left_as a ys e) answers;
     }
 
 module _ {M : Type 1} {𝓤 : Ura M} (𝓛 : Logic 𝓤) (mem : Memory → SProp 𝓤) (run : Routine → Fun 𝓤) (κ : Lft) (q : Share) (b o : ℕ) (γ : GName) (ys : List Entry) (e : Entry) (we : Val) where
@@ -122,7 +122,7 @@ module _ {M : Type 1} {𝓤 : Ura M} (𝓛 : Logic 𝓤) (mem : Memory → SProp
 
   module _ (gn : Room R (length ys)) (ge : Is R e (we ∷ [])) where
     fit : (n : ℕ) → n ≡ boundedOf (length ys) → (n ≤ length ys) × (n ≤ 512)
-    fit n is = subst (λ (k : ℕ). (k ≤ length ys) × (k ≤ 512)) (sym is) (bounded-fits (length ys))
+    fit n is = subst (λ (k : ℕ). (k ≤ length ys) × (k ≤ 512)) (sym is) (bounded_fits (length ys))
 
     exits : (r : Indexed) (w : Val) → Is E.the_row r (w ∷ []) → (zs : List Entry) → Indexes ys e r zs → length zs ≡ length ys
         → ent 𝓤 (⋆ 𝓛 (‵ (flft κ q) ∷ ‵ (finally R γ zs) ∷ [])) (Post w)
@@ -137,46 +137,46 @@ module _ {M : Type 1} {𝓤 : Ura M} (𝓛 : Logic 𝓤) (mem : Memory → SProp
       walk =
           qed 𝓛 ((‵ (flft κ q) ⊛ ‵ ftrue) ∷ ‵ (owns (MutSlice (named 0) κ R ∷ R ∷ []) x₀ at) ∷ []) ∵ enter ! C Λ code.function (s ∷ we ∷ []) _ $
           alloc1 ! (λ l₀. alloc1 ! (λ l₁. alloc1 ! (λ l₂. alloc1 ! (λ l₃. alloc1 ! (λ l₄. alloc1 ! (λ l₅. alloc1 ! (λ l₆. alloc1 ! (λ l₇. alloc1 ! (λ l₈. alloc1 ! (λ l₉. alloc1 ! (λ l₁₀. alloc1 ! (λ l₁₁. alloc1 ! (λ l₁₂. alloc1 ! (λ l₁₃. alloc0 ! $ params1 ! $
-          pass1 ! (init ! 24 refl (tt, (tt, (record { fits = gn.0 }, tt)))) $ pass1 ! (init ! 22 refl (typed-entry 𝓛 e we ge)) $ pass0 ! $
+          pass1 ! (init ! 24 refl (tt, (tt, (record { fits = gn.0 }, tt)))) $ pass1 ! (init ! 22 refl (typed_entry 𝓛 e we ge)) $ pass0 ! $
           move ! (29 ∷ []) $ fsplit ! $ fsplit ! $ move ! (1 ∷ []) $ fsplit ! $ move ! (32 ∷ []) $ split ! $ keep ! (2 ∷ 3 ∷ 0 ∷ 6 ∷ 7 ∷ 8 ∷ 9 ∷ 10 ∷ 11 ∷ 12 ∷ 13 ∷ 14 ∷ 15 ∷ 16 ∷ 17 ∷ 18 ∷ 19 ∷ 20 ∷ 21 ∷ 22 ∷ 23 ∷ 24 ∷ 25 ∷ 26 ∷ 27 ∷ 28 ∷ 29 ∷ 30 ∷ 31 ∷ 32 ∷ 33 ∷ []) $
           -- [obs; the borrow; the token; _13; …; _0; …]
           assigns ! (of_opd ! (load ! (from ! (fld ! refl (stop !))) (look_in ! 27 (sub ! 1 refl (whole !))))) (from ! (stop !)) (init ! 23 refl (tt, record { fits = gn.0 })) $
-          use0 𝓛 (raw ((Bounded 𝓛 mem run).pre (to-bounded 𝓛 mem run (length ys) (vint w64 (length ys))))) (goes-bounded 𝓛 mem run (length ys) (vint w64 (length ys)) (refl, gn.0)) $
-          calls_at ! fm (Bounded 𝓛 mem run) known-bounded (to-bounded 𝓛 mem run (length ys) (vint w64 (length ys))) (and_then ! (load ! (from ! (stop !)) (look ! 24 refl)) (no_more !)) (λ wn.
-          use1 𝓛 (later (some (λ (res : ℕ). given (Back usize (λ k. k ≡ boundedOf (length ys)) wn res) (raw (emp 𝓤))))) (gets-bounded 𝓛 mem run (length ys) (vint w64 (length ys)) wn) $ await ! tt $ pick ! (λ n. learn ! (λ is-n. drop ! $
-          land ! (from ! (stop !)) (init ! 21 refl (typed-usize 𝓛 n wn is-n.1)) $
-          use0 𝓛 (raw ((No-numbers 𝓛 mem run).pre (to-no-numbers 𝓛 mem run))) (goes-no-numbers 𝓛 mem run) $
-          calls_at ! fm (No-numbers 𝓛 mem run) known-no-numbers (to-no-numbers 𝓛 mem run) (no_more !) (λ wz.
-          use1 𝓛 (later (some (λ (res : List ℕ). given (Back numbersRow (λ l. l ≡ replicate 512 0) wz res) (raw (emp 𝓤))))) (gets-no-numbers 𝓛 mem run wz) $ await ! tt $ pick ! (λ none. learn ! (λ is_none. drop ! $
-          land ! (from ! (stop !)) (init ! 19 refl (typed-numbers 𝓛 none wz is_none.1)) $
+          use0 𝓛 (raw ((Bounded 𝓛 mem run).pre (to_bounded 𝓛 mem run (length ys) (vint w64 (length ys))))) (goes_bounded 𝓛 mem run (length ys) (vint w64 (length ys)) (refl, gn.0)) $
+          calls_at ! fm (Bounded 𝓛 mem run) known-bounded (to_bounded 𝓛 mem run (length ys) (vint w64 (length ys))) (and_then ! (load ! (from ! (stop !)) (look ! 24 refl)) (no_more !)) (λ wn.
+          use1 𝓛 (later (some (λ (res : ℕ). given (Back usize (λ k. k ≡ boundedOf (length ys)) wn res) (raw (emp 𝓤))))) (gets_bounded 𝓛 mem run (length ys) (vint w64 (length ys)) wn) $ await ! tt $ pick ! (λ n. learn ! (λ is-n. drop ! $
+          land ! (from ! (stop !)) (init ! 21 refl (typed_usize 𝓛 n wn is-n.1)) $
+          use0 𝓛 (raw ((No-numbers 𝓛 mem run).pre (to_no_numbers 𝓛 mem run))) (goes_no_numbers 𝓛 mem run) $
+          calls_at ! fm (No-numbers 𝓛 mem run) known-no-numbers (to_no_numbers 𝓛 mem run) (no_more !) (λ wz.
+          use1 𝓛 (later (some (λ (res : List ℕ). given (Back numbers_row (λ l. l ≡ replicate 512 0) wz res) (raw (emp 𝓤))))) (gets_no_numbers 𝓛 mem run wz) $ await ! tt $ pick ! (λ none. learn ! (λ is_none. drop ! $
+          land ! (from ! (stop !)) (init ! 19 refl (typed_numbers 𝓛 none wz is_none.1)) $
           assigns ! (addr ! (from ! (fld ! refl (hop ! (look_in ! 27 (sub ! 0 refl (whole !))) (stop !))))) (from ! (stop !)) (init ! 11 refl (tt, tt)) $
           assigns ! (agg ! (and_then ! (load ! (from ! (stop !)) (look ! 11 refl)) (and_then ! (load ! (from ! (fld ! refl (stop !))) (look_in ! 27 (sub ! 1 refl (whole !)))) (no_more !)))) (from ! (stop !)) (init ! 9 refl (tt, (tt, (record { fits = gn.0 }, tt)))) $
           -- the borrow is opened, and the row is lent as `&` for a lifetime of the call
           opens_slice ! tt R ys b o $ feq_i ! ℕ (length ys) (length ys) refl $ fjoin ! $ lft_new ! tt (λ α. move ! (1 ∷ []) $
           use1 𝓛 (later (some (λ (δ : GName). ‵ ((ShrSlice (named 0) (α ∷ []) R).own_val (record { ref_ptr = (b, o); ghost_name = δ; now = ys }) (s ∷ [])) ⊛ ‵ (flent (α ∷ []) Row)))) (lends_shr_slice 𝓛 R (named 0) (α ∷ []) full_share ys b o gn) $ await ! tt $ pick ! (λ δ. split ! $
           -- [the slice lent; the lender's part; the new token; the open borrow; obs; auth; _13; …]
-          move ! (2 ∷ 0 ∷ []) $ use2 𝓛 (raw ((Numbers 𝓛 mem run).pre (to-numbers 𝓛 mem run (α ∷ []) full_share δ b o ys n wn none wz))) (goes-numbers 𝓛 mem run (α ∷ []) full_share δ b o ys n wn none wz is-n.1 is_none.1 (fit n is-n.0)) $
-          calls_at ! fm (Numbers 𝓛 mem run) known-numbers (to-numbers 𝓛 mem run (α ∷ []) full_share δ b o ys n wn none wz) (and_then ! (load ! (from ! (stop !)) (look ! 11 refl)) (and_then ! (load ! (from ! (stop !)) (look ! 23 refl)) (and_then ! (load ! (from ! (stop !)) (look ! 21 refl)) (no_more !)))) (λ wns.
-          use1 𝓛 (later (some (λ (l : List ℕ). given (Back numbersRow (Numbered 𝓛 mem run (α ∷ []) full_share δ b o ys n none) wns l) (‵ (flft (α ∷ []) full_share))))) (gets-numbers 𝓛 mem run (α ∷ []) full_share δ b o ys n wn none wz wns) $ await ! tt $ pick ! (λ ns. learn ! (λ is-ns.
-          land ! (from ! (stop !)) (init ! 19 refl (typed-numbers 𝓛 ns wns is-ns.1)) $
+          move ! (2 ∷ 0 ∷ []) $ use2 𝓛 (raw ((Numbers 𝓛 mem run).pre (to_numbers 𝓛 mem run (α ∷ []) full_share δ b o ys n wn none wz))) (goes_numbers 𝓛 mem run (α ∷ []) full_share δ b o ys n wn none wz is-n.1 is_none.1 (fit n is-n.0)) $
+          calls_at ! fm (Numbers 𝓛 mem run) known-numbers (to_numbers 𝓛 mem run (α ∷ []) full_share δ b o ys n wn none wz) (and_then ! (load ! (from ! (stop !)) (look ! 11 refl)) (and_then ! (load ! (from ! (stop !)) (look ! 23 refl)) (and_then ! (load ! (from ! (stop !)) (look ! 21 refl)) (no_more !)))) (λ wns.
+          use1 𝓛 (later (some (λ (l : List ℕ). given (Back numbers_row (Numbered 𝓛 mem run (α ∷ []) full_share δ b o ys n none) wns l) (‵ (flft (α ∷ []) full_share))))) (gets_numbers 𝓛 mem run (α ∷ []) full_share δ b o ys n wn none wz wns) $ await ! tt $ pick ! (λ ns. learn ! (λ is-ns.
+          land ! (from ! (stop !)) (init ! 19 refl (typed_numbers 𝓛 ns wns is-ns.1)) $
           lft_end ! tt $ lent_back ! tt $ fsplit ! $ drop ! $ closes_slice ! tt R ys ys refl b o $
-          use0 𝓛 (raw ((Judge 𝓛 mem run).pre (to-judge 𝓛 mem run ns wns (length ys) (vint w64 (length ys)) e we))) (goes-judge 𝓛 mem run ns wns (length ys) (vint w64 (length ys)) e we is-ns.1 (refl, gn.0) ge) $
-          calls_at ! fm (Judge 𝓛 mem run) known-judge (to-judge 𝓛 mem run ns wns (length ys) (vint w64 (length ys)) e we) (and_then ! (load ! (from ! (stop !)) (look ! 18 refl)) (and_then ! (load ! (from ! (stop !)) (look ! 24 refl)) (and_then ! (load ! (from ! (stop !)) (look ! 26 refl)) (no_more !)))) (λ wr.
-          use1 𝓛 (later (some (λ (res : Indexed). given (Back E.the_row (λ a. a ≡ judged ns (length ys) e.number) wr res) (raw (emp 𝓤))))) (gets-judge 𝓛 mem run ns wns (length ys) (vint w64 (length ys)) e we wr) $ await ! tt $ pick ! (λ r. learn ! (λ is-r. drop ! $
-          land ! (from ! (stop !)) (init ! 15 refl (typed-indexed 𝓛 r wr is-r.1)) $
-          use0 𝓛 (raw ((Spot 𝓛 mem run).pre (to-spot 𝓛 mem run r wr))) (goes-spot 𝓛 mem run r wr is-r.1) $
-          calls_at ! fm (Spot 𝓛 mem run) known-spot (to-spot 𝓛 mem run r wr) (and_then ! (load ! (from ! (stop !)) (look ! 16 refl)) (no_more !)) (λ wi.
-          use1 𝓛 (later (some (λ (res : ℕ). given (Back usize (λ k. k ≡ spot_of r) wi res) (raw (emp 𝓤))))) (gets-spot 𝓛 mem run r wr wi) $ await ! tt $ pick ! (λ i. learn ! (λ is-i. drop ! $
-          land ! (from ! (stop !)) (init ! 13 refl (typed-usize 𝓛 i wi is-i.1)) $
+          use0 𝓛 (raw ((Judge 𝓛 mem run).pre (to_judge 𝓛 mem run ns wns (length ys) (vint w64 (length ys)) e we))) (goes_judge 𝓛 mem run ns wns (length ys) (vint w64 (length ys)) e we is-ns.1 (refl, gn.0) ge) $
+          calls_at ! fm (Judge 𝓛 mem run) known-judge (to_judge 𝓛 mem run ns wns (length ys) (vint w64 (length ys)) e we) (and_then ! (load ! (from ! (stop !)) (look ! 18 refl)) (and_then ! (load ! (from ! (stop !)) (look ! 24 refl)) (and_then ! (load ! (from ! (stop !)) (look ! 26 refl)) (no_more !)))) (λ wr.
+          use1 𝓛 (later (some (λ (res : Indexed). given (Back E.the_row (λ a. a ≡ judged ns (length ys) e.number) wr res) (raw (emp 𝓤))))) (gets_judge 𝓛 mem run ns wns (length ys) (vint w64 (length ys)) e we wr) $ await ! tt $ pick ! (λ r. learn ! (λ is-r. drop ! $
+          land ! (from ! (stop !)) (init ! 15 refl (typed_indexed 𝓛 r wr is-r.1)) $
+          use0 𝓛 (raw ((Spot 𝓛 mem run).pre (to_spot 𝓛 mem run r wr))) (goes_spot 𝓛 mem run r wr is-r.1) $
+          calls_at ! fm (Spot 𝓛 mem run) known-spot (to_spot 𝓛 mem run r wr) (and_then ! (load ! (from ! (stop !)) (look ! 16 refl)) (no_more !)) (λ wi.
+          use1 𝓛 (later (some (λ (res : ℕ). given (Back usize (λ k. k ≡ spot_of r) wi res) (raw (emp 𝓤))))) (gets_spot 𝓛 mem run r wr wi) $ await ! tt $ pick ! (λ i. learn ! (λ is-i. drop ! $
+          land ! (from ! (stop !)) (init ! 13 refl (typed_usize 𝓛 i wi is-i.1)) $
           assigns ! (addr ! (from ! (fld ! refl (hop ! (look_in ! 27 (sub ! 0 refl (whole !))) (stop !))))) (from ! (stop !)) (init ! 5 refl (tt, tt)) $
           assigns ! (agg ! (and_then ! (load ! (from ! (stop !)) (look ! 5 refl)) (and_then ! (load ! (from ! (fld ! refl (stop !))) (look_in ! 27 (sub ! 1 refl (whole !)))) (no_more !)))) (from ! (stop !)) (init ! 3 refl (tt, (tt, (record { fits = gn.0 }, tt)))) $
           -- the borrow is given up to `put`
           fjoin ! $ pure_i ! (shr_slice_at R x₀.0 (s ∷ [])) (tt, (tt, tt)) (refl, gn) $ fjoin ! $ move ! (1 ∷ 0 ∷ []) $
-          use2 𝓛 (raw ((Put 𝓛 mem run).pre (to-put 𝓛 mem run κ q γ b o ys i wi e we))) (goes-put 𝓛 mem run κ q γ b o ys i wi e we is-i.1 ge) $
-          calls_at ! fm (Put 𝓛 mem run) known-put (to-put 𝓛 mem run κ q γ b o ys i wi e we) (and_then ! (load ! (from ! (stop !)) (look ! 1 refl)) (and_then ! (load ! (from ! (stop !)) (look ! 11 refl)) (and_then ! (load ! (from ! (stop !)) (look ! 23 refl)) (no_more !)))) (λ w.
-          use1 𝓛 (later (some (λ (zs : List Entry). given (Of-put 𝓛 mem run κ q γ b o ys i e w zs) (‵ (flft κ q) ⊛ ‵ (finally R γ zs))))) (gets-put 𝓛 mem run κ q γ b o ys i wi e we w) $ await ! tt $ pick ! (λ zs. learn ! (λ is-zs. split ! $
+          use2 𝓛 (raw ((Put 𝓛 mem run).pre (to_put 𝓛 mem run κ q γ b o ys i wi e we))) (goes_put 𝓛 mem run κ q γ b o ys i wi e we is-i.1 ge) $
+          calls_at ! fm (Put 𝓛 mem run) known-put (to_put 𝓛 mem run κ q γ b o ys i wi e we) (and_then ! (load ! (from ! (stop !)) (look ! 1 refl)) (and_then ! (load ! (from ! (stop !)) (look ! 11 refl)) (and_then ! (load ! (from ! (stop !)) (look ! 23 refl)) (no_more !)))) (λ w.
+          use1 𝓛 (later (some (λ (zs : List Entry). given (Of-put 𝓛 mem run κ q γ b o ys i e w zs) (‵ (flft κ q) ⊛ ‵ (finally R γ zs))))) (gets_put 𝓛 mem run κ q γ b o ys i wi e we w) $ await ! tt $ pick ! (λ zs. learn ! (λ is-zs. split ! $
           land ! (from ! (stop !)) (init ! 6 refl (subst (λ (u : Val). Holds (has_ty ty_unit u) × WT u) (sym is-zs.0) (tt, tt))) $
-          assigns ! (of_opd ! (load ! (from ! (stop !)) (look ! 14 refl))) (from ! (stop !)) (init ! 28 refl (typed-indexed 𝓛 r wr is-r.1)) $
+          assigns ! (of_opd ! (load ! (from ! (stop !)) (look ! 14 refl))) (from ! (stop !)) (init ! 28 refl (typed_indexed 𝓛 r wr is-r.1)) $
           returns ! (look ! 28 refl) $ forget ! 2 refl $ forget ! 4 refl $ forget ! 6 refl $ forget ! 8 refl $ forget ! 10 refl $ forget ! 12 refl $ forget ! 14 refl $ forget ! 16 refl $ forget ! 18 refl $ forget ! 20 refl $ forget ! 22 refl $ forget ! 24 refl $ forget ! 26 refl $ forget ! 28 refl $
           move ! (28 ∷ 29 ∷ []) $ free1 ! $ move ! (26 ∷ 27 ∷ []) $ free1 ! $ move ! (24 ∷ 25 ∷ []) $ free1 ! $ move ! (22 ∷ 23 ∷ []) $ free1 ! $ move ! (20 ∷ 21 ∷ []) $ free1 ! $ move ! (18 ∷ 19 ∷ []) $ free1 ! $ move ! (16 ∷ 17 ∷ []) $ free1 ! $ move ! (14 ∷ 15 ∷ []) $ free1 ! $ move ! (12 ∷ 13 ∷ []) $ free1 ! $ move ! (10 ∷ 11 ∷ []) $ free1 ! $ move ! (8 ∷ 9 ∷ []) $ free1 ! $ move ! (6 ∷ 7 ∷ []) $ free1 ! $ move ! (4 ∷ 5 ∷ []) $ free1 ! $ move ! (2 ∷ 3 ∷ []) $ free1 ! $ free0 ! $
           by ! (exits r wr is-r.1 zs (told ys e n none ns r i zs gn.0 is-n.0 is_none.0 is-ns.0 is-r.0 is-i.0 is-zs.1.0) is-zs.1.1)))))))))))))))))))))))))))))))))))

@@ -1,5 +1,5 @@
 -- `index::entering::find` meets its contract: a walk of its MIR, by hand, which is four calls. The slice is Copy: one copy of what it owns goes to `numbers`,
--- and the other is kept for the exit. What is decided is `judge_find`'s, a covered function; `sought-is` of Lent.antt says that it is what the contract
+-- and the other is kept for the exit. What is decided is `judge_find`'s, a covered function; `sought_is` of Lent.antt says that it is what the contract
 -- says. Assumes nothing.
 use Prim.Native.Nat.{ℕ, ◌<◌, ◌≤◌, ◌^◌}
 use mathlib.Core.List.{List, [], ◌∷◌}
@@ -38,12 +38,12 @@ use denote.Triple.Walked.{says, Stays, stay_none, stay_none_slice, walk_of, Goes
 use denote.Exit.{yes}
 use Rattle.index.specs.declared.Entry.{Entry}
 use Rattle.index.specs.declared.Found.{Found}
-use Rattle.index.specs.Table.{numbersOf}
+use Rattle.index.specs.Table.{numbers_of}
 use Rattle.index.specs.Indexing.{found}
 use Rattle.index.specs.Steps.{onto, bounded as boundedOf, sought}
-use Rattle.index.proofs.Frames.{numbersRow}
-use Rattle.index.proofs.Lent.{bounded-fits, sought-is}
-use Rattle.index.proofs.Calls.{Bounded, No-numbers, Numbers, Search, Back, Numbered, typed-usize, typed-numbers, typed-found, to-bounded, goes-bounded, gets-bounded, to-no-numbers, goes-no-numbers, gets-no-numbers, to-numbers, goes-numbers, gets-numbers, to-search, goes-search, gets-search}
+use Rattle.index.proofs.Frames.{numbers_row}
+use Rattle.index.proofs.Lent.{bounded_fits, sought_is}
+use Rattle.index.proofs.Calls.{Bounded, No-numbers, Numbers, Search, Back, Numbered, typed_usize, typed_numbers, typed_found, to_bounded, goes_bounded, gets_bounded, to_no_numbers, goes_no_numbers, gets_no_numbers, to_numbers, goes_numbers, gets_numbers, to_search, goes_search, gets_search}
 use Rattle.index.specs.contracts.Entry as T
 use Rattle.index.specs.contracts.Found as F
 use Rattle.index.proofs.Found.TheLaws as F'
@@ -75,11 +75,11 @@ Arg = Bor (List Entry) × (ℕ × Unit {0})
 
 -- what the callees give, one after the other, is what the contract says
 told : (ys : List Entry) (x n : ℕ) (none ns : List ℕ) (r : Found)
-    → n ≡ boundedOf (length ys) → none ≡ replicate 512 0 → ns ≡ onto (numbersOf (take n ys)) none → r ≡ sought ns (length ys) x → r ≡ found ys x
+    → n ≡ boundedOf (length ys) → none ≡ replicate 512 0 → ns ≡ onto (numbers_of (take n ys)) none → r ≡ sought ns (length ys) x → r ≡ found ys x
 told ys x n none ns r is-n is_none is-ns is-r =
     is-r
-    ∙ ap (λ (l : List ℕ). sought l (length ys) x) (is-ns ∙ ap (onto (numbersOf (take n ys))) is_none ∙ ap (λ (k : ℕ). onto (numbersOf (take k ys)) (replicate 512 0)) is-n)
-    ∙ sought-is ys x
+    ∙ ap (λ (l : List ℕ). sought l (length ys) x) (is-ns ∙ ap (onto (numbers_of (take n ys))) is_none ∙ ap (λ (k : ℕ). onto (numbers_of (take k ys)) (replicate 512 0)) is-n)
+    ∙ sought_is ys x
 
 module _ {M : Type 1} {𝓤 : Ura M} (𝓛 : Logic 𝓤) (mem : Memory → SProp 𝓤) (run : Routine → Fun 𝓤) (κ : Lft) (q : Share) (b o : ℕ) (γ : GName) (ys : List Entry) (x : ℕ) where
   open 𝓛 use {H}
@@ -101,7 +101,7 @@ module _ {M : Type 1} {𝓤 : Ura M} (𝓛 : Logic 𝓤) (mem : Memory → SProp
 
   module _ (gn : Room R (length ys)) (gx : x < 2 ^ 16) where
     fit : (n : ℕ) → n ≡ boundedOf (length ys) → (n ≤ length ys) × (n ≤ 512)
-    fit n is = subst (λ (k : ℕ). (k ≤ length ys) × (k ≤ 512)) (sym is) (bounded-fits (length ys))
+    fit n is = subst (λ (k : ℕ). (k ≤ length ys) × (k ≤ 512)) (sym is) (bounded_fits (length ys))
 
     exits : (r : Found) (w : Val) → Is F.the_row r (w ∷ []) → r ≡ found ys x → ent 𝓤 (⋆ 𝓛 (‵ (flft κ q) ∷ ‵ Own ∷ [])) (Post w)
     exits r w gr is =
@@ -119,22 +119,22 @@ module _ {M : Type 1} {𝓤 : Ura M} (𝓛 : Logic 𝓤) (mem : Memory → SProp
           move ! (15 ∷ []) $ fsplit ! $ use1 𝓛 (‵ Own ⊛ ‵ Own) ((shr_slice_copy 𝓛 (named 0) κ R).twice x₀.0 (s ∷ [])) $ split ! $ move ! (17 ∷ []) $ split ! $ keep ! (0 ∷ 2 ∷ 3 ∷ 5 ∷ 6 ∷ 7 ∷ 8 ∷ 9 ∷ 10 ∷ 11 ∷ 12 ∷ 13 ∷ 14 ∷ 15 ∷ 16 ∷ 17 ∷ 18 ∷ []) $
           -- [the token; the slice; the slice; _6; …; _0; …]
           assigns ! (of_opd ! (load ! (from ! (fld ! refl (stop !))) (look_in ! 13 (sub ! 1 refl (whole !))))) (from ! (stop !)) (init ! 9 refl (tt, record { fits = gn.0 })) $
-          use0 𝓛 (raw ((Bounded 𝓛 mem run).pre (to-bounded 𝓛 mem run (length ys) (vint w64 (length ys))))) (goes-bounded 𝓛 mem run (length ys) (vint w64 (length ys)) (refl, gn.0)) $
-          calls_at ! fm (Bounded 𝓛 mem run) known-bounded (to-bounded 𝓛 mem run (length ys) (vint w64 (length ys))) (and_then ! (load ! (from ! (stop !)) (look ! 10 refl)) (no_more !)) (λ wn.
-          use1 𝓛 (later (some (λ (res : ℕ). given (Back usize (λ k. k ≡ boundedOf (length ys)) wn res) (raw (emp 𝓤))))) (gets-bounded 𝓛 mem run (length ys) (vint w64 (length ys)) wn) $ await ! tt $ pick ! (λ n. learn ! (λ is-n. drop ! $
-          land ! (from ! (stop !)) (init ! 7 refl (typed-usize 𝓛 n wn is-n.1)) $
-          use0 𝓛 (raw ((No-numbers 𝓛 mem run).pre (to-no-numbers 𝓛 mem run))) (goes-no-numbers 𝓛 mem run) $
-          calls_at ! fm (No-numbers 𝓛 mem run) known-no-numbers (to-no-numbers 𝓛 mem run) (no_more !) (λ wz.
-          use1 𝓛 (later (some (λ (res : List ℕ). given (Back numbersRow (λ l. l ≡ replicate 512 0) wz res) (raw (emp 𝓤))))) (gets-no-numbers 𝓛 mem run wz) $ await ! tt $ pick ! (λ none. learn ! (λ is_none. drop ! $
-          land ! (from ! (stop !)) (init ! 5 refl (typed-numbers 𝓛 none wz is_none.1)) $
-          use2 𝓛 (raw ((Numbers 𝓛 mem run).pre (to-numbers 𝓛 mem run κ q γ b o ys n wn none wz))) (goes-numbers 𝓛 mem run κ q γ b o ys n wn none wz is-n.1 is_none.1 (fit n is-n.0)) $
-          calls_at ! fm (Numbers 𝓛 mem run) known-numbers (to-numbers 𝓛 mem run κ q γ b o ys n wn none wz) (and_then ! (load ! (from ! (stop !)) (look ! 12 refl)) (and_then ! (load ! (from ! (stop !)) (look ! 6 refl)) (and_then ! (load ! (from ! (stop !)) (look ! 4 refl)) (no_more !)))) (λ wns.
-          use1 𝓛 (later (some (λ (l : List ℕ). given (Back numbersRow (Numbered 𝓛 mem run κ q γ b o ys n none) wns l) (‵ (flft κ q))))) (gets-numbers 𝓛 mem run κ q γ b o ys n wn none wz wns) $ await ! tt $ pick ! (λ ns. learn ! (λ is-ns.
-          land ! (from ! (stop !)) (init ! 2 refl (typed-numbers 𝓛 ns wns is-ns.1)) $
-          use0 𝓛 (raw ((Search 𝓛 mem run).pre (to-search 𝓛 mem run ns wns (length ys) (vint w64 (length ys)) x (vint w16 x)))) (goes-search 𝓛 mem run ns wns (length ys) (vint w64 (length ys)) x (vint w16 x) is-ns.1 (refl, gn.0) (refl, gx)) $
-          calls_at ! fm (Search 𝓛 mem run) known-search (to-search 𝓛 mem run ns wns (length ys) (vint w64 (length ys)) x (vint w16 x)) (and_then ! (load ! (from ! (stop !)) (look ! 3 refl)) (and_then ! (load ! (from ! (stop !)) (look ! 9 refl)) (and_then ! (load ! (from ! (stop !)) (look ! 11 refl)) (no_more !)))) (λ wr.
-          use1 𝓛 (later (some (λ (res : Found). given (Back F.the_row (λ a. a ≡ sought ns (length ys) x) wr res) (raw (emp 𝓤))))) (gets-search 𝓛 mem run ns wns (length ys) (vint w64 (length ys)) x (vint w16 x) wr) $ await ! tt $ pick ! (λ r. learn ! (λ is-r. drop ! $
-          land ! (from ! (stop !)) (init ! 14 refl (typed-found 𝓛 r wr is-r.1)) $
+          use0 𝓛 (raw ((Bounded 𝓛 mem run).pre (to_bounded 𝓛 mem run (length ys) (vint w64 (length ys))))) (goes_bounded 𝓛 mem run (length ys) (vint w64 (length ys)) (refl, gn.0)) $
+          calls_at ! fm (Bounded 𝓛 mem run) known-bounded (to_bounded 𝓛 mem run (length ys) (vint w64 (length ys))) (and_then ! (load ! (from ! (stop !)) (look ! 10 refl)) (no_more !)) (λ wn.
+          use1 𝓛 (later (some (λ (res : ℕ). given (Back usize (λ k. k ≡ boundedOf (length ys)) wn res) (raw (emp 𝓤))))) (gets_bounded 𝓛 mem run (length ys) (vint w64 (length ys)) wn) $ await ! tt $ pick ! (λ n. learn ! (λ is-n. drop ! $
+          land ! (from ! (stop !)) (init ! 7 refl (typed_usize 𝓛 n wn is-n.1)) $
+          use0 𝓛 (raw ((No-numbers 𝓛 mem run).pre (to_no_numbers 𝓛 mem run))) (goes_no_numbers 𝓛 mem run) $
+          calls_at ! fm (No-numbers 𝓛 mem run) known-no-numbers (to_no_numbers 𝓛 mem run) (no_more !) (λ wz.
+          use1 𝓛 (later (some (λ (res : List ℕ). given (Back numbers_row (λ l. l ≡ replicate 512 0) wz res) (raw (emp 𝓤))))) (gets_no_numbers 𝓛 mem run wz) $ await ! tt $ pick ! (λ none. learn ! (λ is_none. drop ! $
+          land ! (from ! (stop !)) (init ! 5 refl (typed_numbers 𝓛 none wz is_none.1)) $
+          use2 𝓛 (raw ((Numbers 𝓛 mem run).pre (to_numbers 𝓛 mem run κ q γ b o ys n wn none wz))) (goes_numbers 𝓛 mem run κ q γ b o ys n wn none wz is-n.1 is_none.1 (fit n is-n.0)) $
+          calls_at ! fm (Numbers 𝓛 mem run) known-numbers (to_numbers 𝓛 mem run κ q γ b o ys n wn none wz) (and_then ! (load ! (from ! (stop !)) (look ! 12 refl)) (and_then ! (load ! (from ! (stop !)) (look ! 6 refl)) (and_then ! (load ! (from ! (stop !)) (look ! 4 refl)) (no_more !)))) (λ wns.
+          use1 𝓛 (later (some (λ (l : List ℕ). given (Back numbers_row (Numbered 𝓛 mem run κ q γ b o ys n none) wns l) (‵ (flft κ q))))) (gets_numbers 𝓛 mem run κ q γ b o ys n wn none wz wns) $ await ! tt $ pick ! (λ ns. learn ! (λ is-ns.
+          land ! (from ! (stop !)) (init ! 2 refl (typed_numbers 𝓛 ns wns is-ns.1)) $
+          use0 𝓛 (raw ((Search 𝓛 mem run).pre (to_search 𝓛 mem run ns wns (length ys) (vint w64 (length ys)) x (vint w16 x)))) (goes_search 𝓛 mem run ns wns (length ys) (vint w64 (length ys)) x (vint w16 x) is-ns.1 (refl, gn.0) (refl, gx)) $
+          calls_at ! fm (Search 𝓛 mem run) known-search (to_search 𝓛 mem run ns wns (length ys) (vint w64 (length ys)) x (vint w16 x)) (and_then ! (load ! (from ! (stop !)) (look ! 3 refl)) (and_then ! (load ! (from ! (stop !)) (look ! 9 refl)) (and_then ! (load ! (from ! (stop !)) (look ! 11 refl)) (no_more !)))) (λ wr.
+          use1 𝓛 (later (some (λ (res : Found). given (Back F.the_row (λ a. a ≡ sought ns (length ys) x) wr res) (raw (emp 𝓤))))) (gets_search 𝓛 mem run ns wns (length ys) (vint w64 (length ys)) x (vint w16 x) wr) $ await ! tt $ pick ! (λ r. learn ! (λ is-r. drop ! $
+          land ! (from ! (stop !)) (init ! 14 refl (typed_found 𝓛 r wr is-r.1)) $
           returns ! (look ! 14 refl) $ forget ! 2 refl $ forget ! 4 refl $ forget ! 6 refl $ forget ! 8 refl $ forget ! 10 refl $ forget ! 12 refl $ forget ! 14 refl $
           move ! (14 ∷ 15 ∷ []) $ free1 ! $ move ! (12 ∷ 13 ∷ []) $ free1 ! $ move ! (10 ∷ 11 ∷ []) $ free1 ! $ move ! (8 ∷ 9 ∷ []) $ free1 ! $ move ! (6 ∷ 7 ∷ []) $ free1 ! $ move ! (4 ∷ 5 ∷ []) $ free1 ! $ move ! (2 ∷ 3 ∷ []) $ free1 ! $ free0 ! $
           by ! (exits r wr is-r.1 (told ys x n none ns r is-n.0 is_none.0 is-ns.0 is-r.0)))))))))))))))))))))

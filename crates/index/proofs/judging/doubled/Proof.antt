@@ -7,13 +7,13 @@ use mathlib.Core.Path.{◌≡◌, sym, ap, ◌∙◌, refl}
 use native.Mathlib.Omega.{arith}
 use borrow.Author.Rules.{rules}
 use lib.ListN.{length, drop, set, drop_of_length-le}
-use Rattle.index.specs.Table.{heldTwice}
-use Rattle.index.proofs.Marks.{marked, marking, as-many-marks, again, none_yet, second-time, first-time, passed, met-none}
+use Rattle.index.specs.Table.{held_twice}
+use Rattle.index.proofs.Marks.{marked, marking, as_many_marks, again, none_yet, second_time, first_time, passed, met_none}
 use Rattle.index.proofs.judging.doubled.Statement.{statement}
 use Rattle.index.proofs.judging.doubled.Tie as tie
 
 abbrev invariant-loop : tie.invariant-loop
-invariant-loop s marks₀ i₀ marks i = (i ≤ length s) × (length marks ≡ 1024) × (heldTwice s ≡ again (marked marks) (drop i s))
+invariant-loop s marks₀ i₀ marks i = (i ≤ length s) × (length marks ≡ 1024) × (held_twice s ≡ again (marked marks) (drop i s))
 
 abbrev decreases-loop : tie.decreases-loop
 decreases-loop s marks₀ i₀ marks i = length s - i
@@ -36,7 +36,7 @@ returns c =
     let turn = c.before.before.before.before.before.before in
     sym
     (turn.loop.invariant.2
-    ∙ second-time
+    ∙ second_time
     turn.before.before.args.s.now
     turn.loop.i
     c.before.before.before.before.before.loop-test.true
@@ -58,9 +58,9 @@ loop-again c =
     let in-marks : x / 64 < length turn.loop.marks =
     rw turn.loop.invariant.1 (room c.before.widened.ensures (c.before.before.shared-slice-known2.given i).fits) in (
       omega arith,
-      ap length now ∙ as-many-marks turn.loop.marks x ∙ turn.loop.invariant.1,
+      ap length now ∙ as_many_marks turn.loop.marks x ∙ turn.loop.invariant.1,
       turn.loop.invariant.2
-          ∙ first-time
+          ∙ first_time
           s
           i
           c.before.before.before.loop-test.true
@@ -82,7 +82,7 @@ loop-again c =
     c.if1.branch
 
 returns-2 : tie.Need-returns-2 invariant-loop decreases-loop
-returns-2 c = sym (c.before.loop.invariant.2 ∙ ap (again (marked c.before.loop.marks)) (drop_of_length-le _ c.loop-test.false) ∙ met-none _)
+returns-2 c = sym (c.before.loop.invariant.2 ∙ ap (again (marked c.before.loop.marks)) (drop_of_length-le _ c.loop-test.false) ∙ met_none _)
 
 pub doubled-spec : {M : Type 1} → statement M
 doubled-spec =

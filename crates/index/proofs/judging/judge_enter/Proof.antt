@@ -5,7 +5,7 @@ use borrow.Author.Rules.{rules}
 use borrow.Author.Tests.{lt-ltb, le-ltb}
 use lib.Seq.{length-take-le}
 use Rattle.index.specs.declared.judging.Looked.{Looked}
-use Rattle.index.specs.Steps.{indexedBy, judged}
+use Rattle.index.specs.Steps.{indexed_by, judged}
 use Rattle.index.proofs.judging.judge_enter.Statement.{statement}
 use Rattle.index.proofs.judging.judge_enter.Tie as tie
 
@@ -19,7 +19,7 @@ returns-2 c =
     rw
     (le-ltb _ _ c.before.before.before.if1.false)
     (c.answer-enter.ensures
-    ∙ ap (λ (l : Looked). indexedBy l c.before.before.before.before.args.n c.before.before.before.before.args.e.number) c.before.look.ensures)
+    ∙ ap (λ (l : Looked). indexed_by l c.before.before.before.before.args.n c.before.before.before.before.args.e.number) c.before.look.ensures)
 
 pub judge-enter-spec : {M : Type 1} → statement M
 judge-enter-spec =

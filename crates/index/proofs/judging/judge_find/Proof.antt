@@ -5,7 +5,7 @@ use borrow.Author.Rules.{rules}
 use borrow.Author.Tests.{lt-ltb, le-ltb}
 use lib.Seq.{length-take-le}
 use Rattle.index.specs.declared.judging.Looked.{Looked}
-use Rattle.index.specs.Steps.{foundBy, sought}
+use Rattle.index.specs.Steps.{found_by, sought}
 use Rattle.index.proofs.judging.judge_find.Statement.{statement}
 use Rattle.index.proofs.judging.judge_find.Tie as tie
 
@@ -19,7 +19,7 @@ returns-2 c =
     rw
     (le-ltb _ _ c.before.before.before.if1.false)
     (c.answer-find.ensures
-    ∙ ap (λ (l : Looked). foundBy l c.before.before.before.before.args.n c.before.before.before.before.args.x) c.before.look.ensures)
+    ∙ ap (λ (l : Looked). found_by l c.before.before.before.before.args.n c.before.before.before.before.args.x) c.before.look.ensures)
 
 pub judge-find-spec : {M : Type 1} → statement M
 judge-find-spec =

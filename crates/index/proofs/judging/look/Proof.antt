@@ -7,20 +7,20 @@ use lib.ListN.{length}
 use lib.Seq.{length-take-le}
 use Rattle.index.specs.declared.judging.Looked.TheVariants as L
 use Rattle.index.specs.Table.{place_of}
-use Rattle.index.proofs.Looks.{place-most, finds-gap, finds-twice, finds-none}
+use Rattle.index.proofs.Looks.{place_most, finds_gap, finds_twice, finds_none}
 use Rattle.index.proofs.judging.look.Statement.{statement}
 use Rattle.index.proofs.judging.look.Tie as tie
 
 -- the first unused entry stands in the table, or is its end
 in_table : (s : List ℕ) {free : ℕ} → free ≡ place_of 0 s → free ≤ length s
-in_table s e = subst (λ (k : ℕ). k ≤ length s) (sym e) (place-most 0 s)
+in_table s e = subst (λ (k : ℕ). k ≤ length s) (sym e) (place_most 0 s)
 
 returns-3 : tie.Need-returns-3
 returns-3 c =
     let found = c.before.before.before.before.before.before in
     ap (L.Sound found.seek.result) c.seek2.ensures
     ∙ sym
-    (finds-none
+    (finds_none
     found.before.before.args.s.now
     found.before.before.args.x
     found.seek.result
@@ -36,7 +36,7 @@ look_spec =
     (λ c κs. in_table c.before.before.args.s.now c.seek.ensures)
     (λ c.
     sym
-    (finds-gap
+    (finds_gap
     c.before.before.before.before.args.s.now
     c.before.before.before.before.args.x
     c.before.before.seek.result
@@ -52,7 +52,7 @@ look_spec =
     (λ c.
     let found = c.before.before.before.before.before in
     sym
-    (finds-twice
+    (finds_twice
     found.before.before.args.s.now
     found.before.before.args.x
     found.seek.result

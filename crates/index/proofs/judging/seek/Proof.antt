@@ -4,7 +4,7 @@ use mathlib.Core.Path.{◌≡◌, ap, ◌∙◌}
 use native.Mathlib.Omega.{arith}
 use lib.ListN.{length, drop, drop_of_length-le}
 use Rattle.index.specs.Table.{place_of}
-use Rattle.index.proofs.Looks.{place_here, place-on, place_none}
+use Rattle.index.proofs.Looks.{place_here, place_on, place_none}
 use Rattle.index.proofs.judging.seek.Statement.{statement}
 use Rattle.index.proofs.judging.seek.Tie as tie
 
@@ -33,7 +33,7 @@ loop-again c = (
   omega (
     arith,
     c.before.before.before.loop.invariant.1,
-    place-on
+    place_on
         c.before.before.before.before.args.s.now
         c.before.before.before.loop.i
         c.before.before.loop-test.true

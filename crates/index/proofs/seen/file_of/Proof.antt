@@ -1,7 +1,7 @@
 -- `index::seen::file_of` meets its contract, arm by arm. Assumes nothing.
 use mathlib.Core.Path.{sym, ap}
 use borrow.Author.Rules.{rules}
-use Rattle.index.specs.Entries.{fileOf}
+use Rattle.index.specs.Entries.{file_of}
 use Rattle.index.proofs.seen.file_of.Statement.{statement}
 use Rattle.index.proofs.seen.file_of.Tie as tie
 
@@ -18,9 +18,9 @@ file-of-spec =
     (λ c. search rules)
     (λ c. search rules)
     (λ c. search rules)
-    (λ c. sym (ap fileOf c.before.report.given.1))
-    (λ c. sym (ap fileOf c.before.report2.given.1))
-    (λ c. sym (ap fileOf c.before.report3.given.1))
+    (λ c. sym (ap file_of c.before.report.given.1))
+    (λ c. sym (ap file_of c.before.report2.given.1))
+    (λ c. sym (ap file_of c.before.report3.given.1))
     (λ c. search rules)
     (λ c. search rules)
     (λ c. search rules)

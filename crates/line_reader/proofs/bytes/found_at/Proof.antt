@@ -3,7 +3,7 @@ use Prim.Native.Nat.{◌≤◌, ◌<◌}
 use mathlib.Core.Path.{sym, ◌∙◌}
 use borrow.Author.Tests.{lt-ltb, le-ltb, eq-eqb, ne_eqb}
 use lib.ListN.{length}
-use Rattle.lines.specs.Bytes.{words_in, readBytes}
+use Rattle.lines.specs.Bytes.{words_in, read_bytes}
 use Rattle.words.proofs.Tests.{picked, passed}
 use borrow.Author.Rules.{rules}
 use native.Mathlib.Omega.{arith}
@@ -11,15 +11,15 @@ use Rattle.line_reader.proofs.bytes.found_at.Statement.{statement}
 use Rattle.line_reader.proofs.bytes.found_at.Tie as tie
 
 returns : tie.Need-returns
-unfolding readBytes
+unfolding read_bytes
 returns c = c.not_taken.ensures ∙ sym (picked _ _ (lt-ltb _ _ c.before.if1.true))
 
 returns-2 : tie.Need-returns-2
-unfolding readBytes
+unfolding read_bytes
 returns-2 c = c.not-taken2.ensures ∙ sym (passed _ _ (le-ltb _ _ c.before.before.if1.false) ∙ picked _ _ (eq-eqb _ _ c.before.if2.true))
 
 returns-3 : tie.Need-returns-3
-unfolding readBytes
+unfolding read_bytes
 returns-3 c =
     let o = c.before.before.before in
     let a = o.before.before.before.args in
@@ -29,7 +29,7 @@ returns-3 c =
     ∙ sym (passed _ _ (le-ltb _ _ o.before.if1.false) ∙ passed _ _ (ne_eqb _ _ o.if2.false) ∙ picked _ _ (lt-ltb _ _ h))
 
 returns-4 : tie.Need-returns-4
-unfolding readBytes
+unfolding read_bytes
 returns-4 c =
     let o = c.before.before.before in
     let a = o.before.before.before.args in

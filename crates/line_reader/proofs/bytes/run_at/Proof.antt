@@ -1,7 +1,7 @@
 -- `line_reader::bytes::run_at` meets its contract. Assumes nothing.
 use mathlib.Core.List.{[], ◌∷◌}
 use Rattle.reports.specs.Altitude.{form_of}
-use Rattle.line_reader.proofs.Places.{answer-law, faulty-law}
+use Rattle.line_reader.proofs.Places.{answer_law, faulty_law}
 use borrow.Author.Rules.{rules}
 use Rattle.line_reader.proofs.bytes.run_at.Statement.{statement}
 use Rattle.line_reader.proofs.bytes.run_at.Tie as tie
@@ -9,7 +9,7 @@ use Rattle.line_reader.proofs.bytes.run_at.Tie as tie
 returns : tie.Need-returns
 returns c =
     let t = c.before in
-    faulty-law t.before.before.places.ensures _ (0 ∷ 0 ∷ 0 ∷ 0 ∷ 0 ∷ 0 ∷ 0 ∷ []) _ t.if1.true c.answer.ensures
+    faulty_law t.before.before.places.ensures _ (0 ∷ 0 ∷ 0 ∷ 0 ∷ 0 ∷ 0 ∷ 0 ∷ []) _ t.if1.true c.answer.ensures
 
 returns-2 : tie.Need-returns-2
 returns-2 c =
@@ -21,7 +21,7 @@ returns-2 c =
     let b = c3.before in
     let a = b.before in
     let p = a.before.before.before in
-    answer-law p.places.ensures (form_of p.before.before.args.form) _ _
+    answer_law p.places.ensures (form_of p.before.before.args.form) _ _
     (λ i.
     a.word.ensures i
     ∷ b.word2.ensures i

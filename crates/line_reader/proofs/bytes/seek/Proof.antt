@@ -2,7 +2,7 @@
 use Prim.Native.Nat.{◌-◌}
 use mathlib.Core.Path.{refl}
 use Rattle.lines.specs.Bytes.{words_in}
-use Rattle.line_reader.proofs.Searches.{Going, goes_on, stops-there, stops-at-end}
+use Rattle.line_reader.proofs.Searches.{Going, goes_on, stops_there, stops_at_end}
 use borrow.Author.Rules.{rules}
 use native.Mathlib.Omega.{arith}
 use Rattle.line_reader.proofs.bytes.seek.Statement.{statement}
@@ -20,7 +20,7 @@ loop-holds c = record { onward = omega arith; within = omega arith; same = refl 
 returns : tie.Need-returns invariant-loop decreases-loop
 returns c =
     let w = c.before.before in
-    stops-there w.before.before.loop.invariant (omega arith) w.word_at.ensures c.before.stops.ensures c.if1.true
+    stops_there w.before.before.loop.invariant (omega arith) w.word_at.ensures c.before.stops.ensures c.if1.true
 
 loop-again : tie.Need-loop-preserved invariant-loop decreases-loop
 loop-again c =
@@ -28,7 +28,7 @@ loop-again c =
     goes_on w.before.before.loop.invariant (omega arith) (omega arith) w.word_at.ensures c.before.stops.ensures c.if1.false
 
 returns-2 : tie.Need-returns-2 invariant-loop decreases-loop
-returns-2 c = stops-at-end c.before.loop.invariant (omega arith)
+returns-2 c = stops_at_end c.before.loop.invariant (omega arith)
 
 pub seek-spec : {M : Type 1} → statement M
 seek-spec =

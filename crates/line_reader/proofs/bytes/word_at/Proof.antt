@@ -1,24 +1,24 @@
 -- `line_reader::bytes::word_at` meets its contract. Assumes nothing.
-use Rattle.lines.proofs.ByteWords.{words-length, word_at}
+use Rattle.lines.proofs.ByteWords.{words_length, word_at}
 use borrow.Author.Rules.{rules}
 use native.Mathlib.Omega.{arith}
 use Rattle.line_reader.proofs.bytes.word_at.Statement.{statement}
 use Rattle.line_reader.proofs.bytes.word_at.Tie as tie
 
 mul-widened : tie.Need-overflow-mul-widened
-mul-widened c = omega (arith, words-length c.before.args.bytes.now)
+mul-widened c = omega (arith, words_length c.before.args.bytes.now)
 
 shared-slice-read-widened : tie.Need-shared-slice-read-widened
-shared-slice-read-widened c = omega (arith, words-length c.before.before.args.bytes.now)
+shared-slice-read-widened c = omega (arith, words_length c.before.before.args.bytes.now)
 
 mul-widened-2 : tie.Need-overflow-mul-widened-2
-mul-widened-2 c = omega (arith, words-length c.before.before.before.args.bytes.now)
+mul-widened-2 c = omega (arith, words_length c.before.before.before.args.bytes.now)
 
 add-widened : tie.Need-overflow-add-widened
-add-widened c = omega (arith, words-length c.before.before.before.args.bytes.now)
+add-widened c = omega (arith, words_length c.before.before.before.args.bytes.now)
 
 shared-slice-read-widened-2 : tie.Need-shared-slice-read-widened-2
-shared-slice-read-widened-2 c = omega (arith, words-length c.before.before.before.before.args.bytes.now)
+shared-slice-read-widened-2 c = omega (arith, words_length c.before.before.before.before.args.bytes.now)
 
 returns : tie.Need-returns
 returns c =

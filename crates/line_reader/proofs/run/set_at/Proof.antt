@@ -3,8 +3,8 @@ use Prim.Native.Nat.{◌+◌, ◌≤◌}
 use native.Mathlib.Nat.{add-zero}
 use mathlib.Core.Path.{ap, sym, ◌∙◌, subst}
 use Rattle.reports.specs.declared.RunAnswer.{RunAnswer}
-use Rattle.reports.specs.Runs.{answerOffset}
-use Rattle.lines.specs.Line.{outcomeOf, placed}
+use Rattle.reports.specs.Runs.{answer_offset}
+use Rattle.lines.specs.Line.{outcome_of, placed}
 use borrow.Author.Rules.{rules}
 use native.Mathlib.Omega.{arith}
 use Rattle.line_reader.proofs.run.set_at.Statement.{statement}
@@ -13,14 +13,14 @@ use Rattle.line_reader.proofs.run.set_at.Tie as tie
 add-new-3 : tie.Need-overflow-add-new-3
 add-new-3 c =
     let s = c.before.before.before in
-    let h = subst (λ (x : RunAnswer). answerOffset x ≤ s.args.n) c.before.answer2.given.1 s.requires.1 in
+    let h = subst (λ (x : RunAnswer). answer_offset x ≤ s.args.n) c.before.answer2.given.1 s.requires.1 in
     omega arith
 
 returns : tie.Need-returns
 returns c =
     let s = c.before.before.before.before in
     c.new.ensures
-    ∙ ap (outcomeOf _ s.args.first (s.args.first + s.args.n)) (sym (add-zero s.args.first))
+    ∙ ap (outcome_of _ s.args.first (s.args.first + s.args.n)) (sym (add-zero s.args.first))
     ∙ sym (ap (placed s.args.first s.args.n) c.before.before.answer.given.1)
 
 returns-2 : tie.Need-returns-2

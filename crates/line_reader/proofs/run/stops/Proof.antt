@@ -4,14 +4,14 @@ use mathlib.Core.Path.{◌≡◌, ap, sym, ◌∙◌}
 use mathlib.Core.Bool.{Bool, not}
 use Rattle.words.proofs.Tests.{picked, passed}
 use Rattle.line_reader.specs.declared.run.Stop.{Stop}
-use Rattle.line_reader.specs.Places.{stopsAt}
+use Rattle.line_reader.specs.Places.{stops_at}
 use borrow.Author.Rules.{rules}
 use Rattle.line_reader.proofs.run.stops.Statement.{statement}
 use Rattle.line_reader.proofs.run.stops.Tie as tie
 
 -- what holds at the stop of the arm holds at the stop that was given
-at-stop : (w : ℕ) {s t : Stop} {b : Bool} → s ≡ t → b ≡ stopsAt t w → b ≡ stopsAt s w
-at-stop w e f = f ∙ sym (ap (λ (x : Stop). stopsAt x w) e)
+at-stop : (w : ℕ) {s t : Stop} {b : Bool} → s ≡ t → b ≡ stops_at t w → b ≡ stops_at s w
+at-stop w e f = f ∙ sym (ap (λ (x : Stop). stops_at x w) e)
 
 returns : tie.Need-returns
 returns c = at-stop _ c.before.before.enum-told2.given.1 (sym (picked _ _ (sym c.before.is-too-wide.ensures ∙ c.if1.true)))

@@ -6,7 +6,7 @@ use lib.ListN.{length, take, drop, get_or, set, length-set, replicate, length-re
 use lib.Seq.{take_all}
 use Rattle.words.specs.Word.{idle}
 use Rattle.lines.specs.Bytes.{bytes_of}
-use Rattle.line_writer.proofs.Leaves.{pair-more}
+use Rattle.line_writer.proofs.Leaves.{pair_more}
 use native.Mathlib.Omega.{arith}
 use Rattle.line_writer.proofs.bytes.put_idles.Statement.{statement}
 use Rattle.line_writer.proofs.bytes.put_idles.Tie as tie
@@ -37,7 +37,7 @@ loop-again c =
       length-set (set l.part (l.i * 2) hi) (l.i * 2 + 1) lo ∙ length-set l.part (l.i * 2) hi ∙ l.invariant.1,
       ap (λ (q : List ℕ). set (set q (l.i * 2) hi) (l.i * 2 + 1) lo) l.invariant.2
           ∙ ap (λ (w : ℕ). set (set (bytes_of (take l.i ws) ++ drop (l.i * 2) a.part.now) (l.i * 2) (w / 256 % 256)) (l.i * 2 + 1) (w % 256)) (sym same)
-          ∙ pair-more a.part.now ws l.i (omega arith) (omega arith),
+          ∙ pair_more a.part.now ws l.i (omega arith) (omega arith),
     )
 
 same_length : tie.Need-same-length invariant-loop decreases-loop

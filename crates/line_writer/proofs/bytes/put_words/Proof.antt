@@ -4,7 +4,7 @@ use mathlib.Core.Path.{◌≡◌, refl, ap, ◌∙◌}
 use mathlib.Core.List.{List, ◌++◌}
 use lib.ListN.{length, take, drop, get_or, set, length-set}
 use Rattle.lines.specs.Bytes.{bytes_of}
-use Rattle.line_writer.proofs.Leaves.{pair-more}
+use Rattle.line_writer.proofs.Leaves.{pair_more}
 use borrow.Author.Rules.{rules}
 use native.Mathlib.Omega.{arith}
 use Rattle.line_writer.proofs.bytes.put_words.Statement.{statement}
@@ -33,7 +33,7 @@ loop-again c =
     let lo = w % 256 in (
       omega arith,
       length-set (set l.part (l.i * 2) hi) (l.i * 2 + 1) lo ∙ length-set l.part (l.i * 2) hi ∙ l.invariant.1,
-      ap (λ (q : List ℕ). set (set q (l.i * 2) hi) (l.i * 2 + 1) lo) l.invariant.2 ∙ pair-more a.part.now a.t2 l.i (omega arith) (omega arith),
+      ap (λ (q : List ℕ). set (set q (l.i * 2) hi) (l.i * 2 + 1) lo) l.invariant.2 ∙ pair_more a.part.now a.t2 l.i (omega arith) (omega arith),
     )
 
 same_length : tie.Need-same-length invariant-loop decreases-loop

@@ -6,7 +6,7 @@ use lib.ListN.{length, take}
 use lib.Seq.{length-take-le}
 use Rattle.words.specs.Word.{idle}
 use Rattle.lines.specs.Claims.{put}
-use Rattle.line_writer.proofs.Leaves.{put_back, puts-words}
+use Rattle.line_writer.proofs.Leaves.{put_back, puts_words}
 use borrow.Author.Rules.{rules}
 use native.Mathlib.Omega.{arith}
 use Rattle.line_writer.proofs.wide.put.Statement.{statement}
@@ -19,7 +19,7 @@ returns c =
     let m : length a.ws ≡ 7 = search rules in
     let ws = take a.n a.ws in
     let size : length ws ≡ a.n = length-take-le a.n a.ws (omega arith) in
-    puts-words a.line.now a.place a.n ws _ size (omega arith)
+    puts_words a.line.now a.place a.n ws _ size (omega arith)
     (put_back _ (a.place + a.n) 1 (idle ∷ []) _ refl c.before.before.put-idles.ensures
     ∙ ap (λ (l : List ℕ). put l (a.place + a.n) (idle ∷ [])) (put_back a.line.now a.place a.n ws _ size c.before.before.before.before.before.before.put-words.ensures))
 

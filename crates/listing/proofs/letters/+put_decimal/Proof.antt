@@ -3,7 +3,7 @@ use mathlib.Core.Path.{◌∙◌}
 use native.Mathlib.Omega.{arith}
 use lib.ListN.{length-set}
 use borrow.Author.Rules.{rules}
-use Rattle.listing.proofs.Decimals.{length-one, length_last}
+use Rattle.listing.proofs.Decimals.{length_one, length_last}
 use Rattle.listing.proofs.Putting.{put_first, put_last}
 use Prim.Native.Nat.{ℕ, ◌<◌}
 use borrow.Fn.Kinds.{In}
@@ -40,7 +40,7 @@ put-decimal-slice-write-out : (t : ℕ) → put-decimal-lts.Need-slice-write-out
   put-decimal-below t,
   put-decimal.Post,
 ) (put-decimal-at t) put-decimal.Post
-put-decimal-slice-write-out t c = omega (arith, length-one c.before.before.before.args.n c.before.if1.true)
+put-decimal-slice-write-out t c = omega (arith, length_one c.before.before.before.args.n c.before.if1.true)
 
 put-decimal-add-result : (t : ℕ) → put-decimal-lts.Need-overflow-add-result (
   letter-reads.Asked,
@@ -48,7 +48,7 @@ put-decimal-add-result : (t : ℕ) → put-decimal-lts.Need-overflow-add-result 
   put-decimal-below t,
   put-decimal.Post,
 ) (put-decimal-at t) put-decimal.Post
-put-decimal-add-result t c = omega (arith, length-one c.before.before.before.args.n c.before.if1.true)
+put-decimal-add-result t c = omega (arith, length_one c.before.before.before.args.n c.before.if1.true)
 
 put-decimal-same-length : (t : ℕ) → put-decimal-lts.Need-same-length (
   letter-reads.Asked,

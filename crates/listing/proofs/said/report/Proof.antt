@@ -1,7 +1,7 @@
 -- `listing::said::report` meets its contract: its parts one behind the other. Assumes nothing.
 use native.Mathlib.Omega.{arith}
 use Rattle.listing.proofs.Decimals.{five}
-use Rattle.listing.proofs.Putting.{then, name-short}
+use Rattle.listing.proofs.Putting.{then, name_short}
 use borrow.Author.Rules.{rules}
 use Rattle.listing.proofs.said.report.Statement.{statement}
 use Rattle.listing.proofs.said.report.Tie as tie
@@ -12,7 +12,7 @@ put-decimal-requires c κs =
     let p = s.requires in
     let l0 = five s.args.place p.1 in
     let l1 = five s.args.count p.2 in
-    let l2 = name-short s.args.kind in
+    let l2 = name_short s.args.kind in
     (omega arith, omega arith)
 
 put-text-requires : tie.Need-put-text-requires
@@ -21,7 +21,7 @@ put-text-requires c κs =
     let p = s.requires in
     let l0 = five s.args.place p.1 in
     let l1 = five s.args.count p.2 in
-    let l2 = name-short s.args.kind in
+    let l2 = name_short s.args.kind in
     let a0 = c.before.before.before.before.put-decimal.ensures.answers in
     let k0 = c.before.before.before.before.put-decimal.auto.0 in
     (omega arith, omega arith)
@@ -32,7 +32,7 @@ put-name-requires c κs =
     let p = s.requires in
     let l0 = five s.args.place p.1 in
     let l1 = five s.args.count p.2 in
-    let l2 = name-short s.args.kind in
+    let l2 = name_short s.args.kind in
     let a0 = c.before.before.before.before.before.before.before.before.put-decimal.ensures.answers in
     let k0 = c.before.before.before.before.before.before.before.before.put-decimal.auto.0 in
     let a1 = c.before.before.before.put-text.ensures.answers in
@@ -45,7 +45,7 @@ put-item-requires c κs =
     let p = s.requires in
     let l0 = five s.args.place p.1 in
     let l1 = five s.args.count p.2 in
-    let l2 = name-short s.args.kind in
+    let l2 = name_short s.args.kind in
     let a0 = c.before.before.before.before.before.before.before.before.before.before.before.before.before.put-decimal.ensures.answers in
     let k0 = c.before.before.before.before.before.before.before.before.before.before.before.before.before.put-decimal.auto.0 in
     let a1 = c.before.before.before.before.before.before.before.before.put-text.ensures.answers in
@@ -60,7 +60,7 @@ put-text-requires-2 c κs =
     let p = s.requires in
     let l0 = five s.args.place p.1 in
     let l1 = five s.args.count p.2 in
-    let l2 = name-short s.args.kind in
+    let l2 = name_short s.args.kind in
     let a0 = c.before.before.before.before.before.before.before.before.before.before.before.before.before.before.before.before.before.before.put-decimal.ensures.answers in
     let k0 = c.before.before.before.before.before.before.before.before.before.before.before.before.before.before.before.before.before.before.put-decimal.auto.0 in
     let a1 = c.before.before.before.before.before.before.before.before.before.before.before.before.before.put-text.ensures.answers in

@@ -2,11 +2,11 @@
 use mathlib.Core.Path.{◌≡◌, refl, sym}
 use Rattle.manners.specs.declared.MannersRefusal.{MannersRefusal}
 use Rattle.manners.specs.declared.MannersRefusal.TheVariants as M
-use Rattle.manners.specs.Numbers.{mannersNumber}
+use Rattle.manners.specs.Numbers.{manners_number}
 use Rattle.manners.proofs.MannersRefusal.number.Statement.{statement}
 use Rattle.manners.proofs.MannersRefusal.number.Tie as tie
 
-one : (q : MannersRefusal) → mannersNumber q ≡ 52
+one : (q : MannersRefusal) → manners_number q ≡ 52
 one M.ListTooSmall = refl
 
 pub number-spec : {M : Type 1} → statement M

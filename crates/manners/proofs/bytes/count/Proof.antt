@@ -2,8 +2,8 @@
 use Prim.Native.Nat.{◌-◌}
 use lib.ListN.{length}
 use Rattle.lines.specs.Bytes.{words_in}
-use Rattle.lines.proofs.ByteWords.{words-length}
-use Rattle.manners.proofs.Gathered.{Counted, byte_step, one_at_most, counted_none, counted-more, counted-all}
+use Rattle.lines.proofs.ByteWords.{words_length}
+use Rattle.manners.proofs.Gathered.{Counted, byte_step, one_at_most, counted_none, counted_more, counted_all}
 use borrow.Author.Rules.{rules}
 use native.Mathlib.Omega.{arith}
 use Rattle.manners.proofs.bytes.count.Statement.{statement}
@@ -23,7 +23,7 @@ add-k c =
     let i = c.before.before.before.before.loop.invariant in
     let few = i.few in
     let inside = i.inside in
-    let n = words-length c.before.before.before.before.before.before.args.line.now in
+    let n = words_length c.before.before.before.before.before.before.args.line.now in
     let one = one_at_most c.before.found_in.result in
     let e = c.count_of.ensures in
     omega arith
@@ -32,7 +32,7 @@ loop-less : tie.Need-loop-smaller invariant-loop decreases-loop
 loop-less c =
     let l = c.before.before.before.before.loop in
     let a = c.before.before.before.before.before.before.args in
-    let n = words-length a.line.now in
+    let n = words_length a.line.now in
     let on = (byte_step a.form a.line.now l.place c.before.before.outcome-at.result (omega arith) (omega arith) l.invariant.inside c.before.before.outcome-at.ensures).onward (omega arith) in
     omega arith
 
@@ -40,16 +40,16 @@ loop-again : tie.Need-loop-preserved invariant-loop decreases-loop
 loop-again c =
     let l = c.before.before.before.before.loop in
     let a = c.before.before.before.before.before.before.args in
-    let n = words-length a.line.now in
-    counted-more l.invariant (omega arith)
+    let n = words_length a.line.now in
+    counted_more l.invariant (omega arith)
     (byte_step a.form a.line.now l.place c.before.before.outcome-at.result (omega arith) (omega arith) l.invariant.inside c.before.before.outcome-at.ensures)
     c.before.found_in.ensures
     c.count_of.ensures
 
 returns : tie.Need-returns invariant-loop decreases-loop
 returns c =
-    let n = words-length c.before.before.before.args.line.now in
-    counted-all c.before.loop.invariant (omega arith)
+    let n = words_length c.before.before.before.args.line.now in
+    counted_all c.before.loop.invariant (omega arith)
 
 pub count_spec : {M : Type 1} → statement M
 count_spec =

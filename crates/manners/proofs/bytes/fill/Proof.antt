@@ -5,11 +5,11 @@ use mathlib.Core.List.{◌++◌}
 use lib.ListN.{length, drop}
 use Rattle.reports.specs.Altitude.{form_of}
 use Rattle.lines.specs.Bytes.{words_in, bytes_of}
-use Rattle.lines.proofs.ByteWords.{words-length}
-use Rattle.manners.specs.Breaches.{breaches, numbersOf}
-use Rattle.manners.specs.Steps.{breachesAt, Filling}
-use Rattle.manners.proofs.Stored.{as_bytes, begun, more-found, full}
-use Rattle.manners.proofs.Gathered.{byte_step, none_from, among-left}
+use Rattle.lines.proofs.ByteWords.{words_length}
+use Rattle.manners.specs.Breaches.{breaches, numbers_of}
+use Rattle.manners.specs.Steps.{breaches_at, Filling}
+use Rattle.manners.proofs.Stored.{as_bytes, begun, more_found, full}
+use Rattle.manners.proofs.Gathered.{byte_step, none_from, among_left}
 use borrow.Author.Rules.{rules}
 use native.Mathlib.Omega.{arith}
 use Rattle.manners.proofs.bytes.fill.Statement.{statement}
@@ -17,7 +17,7 @@ use Rattle.manners.proofs.bytes.fill.Tie as tie
 
 abbrev invariant-loop : tie.invariant-loop
 invariant-loop line form list₀ n place₀ k₀ list place k =
-    (place ≤ length (words_in line)) × Filling (λ bs. bytes_of (numbersOf bs)) 4 (breaches (form_of form) (words_in line)) (breachesAt (form_of form) (words_in line) place) list₀ k list
+    (place ≤ length (words_in line)) × Filling (λ bs. bytes_of (numbers_of bs)) 4 (breaches (form_of form) (words_in line)) (breaches_at (form_of form) (words_in line) place) list₀ k list
 
 abbrev decreases-loop : tie.decreases-loop
 decreases-loop line form list₀ n place₀ k₀ list place k = length (words_in line) - place
@@ -32,10 +32,10 @@ put-requires c κs =
     let r = c.before.before.outcome-at in
     let s = byte_step a.form a.line.now l.place r.result (omega arith) (omega arith) l.invariant.0 r.ensures in
     let first = s.first in
-    let brought = among-left s c.before.found_in.ensures in
+    let brought = among_left s c.before.found_in.ensures in
     let counted = l.invariant.1.counted in
     let long = l.invariant.1.long in
-    let n = words-length a.line.now in
+    let n = words_length a.line.now in
     (omega arith, omega arith)
 
 loop-less : tie.Need-loop-smaller invariant-loop decreases-loop
@@ -44,7 +44,7 @@ loop-less c =
     let l = p.before.before.before.before.loop in
     let a = p.before.before.before.before.before.before.before.args in
     let r = p.before.before.outcome-at in
-    let n = words-length a.line.now in
+    let n = words_length a.line.now in
     let on = (byte_step a.form a.line.now l.place r.result (omega arith) (omega arith) l.invariant.0 r.ensures).onward (omega arith) in
     omega arith
 
@@ -56,11 +56,11 @@ loop-again c =
     let r = p.before.before.outcome-at in
     let x = p.before.found_in in
     let s = byte_step a.form a.line.now l.place r.result (omega arith) (omega arith) l.invariant.0 r.ensures in
-    let brought = among-left s x.ensures in
+    let brought = among_left s x.ensures in
     let counted = l.invariant.1.counted in
     let long = l.invariant.1.long in
     let put = c.before.before.put.ensures in
-    (s.after, more-found as_bytes r.result l.invariant.1 s.brings x.ensures (omega arith) put.0 put.1)
+    (s.after, more_found as_bytes r.result l.invariant.1 s.brings x.ensures (omega arith) put.0 put.1)
 
 same_length : tie.Need-same-length invariant-loop decreases-loop
 same_length c = c.before.loop.invariant.1.long
@@ -70,7 +70,7 @@ returns c =
     let l = c.before.loop in
     let a = c.before.before.before.before.args in
     let counted = l.invariant.1.counted in
-    let n = words-length a.line.now in
+    let n = words_length a.line.now in
     let none = none_from a.form (words_in a.line.now) l.place l.invariant.0 (omega arith) in
     (omega arith, full as_bytes l.invariant.1 none)
 

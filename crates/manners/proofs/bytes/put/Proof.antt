@@ -6,37 +6,37 @@ use lib.ListN.{length}
 use Rattle.lines.specs.Bytes.{bytes_of}
 use Rattle.lines.specs.Claims.{put}
 use Rattle.manners.specs.declared.Found.{Found}
-use Rattle.manners.specs.Breaches.{numbersOf, list_of}
-use Rattle.manners.specs.Steps.{countOf}
-use Rattle.manners.proofs.Stored.{as_bytes, put-none}
+use Rattle.manners.specs.Breaches.{numbers_of, list_of}
+use Rattle.manners.specs.Steps.{count_of}
+use Rattle.manners.proofs.Stored.{as_bytes, put_none}
 use borrow.Author.Rules.{rules}
 use native.Mathlib.Omega.{arith}
 use Rattle.manners.proofs.bytes.put.Statement.{statement}
 use Rattle.manners.proofs.bytes.put.Tie as tie
 
 put-breach-requires : tie.Need-put-breach-requires
-put-breach-requires c κs = let n = ap countOf c.before.before.before.found.given.1 in (omega arith, omega arith)
+put-breach-requires c κs = let n = ap count_of c.before.before.before.found.given.1 in (omega arith, omega arith)
 
 returns : tie.Need-returns
 returns c =
     let a = c.before.before.before.args in
     let e = c.enum_told.given.1 in
-    let n = ap countOf e in
-    (omega arith, put-none as_bytes a.list.now (a.k * 4) a.place e)
+    let n = ap count_of e in
+    (omega arith, put_none as_bytes a.list.now (a.k * 4) a.place e)
 
 returns-2 : tie.Need-returns-2
-unfolding numbersOf
+unfolding numbers_of
 returns-2 c =
     let p = c.before.before in
     let a = p.before.before.before.before.before.before.before.args in
     let e = p.before.before.before.before.found.given.1 in
-    let n = ap countOf e in
+    let n = ap count_of e in
     let k = p.put-breach.ensures.0 in
     let l = a.list.now in (
       omega arith,
       p.put-breach.ensures.1
           ∙ ap (λ (n : ℕ). put l (a.k * 4) (bytes_of (a.place ∷ n ∷ []))) p.before.before.number.ensures
-          ∙ ap (λ (x : Found). put l (a.k * 4) (bytes_of (numbersOf (list_of a.place x)))) (sym e),
+          ∙ ap (λ (x : Found). put l (a.k * 4) (bytes_of (numbers_of (list_of a.place x)))) (sym e),
     )
 
 pub put_spec : {M : Type 1} → statement M

@@ -5,7 +5,7 @@ use native.Mathlib.Omega.{arith}
 use lib.ListN.{length-set}
 use borrow.Author.Rules.{rules}
 use Rattle.lines.specs.Bytes.{bytes_of}
-use Rattle.manners.proofs.Stored.{four-stores}
+use Rattle.manners.proofs.Stored.{four_stores}
 use Rattle.manners.proofs.bytes.put_breach.Statement.{statement}
 use Rattle.manners.proofs.bytes.put_breach.Tie as tie
 
@@ -13,7 +13,7 @@ returns : tie.Need-returns
 unfolding bytes_of
 returns c =
     let a = c.args in
-    (refl, four-stores a.list.now (a.k * 4) (a.place / 256 % 256) (a.place % 256) (a.number / 256 % 256) (a.number % 256) (omega arith))
+    (refl, four_stores a.list.now (a.k * 4) (a.place / 256 % 256) (a.place % 256) (a.number / 256 % 256) (a.number % 256) (omega arith))
 
 pub put-breach-spec : {M : Type 1} → statement M
 put-breach-spec =

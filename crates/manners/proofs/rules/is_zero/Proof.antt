@@ -7,7 +7,7 @@ use mir.Facts.{to_z-of_z}
 use mir.Syntax.{w16}
 use mir.Val.{SFits, to_z, of_z}
 use Rattle.rows.proofs.Claims.{differ}
-use Rattle.words.proofs.Tests.{by-test}
+use Rattle.words.proofs.Tests.{by_test}
 use Rattle.reports.specs.Altitude.{negative}
 use Rattle.manners.specs.Rules.{is_zero}
 use Rattle.manners.proofs.rules.is_zero.Statement.{statement}
@@ -17,7 +17,7 @@ use Rattle.manners.proofs.rules.is_zero.Tie as tie
 told : (z : ℤ) → SFits w16 z → eqb (of_z w16 z) 0 ≡ is_zero z
 told (pos n) f = refl
 told (negsuc n) f =
-    by-test (eqb (of_z w16 (negsuc n)) 0)
+    by_test (eqb (of_z w16 (negsuc n)) 0)
     (λ e. differ (sym (ap negative (sym (ap (to_z w16) (eqb-true (of_z w16 (negsuc n)) 0 e)) ∙ to_z-of_z f))))
     (λ e. e)
 

@@ -1,7 +1,7 @@
 -- `manners::wide::count` meets its contract: each outcome brings its breaches. Assumes nothing.
 use Prim.Native.Nat.{◌-◌}
 use lib.ListN.{length}
-use Rattle.manners.proofs.Gathered.{Counted, step, one_at_most, counted_none, counted-more, counted-all}
+use Rattle.manners.proofs.Gathered.{Counted, step, one_at_most, counted_none, counted_more, counted_all}
 use borrow.Author.Rules.{rules}
 use native.Mathlib.Omega.{arith}
 use Rattle.manners.proofs.wide.count.Statement.{statement}
@@ -35,13 +35,13 @@ loop-again : tie.Need-loop-preserved invariant-loop decreases-loop
 loop-again c =
     let l = c.before.before.before.before.loop in
     let a = c.before.before.before.before.before.before.args in
-    counted-more l.invariant (omega arith)
+    counted_more l.invariant (omega arith)
     (step a.form a.line.now l.place c.before.before.outcome-at.result (omega arith) l.invariant.inside c.before.before.outcome-at.ensures)
     c.before.found_in.ensures
     c.count_of.ensures
 
 returns : tie.Need-returns invariant-loop decreases-loop
-returns c = counted-all c.before.loop.invariant (omega arith)
+returns c = counted_all c.before.loop.invariant (omega arith)
 
 pub count_spec : {M : Type 1} → statement M
 count_spec =

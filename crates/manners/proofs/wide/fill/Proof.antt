@@ -4,10 +4,10 @@ use mathlib.Core.Path.{◌≡◌, ap, ◌∙◌}
 use mathlib.Core.List.{◌++◌}
 use lib.ListN.{length, drop}
 use Rattle.reports.specs.Altitude.{form_of}
-use Rattle.manners.specs.Breaches.{breaches, numbersOf}
-use Rattle.manners.specs.Steps.{breachesAt, Filling}
-use Rattle.manners.proofs.Stored.{as-numbers, begun, more-found, full}
-use Rattle.manners.proofs.Gathered.{step, none_from, among-left}
+use Rattle.manners.specs.Breaches.{breaches, numbers_of}
+use Rattle.manners.specs.Steps.{breaches_at, Filling}
+use Rattle.manners.proofs.Stored.{as_numbers, begun, more_found, full}
+use Rattle.manners.proofs.Gathered.{step, none_from, among_left}
 use borrow.Author.Rules.{rules}
 use native.Mathlib.Omega.{arith}
 use Rattle.manners.proofs.wide.fill.Statement.{statement}
@@ -15,13 +15,13 @@ use Rattle.manners.proofs.wide.fill.Tie as tie
 
 abbrev invariant-loop : tie.invariant-loop
 invariant-loop line form list₀ place₀ k₀ list place k =
-    (place ≤ length line) × Filling numbersOf 2 (breaches (form_of form) line) (breachesAt (form_of form) line place) list₀ k list
+    (place ≤ length line) × Filling numbers_of 2 (breaches (form_of form) line) (breaches_at (form_of form) line place) list₀ k list
 
 abbrev decreases-loop : tie.decreases-loop
 decreases-loop line form list₀ place₀ k₀ list place k = length line - place
 
 loop-holds : tie.Need-loop-init invariant-loop decreases-loop
-loop-holds c = (omega arith, begun as-numbers)
+loop-holds c = (omega arith, begun as_numbers)
 
 put-requires : tie.Need-put-requires invariant-loop decreases-loop
 put-requires c κs =
@@ -30,7 +30,7 @@ put-requires c κs =
     let r = c.before.before.outcome-at in
     let s = step a.form a.line.now l.place r.result (omega arith) l.invariant.0 r.ensures in
     let first = s.first in
-    let brought = among-left s c.before.found_in.ensures in
+    let brought = among_left s c.before.found_in.ensures in
     let counted = l.invariant.1.counted in
     let long = l.invariant.1.long in
     (omega arith, omega arith)
@@ -52,11 +52,11 @@ loop-again c =
     let r = p.before.before.outcome-at in
     let x = p.before.found_in in
     let s = step a.form a.line.now l.place r.result (omega arith) l.invariant.0 r.ensures in
-    let brought = among-left s x.ensures in
+    let brought = among_left s x.ensures in
     let counted = l.invariant.1.counted in
     let long = l.invariant.1.long in
     let put = c.before.before.put.ensures in
-    (s.after, more-found as-numbers r.result l.invariant.1 s.brings x.ensures (omega arith) put.0 put.1)
+    (s.after, more_found as_numbers r.result l.invariant.1 s.brings x.ensures (omega arith) put.0 put.1)
 
 same_length : tie.Need-same-length invariant-loop decreases-loop
 same_length c = c.before.loop.invariant.1.long
@@ -67,7 +67,7 @@ returns c =
     let a = c.before.before.before.before.args in
     let counted = l.invariant.1.counted in
     let none = none_from a.form a.line.now l.place l.invariant.0 (omega arith) in
-    (omega arith, full as-numbers l.invariant.1 none)
+    (omega arith, full as_numbers l.invariant.1 none)
 
 pub fill_spec : {M : Type 1} → statement M
 fill_spec =

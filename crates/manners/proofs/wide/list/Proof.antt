@@ -5,8 +5,8 @@ use Rattle.reports.specs.Altitude.{form_of}
 use Rattle.manners.specs.declared.Listed.TheVariants as L
 use Rattle.manners.specs.declared.MannersRefusal.TheVariants.{ListTooSmall}
 use Rattle.manners.specs.Breaches.{breaches}
-use Rattle.manners.proofs.Stored.{as-numbers}
-use Rattle.manners.proofs.Answered.{long, small, enough, gives-refusal, gives_none, gives_all}
+use Rattle.manners.proofs.Stored.{as_numbers}
+use Rattle.manners.proofs.Answered.{long, small, enough, gives_refusal, gives_none, gives_all}
 use Rattle.manners.proofs.Exactly.{no_more}
 use borrow.Author.Rules.{rules}
 use native.Mathlib.Omega.{arith}
@@ -14,7 +14,7 @@ use Rattle.manners.proofs.wide.list.Statement.{statement}
 use Rattle.manners.proofs.wide.list.Tie as tie
 
 returns : tie.Need-returns
-returns c = gives-refusal (long _ _ _ c.if1.true) refl
+returns c = gives_refusal (long _ _ _ c.if1.true) refl
 
 -- a list with room for as many as the line can have has room for all
 fill-requires : tie.Need-fill-requires
@@ -30,20 +30,20 @@ returns-2 c =
     let most = no_more.in_words (form_of a.form) a.line.now in
     gives_all
     (enough (form_of a.form) a.line.now _ (omega arith) (omega arith) ∙ sym (ap L.Breaches f.0))
-    (as-numbers.each (breaches (form_of a.form) a.line.now) ∙ ap (λ (n : ℕ). n * 2) (sym f.0))
+    (as_numbers.each (breaches (form_of a.form) a.line.now) ∙ ap (λ (n : ℕ). n * 2) (sym f.0))
     f.1
 
 returns-3 : tie.Need-returns-3
 returns-3 c =
     let a = c.before.before.before.before.before.before.before.args in
     let e = c.before.count.ensures in
-    gives-refusal (small (form_of a.form) a.line.now _ (omega arith) (omega arith) ∙ sym (ap (L.Refused ListTooSmall) e)) refl
+    gives_refusal (small (form_of a.form) a.line.now _ (omega arith) (omega arith) ∙ sym (ap (L.Refused ListTooSmall) e)) refl
 
 returns-4 : tie.Need-returns-4
 returns-4 c =
     let a = c.before.before.before.before.before.before.before.before.args in
     let e = c.before.before.count.ensures in
-    let n = as-numbers.each (breaches (form_of a.form) a.line.now) in
+    let n = as_numbers.each (breaches (form_of a.form) a.line.now) in
     gives_none (enough (form_of a.form) a.line.now _ (omega arith) (omega arith) ∙ ap L.Breaches (sym e ∙ c.if4.true)) (omega arith)
 
 returns-5 : tie.Need-returns-5
@@ -52,7 +52,7 @@ returns-5 c =
     let a = c.before.before.before.before.before.before.before.before.before.before.before.before.args in
     gives_all
     (enough (form_of a.form) a.line.now _ (omega arith) (omega arith) ∙ sym (ap L.Breaches f.0))
-    (as-numbers.each (breaches (form_of a.form) a.line.now) ∙ ap (λ (n : ℕ). n * 2) (sym f.0))
+    (as_numbers.each (breaches (form_of a.form) a.line.now) ∙ ap (λ (n : ℕ). n * 2) (sym f.0))
     f.1
 
 pub list-spec : {M : Type 1} → statement M

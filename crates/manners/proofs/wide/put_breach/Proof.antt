@@ -6,7 +6,7 @@ use native.Mathlib.Omega.{arith}
 use lib.ListN.{length-set}
 use borrow.Author.Rules.{rules}
 use Rattle.lines.specs.Claims.{put}
-use Rattle.manners.proofs.Stored.{two-stores}
+use Rattle.manners.proofs.Stored.{two_stores}
 use Rattle.manners.proofs.wide.put_breach.Statement.{statement}
 use Rattle.manners.proofs.wide.put_breach.Tie as tie
 
@@ -15,7 +15,7 @@ returns c =
     let a = c.args in
     let l = a.list.now in
     let e : a.place % 65536 ≡ a.place = omega arith in
-    (refl, two-stores l (a.k * 2) (a.place % 65536) a.number (omega arith) ∙ ap (λ (p : ℕ). put l (a.k * 2) (p ∷ a.number ∷ [])) e)
+    (refl, two_stores l (a.k * 2) (a.place % 65536) a.number (omega arith) ∙ ap (λ (p : ℕ). put l (a.k * 2) (p ∷ a.number ∷ [])) e)
 
 pub put-breach-spec : {M : Type 1} → statement M
 put-breach-spec =

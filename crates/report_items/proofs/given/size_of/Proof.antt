@@ -6,14 +6,14 @@ use Prim.Native.Nat.{ℕ}
 use native.Mathlib.Omega.{arith}
 use lib.ListN.{length}
 use borrow.Author.Tests.{ne_eqb}
-use Rattle.report_items.specs.Items.{heightItems}
-use Rattle.report_items.specs.Given.{plainGiven, built}
+use Rattle.report_items.specs.Items.{height_items}
+use Rattle.report_items.specs.Given.{plain_given, built}
 use borrow.Author.Rules.{rules}
 use Rattle.report_items.proofs.given.size_of.Statement.{statement}
 use Rattle.report_items.proofs.given.size_of.Tie as tie
 
 -- an altitude is one item, and so are twelve carried bits
-plain-one : (high : Bool) (v : List ℕ) → length (heightItems (plainGiven high v)) ≡ 1
+plain-one : (high : Bool) (v : List ℕ) → length (height_items (plain_given high v)) ≡ 1
 plain-one true v = refl
 plain-one false v = refl
 

@@ -5,14 +5,14 @@ use native.Mathlib.Omega.{arith}
 use lib.IntN.{pos, neg_ℤ, +ℤ_idl}
 use borrow.Author.Rules.{rules}
 use borrow.Author.Tests.{eq-eqb, ne_eqb}
-use Rattle.report_reader.proofs.Differences.{as-signed, difference-fits, difference-read}
+use Rattle.report_reader.proofs.Differences.{as_signed, difference_fits, difference_read}
 use Rattle.report_reader.proofs.altitude.sign_magnitude_of.Statement.{statement}
 use Rattle.report_reader.proofs.altitude.sign_magnitude_of.Tie as tie
 
 returns : tie.Need-returns
 returns c =
     let m = c.before.args.n % 2048 in
-    simp (eq-eqb _ _ c.if1.true) (difference-read 0 m (omega arith) (omega arith) ∙ +ℤ_idl (neg_ℤ (pos m)))
+    simp (eq-eqb _ _ c.if1.true) (difference_read 0 m (omega arith) (omega arith) ∙ +ℤ_idl (neg_ℤ (pos m)))
 
 pub sign-magnitude-of-spec : {M : Type 1} → statement M
-sign-magnitude-of-spec = tie.close (tie.spec (λ c. search rules) (λ c. difference-fits 0 (c.before.args.n % 2048) (omega arith) (omega arith)) returns (λ c. simp (ne_eqb _ _ c.if1.false) (as-signed (c.before.args.n % 2048) (omega arith))))
+sign-magnitude-of-spec = tie.close (tie.spec (λ c. search rules) (λ c. difference_fits 0 (c.before.args.n % 2048) (omega arith) (omega arith)) returns (λ c. simp (ne_eqb _ _ c.if1.false) (as_signed (c.before.args.n % 2048) (omega arith))))

@@ -6,18 +6,18 @@ use mathlib.Core.Bool.{true, false}
 use native.Mathlib.Omega.{arith}
 use borrow.Author.Tests.{le-leb, lt-leb}
 use lib.IntN.{ℤ, nat_abs}
-use Rattle.reports.specs.Altitude.{signMagnitude, negative}
+use Rattle.reports.specs.Altitude.{sign_magnitude, negative}
 use borrow.Author.Rules.{rules}
 use Rattle.report_writer.proofs.altitude.sign_magnitude_bits.Statement.{statement}
 use Rattle.report_writer.proofs.altitude.sign_magnitude_bits.Tie as tie
 
-below-minus : (z : ℤ) (n : ℕ) → n ≡ nat_abs z → n ≤ 2047 → negative z ≡ true → 2048 + n ≡ signMagnitude.bitsOf z
+below-minus : (z : ℤ) (n : ℕ) → n ≡ nat_abs z → n ≤ 2047 → negative z ≡ true → 2048 + n ≡ sign_magnitude.bits_of z
 below-minus z n e h s = simp (sym e, le-leb n 2047 h, s)
 
-below-plus : (z : ℤ) (n : ℕ) → n ≡ nat_abs z → n ≤ 2047 → negative z ≡ false → 0 + n ≡ signMagnitude.bitsOf z
+below-plus : (z : ℤ) (n : ℕ) → n ≡ nat_abs z → n ≤ 2047 → negative z ≡ false → 0 + n ≡ sign_magnitude.bits_of z
 below-plus z n e h s = simp (sym e, le-leb n 2047 h, s)
 
-above : (z : ℤ) (n : ℕ) → n ≡ nat_abs z → 2047 < n → 4096 ≡ signMagnitude.bitsOf z
+above : (z : ℤ) (n : ℕ) → n ≡ nat_abs z → 2047 < n → 4096 ≡ sign_magnitude.bits_of z
 above z n e h = simp (sym e, lt-leb n 2047 h)
 
 returns : tie.Need-returns

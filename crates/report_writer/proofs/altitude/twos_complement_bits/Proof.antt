@@ -6,17 +6,17 @@ use mathlib.Core.Bool.{true}
 use native.Mathlib.Omega.{arith}
 use borrow.Author.Tests.{le-leb, lt-leb}
 use lib.IntN.{ℤ, nat_abs}
-use Rattle.reports.specs.Altitude.{signMagnitude, twosComplement, negative}
-use Rattle.reports.proofs.Altitudes.{same-from-zero}
+use Rattle.reports.specs.Altitude.{sign_magnitude, twos_complement, negative}
+use Rattle.reports.proofs.Altitudes.{same_from_zero}
 use borrow.Author.Rules.{rules}
 use Rattle.report_writer.proofs.altitude.twos_complement_bits.Statement.{statement}
 use Rattle.report_writer.proofs.altitude.twos_complement_bits.Tie as tie
 
 module _ (z : ℤ) (n : ℕ) (e : n ≡ nat_abs z) (s : negative z ≡ true) where
-  minus : n ≤ 2048 → 4096 - n ≡ twosComplement.bitsOf z
+  minus : n ≤ 2048 → 4096 - n ≡ twos_complement.bits_of z
   minus h = simp (s, sym e, le-leb n 2048 h)
 
-  below : 2048 < n → 4096 ≡ twosComplement.bitsOf z
+  below : 2048 < n → 4096 ≡ twos_complement.bits_of z
   below h = simp (s, sym e, lt-leb n 2048 h)
 
 returns : tie.Need-returns
@@ -40,8 +40,8 @@ returns-3 c =
     let s = c.before.before.before in
     let z = to_z-of_z s.ranges.z in (
       c.sign-magnitude-bits.ensures.0
-          ∙ ap signMagnitude.bitsOf z
-          ∙ sym (same-from-zero s.args.z (sym (c.before.before.is_negative.ensures ∙ ap negative z) ∙ c.before.if1.false)),
+          ∙ ap sign_magnitude.bits_of z
+          ∙ sym (same_from_zero s.args.z (sym (c.before.before.is_negative.ensures ∙ ap negative z) ∙ c.before.if1.false)),
       c.sign-magnitude-bits.ensures.1,
     )
 

@@ -2,13 +2,13 @@
 use mathlib.Core.Path.{◌≡◌, sym, subst}
 use Rattle.reports.specs.declared.Report.{Report}
 use Rattle.reports.specs.declared.values.Values.{Values}
-use Rattle.reports.specs.Values.{countedOf, Yields}
+use Rattle.reports.specs.Values.{counted_of, Yields}
 use borrow.Author.Rules.{rules}
 use Rattle.reports.proofs.values.values_of.Statement.{statement}
 use Rattle.reports.proofs.values.values_of.Tie as tie
 
-moved : (r s : Report) (v : Values) → r ≡ s → Yields (countedOf s) v → Yields (countedOf r) v
-moved r s v e h = subst (λ (x : Report). Yields (countedOf x) v) (sym e) h
+moved : (r s : Report) (v : Values) → r ≡ s → Yields (counted_of s) v → Yields (counted_of r) v
+moved r s v e h = subst (λ (x : Report). Yields (counted_of x) v) (sym e) h
 
 pub values-of-spec : {M : Type 1} → statement M
 values-of-spec =

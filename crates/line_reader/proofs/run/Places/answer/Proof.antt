@@ -5,10 +5,10 @@ use mathlib.Core.List.{[], ◌∷◌}
 use borrow.Author.Tests.{eq-eqb, ne_eqb}
 use Rattle.reports.specs.declared.RunAnswer.{RunAnswer}
 use Rattle.reports.specs.Altitude.{form_of}
-use Rattle.reports.specs.Runs.{answerOffset}
+use Rattle.reports.specs.Runs.{answer_offset}
 use Rattle.lines.specs.Line.{placed}
 use Rattle.words.proofs.Tests.{picked, passed}
-use Rattle.line_reader.proofs.Places.{offset-within}
+use Rattle.line_reader.proofs.Places.{offset_within}
 use borrow.Author.Rules.{rules}
 use native.Mathlib.Omega.{arith}
 use Rattle.line_reader.proofs.run.Places.answer.Statement.{statement}
@@ -22,8 +22,8 @@ set-at-requires c κs =
     let x = c.before.before.before.before.before.args in
     let s = x.self in (
       omega arith,
-      subst (λ (r : RunAnswer). answerOffset r ≤ s.after - s.first) (sym c.judge.ensures)
-          (offset-within (form_of x.form) (x.a ∷ x.b ∷ x.c ∷ x.d ∷ x.e ∷ x.f ∷ x.g ∷ []) (s.after - s.first) (s.too_wide - s.first) (s.fault - s.first)),
+      subst (λ (r : RunAnswer). answer_offset r ≤ s.after - s.first) (sym c.judge.ensures)
+          (offset_within (form_of x.form) (x.a ∷ x.b ∷ x.c ∷ x.d ∷ x.e ∷ x.f ∷ x.g ∷ []) (s.after - s.first) (s.too_wide - s.first) (s.fault - s.first)),
     )
 
 returns-2 : tie.Need-returns-2
