@@ -1,6 +1,8 @@
 // Bit fields of lent bytes. Bit 1 is the top bit of the first byte (document 01, "Link data fields"); a field is named by how many bits
 // stand before it and by its width. Both calls take every place and every width: what lies past the end reads as 0, and a write there does nothing.
 // Relies on nothing; specs/Bits.antt says what each answer means.
+#![tactic(auto)]
+
 ghost use Rattle.std.specs.Prelude.{◌≡◌, ◌+◌, ◌-◌, ◌*◌, ◌/◌, ◌%◌, ◌≤◌, ◌<◌, ◌^◌, length};
 ghost use Rattle.bits.specs.Bits.{bit_at, bits_of, with_digit, with_part, put_bit, put_bits};
 

@@ -1,5 +1,7 @@
 // The writer of link data fields: a record, its list and its text to a field's bytes, or a refusal.
 // Relies on `fields` for the table, the records and what is answered, on `bits` for the bits of lent bytes, and on `refusals` for the names and
 // numbers of what is refused.
+#![tactic(auto)]
+
 mod lists; // the entries of a list: altimeter blocks, addresses, identifiers
 pub mod writing; // the calls that write

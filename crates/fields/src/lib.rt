@@ -1,6 +1,8 @@
 // Link data fields (document 01, "Link data fields"; document 004, 5.3): the records, the answers, and what the reader and the writer share.
 // `field_reader` reads a field, `field_writer` writes one; what each answers is defined here, and the claims of both are proved here.
 // Relies on `bits` for the bits of lent bytes and on `refusals` for the names and numbers of what is refused.
+#![tactic(auto)]
+
 pub mod table; // the known types, their lengths, their parts, and the rules of the parts
 pub mod parts; // the parts of a field: their faults, and what the counted ones say
 pub mod records; // a record from the values of its parts, and back
@@ -8,7 +10,7 @@ pub mod records; // a record from the values of its parts, and back
 use refusals::FieldRefusal;
 
 // Which way a field travels.
-#[derive(Drop)]
+#[derive(Clone, Copy)]
 pub enum Direction {
     ToSensor,
     FromSensor,
@@ -16,7 +18,7 @@ pub enum Direction {
 
 // A row of the table. A field of the type has base + step * (more + the values of its counted parts) bits; a part is named by its place in
 // the layout, the type itself being part 0, and NONE names none.
-#[derive(Drop)]
+#[derive(Clone, Copy)]
 pub struct Row {
     pub code: u64,
     pub way: Direction,
@@ -29,14 +31,14 @@ pub struct Row {
 }
 
 // Where a type stands in the table.
-#[derive(Drop)]
+#[derive(Clone, Copy)]
 pub enum Place {
     At(usize),
     Nowhere,
 }
 
 // What is wrong with the parts of a field: a spare bit is one; a value is not in use.
-#[derive(Drop)]
+#[derive(Clone, Copy)]
 pub struct Faults {
     pub spare: bool,
     pub unused: bool,
@@ -44,7 +46,7 @@ pub struct Faults {
 
 // A field that is no relay: for each type what its bits say, in the document's words. What the type tells is not said again, and spares are
 // left out. The entries of a list and the text of an ELM stand beside the record.
-#[derive(Drop)]
+#[derive(Clone, Copy)]
 pub enum Field {
     TacticalUplink {
         address: u64,
@@ -153,28 +155,28 @@ pub enum Field {
 }
 
 // A relay's record is the sensor and the record of the field inside.
-#[derive(Drop)]
+#[derive(Clone, Copy)]
 pub enum Record {
     Single(Field),
     Relay { sensor: u64, inner: Field },
 }
 
 // What reading answers.
-#[derive(Drop)]
+#[derive(Clone, Copy)]
 pub enum Answer {
     Accepted(Record),
     Refused(FieldRefusal),
 }
 
 // What reading answers, and the list of the record: zero from its count on, and where there is none.
-#[derive(Drop)]
+#[derive(Clone, Copy)]
 pub struct Found {
     pub answer: Answer,
     pub list: [i32; 30],
 }
 
 // What writing answers: how many bits were written, or why none was.
-#[derive(Drop)]
+#[derive(Clone, Copy)]
 pub enum Written {
     Bits(usize),
     Refused(FieldRefusal),

@@ -27,7 +27,7 @@ const ADVISORY: u8 = 6;
 
 // A row as it stands in the table. Each number is below 256: of a constant array that is looked into at a place known only as the program runs,
 // the compiler makes a copy each time, and so it is a small one.
-#[derive(Drop)]
+#[derive(Clone, Copy)]
 pub struct Known {
     pub code: u8,
     pub way: Direction,

@@ -33,7 +33,7 @@ fn fives(y: u64) -> u64
 }
 
 // How many bits are taken at once, and how many ones then stand in front of the next bit.
-#[derive(Drop)]
+#[derive(Clone, Copy)]
 struct Run {
     bits: usize,
     ones: usize,
@@ -60,7 +60,7 @@ fn run_of(n: usize, m: usize, x: u64) -> Run
 
 // What stands between the flags without the inserted zeros: its bits, as many as there is room for, and how many they are. Where a zero is
 // missing, that is all that is said of it.
-#[derive(Drop)]
+#[derive(Clone, Copy)]
 pub struct Body {
     pub bytes: [u8; 255],
     pub count: usize,
@@ -107,7 +107,7 @@ pub fn body_of(b: &[u8], from: usize, to: usize) -> Body
 }
 
 // A body with its inserted zeros: at most 2040 bits and 408 zeros.
-#[derive(Drop)]
+#[derive(Clone, Copy)]
 pub struct Stuffed {
     pub bytes: [u8; 306],
     pub count: usize,

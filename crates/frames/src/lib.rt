@@ -1,6 +1,8 @@
 // Frames of the communications channel (document 02, Ticket 1): a flag, the address, the control, a link data field, the frame check sequence, a
 // flag. Here are the types, the refusals and the limits; the reader and the writer have a file each.
 // Relies on fields for the direction; specs/Frame.antt says what a frame is.
+#![tactic(auto)]
+
 ghost use Rattle.std.specs.Prelude.{◌≡◌};
 ghost use Rattle.frames.specs.Numbers.{frame_number};
 
@@ -32,7 +34,7 @@ const HEAD_BITS: usize = 16;
 const CHECK_BITS: usize = 16;
 
 // Why a place gives no frame, or a frame was not written, in the order of document 02.
-#[derive(Drop)]
+#[derive(Clone, Copy)]
 pub enum FrameRefusal {
     CountOrFlag,
     ZeroMissing,
@@ -60,7 +62,7 @@ impl FrameRefusal {
 }
 
 // What stands at a place: a frame with the way it travels, its control and the bits of its field; a refusal; or nothing but flags.
-#[derive(Drop)]
+#[derive(Clone, Copy)]
 pub enum What {
     Frame {
         way: Direction,
@@ -72,7 +74,7 @@ pub enum What {
 }
 
 // With it the place that is answered, and the field's bits: the first on top of the first byte, zeros behind the last.
-#[derive(Drop)]
+#[derive(Clone, Copy)]
 pub struct Found {
     pub what: What,
     pub place: usize,
@@ -80,7 +82,7 @@ pub struct Found {
 }
 
 // What the writer answers: the place of the closing flag; or a refusal and the caller's place.
-#[derive(Drop)]
+#[derive(Clone, Copy)]
 pub enum Wrote {
     Closing(usize),
     Refused(FrameRefusal, usize),

@@ -40,7 +40,7 @@ fn body_of(way: Direction, control: u8, field: &[u8], n: usize) -> [u8; 255]
 }
 
 // What the writer answers, and what it then writes between the flags.
-#[derive(Drop)]
+#[derive(Clone, Copy)]
 struct Decided {
     wrote: Wrote,
     between: Stuffed,

@@ -112,7 +112,7 @@ fn doubled(s: &[u16]) -> bool
 
 // What a look at the numbers of a table finds: the table is broken; or the first unused entry, and the entry of a number, each the length where there is
 // none.
-#[derive(Drop)]
+#[derive(Clone, Copy)]
 pub enum Looked {
     Broken,
     Sound { free: usize, at: usize },

@@ -1,6 +1,8 @@
 // The last report of each file number (document 02, Ticket 3): an index beside the line. It is a table of entries that the caller lends; a call
 // enters what an outcome brings, or finds a number's entry. Here are the types, the refusals and the limit.
 // Relies on lines for the outcome and reports for kinds; specs/Indexing.antt says what a call answers and what the table then holds.
+#![tactic(auto)]
+
 ghost use Rattle.std.specs.Prelude.{◌≡◌};
 ghost use Rattle.index.specs.Numbers.{index_number};
 
@@ -18,7 +20,7 @@ const UNCORRELATED: u16 = 0;
 // An entry, as a C program declares it: a file number, the number of the report's kind, the scan number that the caller gave, and the place of the
 // run. There is no gap between the fields and none behind them.
 #[repr(C)]
-#[derive(Drop)]
+#[derive(Clone, Copy)]
 pub struct Entry {
     pub number: u16,
     pub kind: u16,
@@ -27,7 +29,7 @@ pub struct Entry {
 }
 
 // Why a call is refused, in the order of document 02.
-#[derive(Drop)]
+#[derive(Clone, Copy)]
 pub enum IndexRefusal {
     TableBroken,
     TableFull,
@@ -46,7 +48,7 @@ impl IndexRefusal {
 
 // What entering a report answers: a new number's entry; the entry of a number that was there; the table is left as it is, because the outcome has no
 // number to enter; or why it is refused.
-#[derive(Drop)]
+#[derive(Clone, Copy)]
 pub enum Indexed {
     Entered(u16),
     Replaced(u16),
@@ -55,7 +57,7 @@ pub enum Indexed {
 }
 
 // What looking for a number answers.
-#[derive(Drop)]
+#[derive(Clone, Copy)]
 pub enum Found {
     At(u16),
     Missing,

@@ -1,6 +1,8 @@
 // The calls of a C program for the index (document 02, Ticket 3): a table of entries that the program declares, numbers and byte slices in, one number
 // out. include/siamrung.h says what each means to the caller; a call keeps nothing.
 // Relies on index for the answers, line_reader for the outcome; specs/Calls.antt says what each call answers.
+#![tactic(auto)]
+
 ghost use Rattle.std.specs.Prelude.{◌≡◌};
 ghost use Rattle.index.specs.Indexing.{found};
 ghost use Rattle.reports.specs.Altitude.{chosen};

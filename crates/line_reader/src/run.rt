@@ -16,7 +16,7 @@ use reports::altitude::Form;
 
 // What a search along the words of a line stops at. A fault is a word that is too wide or an even one. An idle word is even, so a search for a
 // fault needs no test of its own to stop at the end of the run.
-#[derive(Drop)]
+#[derive(Clone, Copy)]
 pub enum Stop {
     NotIdle,
     Fault,
@@ -26,7 +26,7 @@ pub enum Stop {
 
 // The places that decide the answer to a run: of its first word, of its first word with a fault, of its first word that is too wide, and the
 // place after its last word. Where no word has the fault, that place is the place after.
-#[derive(Drop)]
+#[derive(Clone, Copy)]
 pub struct Places {
     pub first: usize,
     pub fault: usize,

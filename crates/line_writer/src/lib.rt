@@ -2,6 +2,8 @@
 // Each form first decides, from numbers alone, what is answered; then it writes, words and idle words by leaves of their own. What all forms
 // ask of a place and of a report stands once, in deciding.
 // Relies on lines for what is answered, report_writer for a report's words or the refusal that it gets, words for the idle word.
+#![tactic(auto)]
+
 pub mod bytes; // bytes.rt: a line lent as bytes, two a word
 mod deciding; // deciding.rt: rows 1, 11 and 10
 pub mod wide; // wide.rt: a line lent as 16-bit numbers

@@ -2,6 +2,8 @@
 // writer answers, and how long a line may be.
 // The reader stands in line_reader, the writer in line_writer; what both mean, and the laws on whole lines, stand here in specs/ and proofs/.
 // Relies on reports for the records, refusals for names.
+#![tactic(auto)]
+
 ghost use Rattle.std.specs.Prelude.{◌≡◌};
 ghost use Rattle.lines.specs.Line.{outcome_of};
 ghost use Rattle.lines.specs.Links.{received_on};
@@ -16,7 +18,7 @@ pub const MOST: usize = 32768;
 pub const MOST_BYTES: usize = 65536;
 
 // What reading at a place found.
-#[derive(Drop)]
+#[derive(Clone, Copy)]
 pub enum What {
     Accepted(Report),
     Refused(LineRefusal),
@@ -25,7 +27,7 @@ pub enum What {
 
 // What was found, the place of the run's first word, the place after its last, and the place that a refusal names (a report: its first
 // word). The end has the line's length for all three; a link number, a line or a place that is not taken has the caller's place.
-#[derive(Drop)]
+#[derive(Clone, Copy)]
 pub struct Outcome {
     pub what: What,
     pub first: usize,
@@ -51,7 +53,7 @@ impl Outcome {
 pub const LAST_LINK: u32 = 15;
 
 // An outcome, and the number of the link that it came on, as the caller gave it; 0 with refusal 13. This is what a reader answers.
-#[derive(Drop)]
+#[derive(Clone, Copy)]
 pub struct Received {
     pub link: u32,
     pub outcome: Outcome,
@@ -67,7 +69,7 @@ impl Received {
 }
 
 // What the writer answers: the place after what it wrote; or why it wrote nothing, and the place that it was given.
-#[derive(Drop)]
+#[derive(Clone, Copy)]
 pub enum Wrote {
     Next(usize),
     Refused(LineRefusal, usize),

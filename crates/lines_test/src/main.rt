@@ -1,6 +1,8 @@
 // Reads lines of its standard input with both readers, call by call to the end, and writes reports into lines.
 // A case is 71 numbers of two bytes: what to do, how many words the line has, how many words are repeated along it, the place, the altitude's form in
 // reading and in writing, the link, and 64 words of which so many are repeated. tests/lines.rs works out the cases and what must be printed.
+#![tactic(auto)]
+
 ghost use Rattle.std.specs.Prelude.{◌<◌};
 
 use libc::STDIN_FILENO;

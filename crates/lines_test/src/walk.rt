@@ -3,7 +3,7 @@ use lines::{Outcome, Received, What};
 use reports::altitude::Form;
 
 // How many calls, reports and refusals, the words in each, and how often the two readers differ.
-#[derive(Drop)]
+#[derive(Clone, Copy)]
 struct Tally {
     calls: u64,
     reports: u64,

@@ -2,6 +2,8 @@
 // listing's, and proved there; here is only the way in and out. A read that fails is no end of input, and a write that fails is not
 // passed over: each is named on standard error, and the listing then lacks its last line.
 // Relies on listing for every byte that it prints.
+#![tactic(auto)]
+
 ghost use Rattle.std.specs.Prelude.{◌≤◌, length};
 
 use libc::{STDERR_FILENO, STDIN_FILENO, STDOUT_FILENO};
@@ -11,7 +13,7 @@ use listing::{LONGEST, Piece, Walk};
 const CALLS: usize = 16386;
 
 // How many bytes came in before the input ended or the buffer was full, and whether a read failed.
-#[derive(Drop)]
+#[derive(Clone, Copy)]
 struct Input {
     count: usize,
     failed: bool,

@@ -1,5 +1,7 @@
 // The listing of a recording (document 01, "The C host and the lister"), and the walk that puts it, line by line, into a lent buffer.
 // Relies on line_reader for the outcome at a place, reports for the kind of a report, refusals for a refusal's number.
+#![tactic(auto)]
+
 ghost use Rattle.std.specs.Prelude.{◌≡◌, ◌≤◌, length};
 ghost use Rattle.lines.specs.Links.{read_bytes_on};
 ghost use Rattle.listing.specs.Listing.{lister_form, lister_link};
@@ -25,7 +27,7 @@ pub const LONGEST: usize = 64;
 
 // How far a walk over a recording has come: the place in its words, how many of the words before it stand in reports and in refused
 // runs, and whether all is said.
-#[derive(Drop)]
+#[derive(Clone, Copy)]
 pub struct Walk {
     pub place: usize,
     pub reported: usize,
@@ -34,7 +36,7 @@ pub struct Walk {
 }
 
 // What a call of the walk put into the buffer.
-#[derive(Drop)]
+#[derive(Clone, Copy)]
 pub enum Piece {
     // So many bytes, one line of the listing; the walk goes on from here.
     Text(usize, Walk),

@@ -1,6 +1,8 @@
 // A sensor's manners (document 02, Ticket 6): rules between fields that are accepted either way. Over a whole line, the list of the runs that break
 // one, each with its place. Here are the rules by name, the refusal, what a call answers, and how many breaches a line can have.
 // Relies on line_reader for the outcome at a place; specs/Listing.antt says what a call answers and what the list then holds.
+#![tactic(auto)]
+
 ghost use Rattle.std.specs.Prelude.{◌≡◌, ◌≤◌};
 ghost use Rattle.lines.specs.Line.{most};
 ghost use Rattle.manners.specs.Listing.{most_in};
@@ -24,7 +26,7 @@ fn most_in(words: usize) -> usize
 }
 
 // The rules, in the order of document 02. specs/Rules.antt says each by the printed bits.
-#[derive(Drop)]
+#[derive(Clone, Copy)]
 pub enum Rule {
     SubstitutionMode3a,
     RelayWithoutModeC,
@@ -46,14 +48,14 @@ impl Rule {
 }
 
 // What is found in an outcome: no breach, or the rule that its report breaks. No report breaks two.
-#[derive(Drop)]
+#[derive(Clone, Copy)]
 pub enum Found {
     NoBreach,
     Breach(Rule),
 }
 
 // Why a call is refused though the line is taken.
-#[derive(Drop)]
+#[derive(Clone, Copy)]
 pub enum MannersRefusal {
     ListTooSmall,
 }
@@ -70,7 +72,7 @@ impl MannersRefusal {
 
 // What a call answers. All breaches are in the list, so many; or the line is not taken; or the list is too small for the breaches, of which there are
 // so many.
-#[derive(Drop)]
+#[derive(Clone, Copy)]
 pub enum Listed {
     Breaches(usize),
     LineRefused(LineRefusal),

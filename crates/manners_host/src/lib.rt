@@ -1,6 +1,8 @@
 // The call of a C program for manners (document 02, Ticket 6): byte slices and a number in, one number out. include/siamrung.h says what it means to
 // the caller; the call keeps nothing, and writes nothing but the list.
 // Relies on manners for the answer and the list; specs/Calls.antt says what the call answers.
+#![tactic(auto)]
+
 ghost use Rattle.std.specs.Prelude.{◌≡◌, ◌≤◌, ◌<◌};
 ghost use Rattle.reports.specs.Altitude.{chosen};
 ghost use Rattle.manners.specs.Listing.{most_breaches, count_in};

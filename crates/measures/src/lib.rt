@@ -1,6 +1,8 @@
 // The counts of a report's fields, a type for each weight, and what each stands for: exactly, for every count that the type holds.
 // WEIGHT is a count's weight in 1024ths of the unit (document 01, "Formats and fields"); a run length's is in ACP.
 // Relies on nothing; specs/Weight.antt has the document's weights once more, and specs/Exact.antt says what exact means.
+#![tactic(auto)]
+
 ghost use Rattle.std.specs.Prelude.{◌≡◌, ◌*◌};
 ghost use Rattle.measures.specs.Exact.{Exact, AllExact};
 ghost use Rattle.measures.specs.Weight as weight;
@@ -15,7 +17,7 @@ fn of_1024ths(n: u32) -> f64
 // ---- range
 
 // The range of seven words: counts of 1/128 nmi.
-#[derive(Drop)]
+#[derive(Clone, Copy)]
 pub struct FineRange(pub u16);
 
 impl FineRange {
@@ -29,7 +31,7 @@ impl FineRange {
 }
 
 // The range of four words: counts of 1/8 nmi.
-#[derive(Drop)]
+#[derive(Clone, Copy)]
 pub struct CoarseRange(pub u16);
 
 impl CoarseRange {
@@ -45,7 +47,7 @@ impl CoarseRange {
 // ---- azimuth
 
 // The azimuth of seven words: 8192 counts to the circle.
-#[derive(Drop)]
+#[derive(Clone, Copy)]
 pub struct FineAzimuth(pub u16);
 
 impl FineAzimuth {
@@ -59,7 +61,7 @@ impl FineAzimuth {
 }
 
 // The azimuth of four words, in ACP: 4096 counts to the circle.
-#[derive(Drop)]
+#[derive(Clone, Copy)]
 pub struct CoarseAzimuth(pub u16);
 
 impl CoarseAzimuth {
@@ -75,7 +77,7 @@ impl CoarseAzimuth {
 // ---- time and run length
 
 // Time in storage: counts of 1/8 s.
-#[derive(Drop)]
+#[derive(Clone, Copy)]
 pub struct Time(pub u8);
 
 impl Time {
@@ -89,7 +91,7 @@ impl Time {
 }
 
 // Run length: counts of 4 ACP, a whole number of them and no float.
-#[derive(Drop)]
+#[derive(Clone, Copy)]
 pub struct RunLength(pub u8);
 
 impl RunLength {
@@ -105,7 +107,7 @@ impl RunLength {
 // ---- the three together
 
 // Range in nmi, azimuth in degrees, time in seconds.
-#[derive(Drop)]
+#[derive(Clone, Copy)]
 pub struct Measured {
     pub range: f64,
     pub azimuth: f64,

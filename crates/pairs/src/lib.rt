@@ -1,11 +1,13 @@
 // Numbers given by a C program: pairs of eight-byte numbers in a slice of bytes, high byte first: what a pair stands for, and its value.
 // Every slice is taken; bytes behind the last whole pair are no pair, and `whole` tells of them.
 // Relies on bits for the number that bytes hold; specs/Pairs.antt says what each answer means.
+#![tactic(auto)]
+
 ghost use Rattle.std.specs.Prelude.{◌≡◌, ◌+◌, ◌%◌, ◌≤◌, eqb, length, drop};
 ghost use Rattle.bits.specs.Bits.{bits_of};
 ghost use Rattle.pairs.specs.Pairs.{pairs_in, Slot, gathered_from};
 
-#[derive(Drop)]
+#[derive(Clone, Copy)]
 pub enum Found {
     Value(u64),
     Missing,
@@ -15,7 +17,7 @@ pub enum Found {
 pub const SLOTS: usize = 37;
 
 // What is found for each of SLOTS numbers: whether there is a value, and the value, 0 where there is none.
-#[derive(Drop)]
+#[derive(Clone, Copy)]
 pub struct Gathered {
     pub there: [bool; SLOTS],
     pub values: [u64; SLOTS],

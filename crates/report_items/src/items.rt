@@ -9,7 +9,7 @@ use crate::numbers;
 use measures::RunLength;
 use reports::{Atcrbs, Dabs, Height, Map, Mtd, Rdas, Report, Rtqc, Search, Status, Strobe};
 
-#[derive(Drop)]
+#[derive(Clone, Copy)]
 pub enum Item {
     Of(i64),
     Missing,

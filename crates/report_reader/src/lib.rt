@@ -1,5 +1,7 @@
 // A run's words to a report or a refusal. The conditions stand in the order of document 01's table, and each test is one of its rows.
 // Relies on records for the fields; what each test means stands in specs/Conditions.antt of reports.
+#![tactic(auto)]
+
 ghost use Rattle.std.specs.Prelude.{◌≡◌, true, false, [], ◌∷◌};
 ghost use Rattle.reports.specs.Altitude.{form_of};
 ghost use Rattle.reports.specs.Forms.{is_four, is_seven, word_count, radar_code};
@@ -19,14 +21,14 @@ mod altitude; // altitude.rt: the altitude of twelve bits, in each form
 mod records; // records.rt: what words hold, field by field
 
 // A report, and the sum of the bits that are zero in an accepted one.
-#[derive(Drop)]
+#[derive(Clone, Copy)]
 struct Content {
     report: Report,
     spare: u16,
 }
 
 // The same of the height of DABS and ATCRBS.
-#[derive(Drop)]
+#[derive(Clone, Copy)]
 struct HeightContent {
     height: Height,
     spare: u16,

@@ -1,6 +1,8 @@
 // A report to its words, or to refusal 11 where a value is too large for its field.
 // Each word's data is computed without a branch, field by field as its layout has it; a value too large pushes the number above 4095
 // (`data_or_more`), and one function looks at the numbers at the end and makes the words. Relies on words for the parity bit.
+#![tactic(auto)]
+
 ghost use Rattle.std.specs.Prelude.{◌≡◌, cond, [], ◌∷◌, ◌/◌, ◌<◌, ◌^◌};
 ghost use Rattle.words.specs.Word.{word_of};
 ghost use Rattle.words.specs.Layout.{flag, count, rest, fixed, spare};
@@ -20,7 +22,7 @@ mod altitude; // altitude.rt: the twelve bits of an altitude, in each form
 mod weights; // weights.rt: the data bits of a word by name
 
 // The data of a report's words, each 4096 or more where a value in it is too large.
-#[derive(Drop)]
+#[derive(Clone, Copy)]
 enum Data {
     Four(u32, u32, u32, u32),
     Seven(u32, u32, u32, u32, u32, u32, u32),

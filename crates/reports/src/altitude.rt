@@ -3,7 +3,7 @@
 ghost use Rattle.std.specs.Prelude.{◌≡◌};
 ghost use Rattle.reports.specs.Altitude.{form_numbered};
 
-#[derive(Drop)]
+#[derive(Clone, Copy)]
 pub enum Form {
     SignMagnitude,
     TwosComplement,

@@ -5,7 +5,7 @@ ghost use Rattle.reports.specs.Kinds.{dabs_kind, atcrbs_kind, kind_of, kind_numb
 
 use crate::{Height, Report};
 
-#[derive(Drop)]
+#[derive(Clone, Copy)]
 pub enum Kind {
     Search,
     Strobe,

@@ -2,6 +2,8 @@
 // of reading and of writing. What the kind of a report tells is no field of its record. The reader stands in report_reader, the writer in
 // report_writer; what both mean, and demand 2, stand here in specs/ and proofs/.
 // Relies on words for bits and layouts, measures for what a count weighs, refusals for names and numbers.
+#![tactic(auto)]
+
 use measures::{CoarseAzimuth, CoarseRange, FineAzimuth, FineRange, RunLength, Time};
 use refusals::LineRefusal;
 
@@ -12,7 +14,7 @@ pub mod values; // values.rt: range, azimuth and time as floats
 
 // ---- four words
 
-#[derive(Drop)]
+#[derive(Clone, Copy)]
 pub struct Search {
     pub test: bool,
     pub faa: bool,
@@ -25,7 +27,7 @@ pub struct Search {
     pub time: Time,
 }
 
-#[derive(Drop)]
+#[derive(Clone, Copy)]
 pub struct Strobe {
     pub test: bool,
     pub faa: bool,
@@ -36,7 +38,7 @@ pub struct Strobe {
     pub time: Time,
 }
 
-#[derive(Drop)]
+#[derive(Clone, Copy)]
 pub struct Map {
     pub test: bool,
     pub variation: u8,
@@ -48,7 +50,7 @@ pub struct Map {
 }
 
 // The twelve data bits of the last three words are carried unread.
-#[derive(Drop)]
+#[derive(Clone, Copy)]
 pub struct Status {
     pub test: bool,
     pub faa: bool,
@@ -59,7 +61,7 @@ pub struct Status {
 }
 
 // Bit 1, test, is one in every RTQC, so there is no field for it.
-#[derive(Drop)]
+#[derive(Clone, Copy)]
 pub struct Rtqc {
     pub faa: bool,
     pub af: bool,
@@ -73,7 +75,7 @@ pub struct Rtqc {
 
 // Bits 79 to 90 of DABS and ATCRBS. With bit 12 zero, bit 6 tells: an altitude in hundreds of feet, or twelve carried bits. With bit 12
 // one, bits 88 to 90 tell which radar's data stands in its place, and bit 6 is carried.
-#[derive(Drop)]
+#[derive(Clone, Copy)]
 pub enum Height {
     Altitude(i16),
     Carried(u16),
@@ -82,7 +84,7 @@ pub enum Height {
     Rdas { mode_c: bool, quality: u8 },
 }
 
-#[derive(Drop)]
+#[derive(Clone, Copy)]
 pub struct Dabs {
     pub test: bool,
     pub primary: bool,
@@ -100,7 +102,7 @@ pub struct Dabs {
     pub height: Height,
 }
 
-#[derive(Drop)]
+#[derive(Clone, Copy)]
 pub struct Atcrbs {
     pub test: bool,
     pub mode3a: bool,
@@ -122,7 +124,7 @@ pub struct Atcrbs {
 }
 
 // MTD search.
-#[derive(Drop)]
+#[derive(Clone, Copy)]
 pub struct Mtd {
     pub test: bool,
     pub faa: bool,
@@ -140,7 +142,7 @@ pub struct Mtd {
 }
 
 // RDAS search.
-#[derive(Drop)]
+#[derive(Clone, Copy)]
 pub struct Rdas {
     pub test: bool,
     pub faa: bool,
@@ -153,7 +155,7 @@ pub struct Rdas {
     pub false_target: bool,
 }
 
-#[derive(Drop)]
+#[derive(Clone, Copy)]
 pub enum Report {
     Search(Search),
     Strobe(Strobe),
@@ -169,14 +171,14 @@ pub enum Report {
 // ---- answers
 
 // A run is a report, or is refused with the offset, in the run, of the word that the refusal names.
-#[derive(Drop)]
+#[derive(Clone, Copy)]
 pub enum RunAnswer {
     Accepted(Report),
     Refused(LineRefusal, usize),
 }
 
 // A report's words, four or seven, or why it has none.
-#[derive(Drop)]
+#[derive(Clone, Copy)]
 pub enum Written {
     Four(u16, u16, u16, u16),
     Seven(u16, u16, u16, u16, u16, u16, u16),

@@ -5,7 +5,7 @@ ghost use Rattle.reports.specs.Values.{counted_of, Yields};
 use crate::Report;
 use measures::{Measured, Time};
 
-#[derive(Drop)]
+#[derive(Clone, Copy)]
 pub enum Values {
     Measured(Measured),
     Nothing,

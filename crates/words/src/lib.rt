@@ -1,5 +1,7 @@
 // The 13-bit word of a line (document 01, "The line"): idle, too wide, odd or even, and the word of its data bits.
 // Every function takes every u16. Relies on nothing; specs/Word.antt says what each answer means.
+#![tactic(auto)]
+
 ghost use Rattle.std.specs.Prelude.{◌≡◌, eqb};
 ghost use Rattle.words.specs.Word.{idle, wider_than_a_word, odd, word_of};
 
