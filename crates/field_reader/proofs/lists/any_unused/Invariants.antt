@@ -1,0 +1,14 @@
+-- `field_reader::lists::any_unused` meets its contract: what the blocks from k on say is what all of them say. Assumes nothing.
+use mathlib.Core.Path.{◌≡◌}
+use Prim.Native.Nat.{◌+◌, ◌-◌, ◌*◌, ◌≤◌}
+use lib.ListN.{replicate}
+use Rattle.fields.specs.Table.{values_of}
+use Rattle.fields.specs.Lists.{any_unused}
+use Rattle.field_reader.proofs.lists.any_unused.Given as goal
+
+abbrev pub invariant-loop-k : goal.invariant-loop-k
+invariant-loop-k l =
+    (l.k ≤ l.n) × (any_unused (values_of l.b (l.before + 8 * l.k) (replicate (l.n - l.k) 8)) ≡ any_unused (values_of l.b l.before (replicate l.n 8)))
+
+abbrev pub decreases-loop-k : goal.decreases-loop-k
+decreases-loop-k l = l.n - l.k

@@ -1,0 +1,16 @@
+-- `field_reader::lists::entries` meets its contract: what stands in the array, and what is left, is the list. Assumes nothing.
+use mathlib.Core.Path.{◌≡◌}
+use mathlib.Core.List.{◌++◌}
+use Prim.Native.Nat.{◌+◌, ◌-◌, ◌≤◌}
+use lib.ListN.{length, take, replicate}
+use Rattle.fields.specs.Table.{values_of}
+use Rattle.fields.specs.Lists.{entries_in}
+use Rattle.field_reader.proofs.Entries.{rest}
+use Rattle.field_reader.proofs.lists.entries.Given as goal
+
+abbrev pub invariant-loop-k : goal.invariant-loop-k
+invariant-loop-k l =
+    (l.k ≤ 30) × (length l.v ≡ 30) × (take l.k l.v ++ rest l.b l.before l.step l.n l.k ≡ entries_in l.step 30 (values_of l.b l.before (replicate l.n l.step)))
+
+abbrev pub decreases-loop-k : goal.decreases-loop-k
+decreases-loop-k l = 30 - l.k

@@ -1,0 +1,12 @@
+-- `field_writer::writing::fit_all` meets its contract: what the parts from i on say is what all of them say. Assumes nothing.
+use mathlib.Core.Path.{◌≡◌}
+use Prim.Native.Nat.{◌-◌, ◌≤◌}
+use lib.ListN.{drop}
+use Rattle.fields.specs.Writing.{fit_all}
+use Rattle.field_writer.proofs.writing.fit_all.Given as goal
+
+abbrev pub invariant-loop-i : goal.invariant-loop-i
+invariant-loop-i l = (l.i ≤ 11) × (fit_all (drop l.i l.widths) (drop l.i l.v) ≡ fit_all l.widths l.v)
+
+abbrev pub decreases-loop-i : goal.decreases-loop-i
+decreases-loop-i l = 11 - l.i
