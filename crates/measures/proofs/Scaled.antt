@@ -25,6 +25,8 @@ thousand24 = fin false 1 (pos 10)
 
 quotient : (n : ℕ) → n < 2 ^ 53 → (x : Float) → HasValue x false n 1 → HasValue (div binary64 x thousand24) false n 1024
 unfolding div
+quotient n h nan v = elim v [ ]
+quotient n h (inf _) v = elim v [ ]
 quotient n h (fin true m e) v = absurd (true≢false v.0)
 quotient n h (fin false m e) v =
     subst (λ (z : Float). HasValue z false n 1024)
@@ -40,6 +42,8 @@ has_value n h = quotient n h (round binary64 false n 1) (round_whole binary64 fa
 
 -- two fractions of one float
 cross : (x : Float) (s t : Bool) (a c b d : ℕ) → HasValue x s a c → HasValue x t b d → (s ≡ t) × (a * d ≡ b * c)
+cross nan s t a c b d v w = elim v [ ]
+cross (inf _) s t a c b d v w = elim v [ ]
 cross (fin u m e) s t a c b d v w = (
   sym v.0 ∙ w.0,
   eq_of_mul-eq-mul_right (down e) (down_pos e) (a * d) (b * c)
