@@ -320,6 +320,7 @@ pub fn row_at(i: usize) -> Row
 }
 
 // Where a type stands in the table: an index, so that no row is looked at but the one that is asked for.
+#[tactic(auto, unfolding(crate::specs::Table::place_from, crate::specs::Table::rows, crate::specs::Table::table))]
 pub fn find(code: u64) -> Place
     ensures { result ≡ place_of code }
 {
@@ -351,6 +352,7 @@ pub fn find(code: u64) -> Place
 }
 
 // The widths of the parts of the type at place i; past the end eleven parts of no bits.
+#[tactic(auto, unfolding(crate::specs::Table::table, crate::specs::Table::widths, crate::specs::Table::widths_at))]
 pub fn widths_at(i: usize) -> [u8; 11]
     ensures { result ≡ widths_at i }
 {
@@ -382,6 +384,7 @@ pub fn widths_at(i: usize) -> [u8; 11]
 }
 
 // Their rules.
+#[tactic(auto, unfolding(crate::specs::Table::table, crate::specs::Table::rules, crate::specs::Table::rules_at))]
 pub fn rules_at(i: usize) -> [u8; 11]
     ensures { result ≡ rules_at i }
 {

@@ -9,5 +9,5 @@ sums m a b c = omega arith
 pub returns : goal.returns
 unfolding count_in
 returns c =
-    rw (c.wrapping_add_u64.ensures, c.part-3.ensures, c.wrapping_add_u64-two.ensures, c.part-2.ensures, c.wrapping_add_u64-one.ensures, c.part.ensures)
+    rw (c.wrapping_add_u64.ensures.value, c.part-3.ensures, c.wrapping_add_u64-two.ensures.value, c.part-2.ensures, c.wrapping_add_u64-one.ensures.value, c.part.ensures)
     (sums _ _ _ _)
