@@ -1,0 +1,50 @@
+-- `field_reader::parts::values` meets its contract: after i turns the first i values are those of the first i parts. Assumes nothing.
+use borrow.Author.Rules.{rules}
+use mathlib.Core.Path.{◌≡◌, refl, ◌∙◌}
+use mathlib.Core.List.{[], ◌∷◌, ◌++◌}
+use Prim.Native.Nat.{◌+◌, ◌-◌}
+use native.Mathlib.Numerals.{add-one}
+use native.Mathlib.Omega.{arith}
+use lib.ListN.{length, take, get_or, replicate, length-set}
+use lib.Seq.{take-suc, take-suc-set, get_or-set_other}
+use Rattle.bits.proofs.Laws.{whole}
+use Rattle.fields.specs.Table.{values_of}
+use Rattle.fields.proofs.Rounds.{values_of_snoc, sum_join}
+use Rattle.field_reader.proofs.Values.{values-are, zeros_at}
+use Rattle.field_reader.proofs.parts.values.Goals as goal
+
+pub loop-i-init : goal.loop-i-init
+unfolding values_of
+loop-i-init c =
+    let a = c.args in
+    let n : length a.t4 ≡ 11 = search rules in
+    let t : take 1 a.t4 ≡ get_or a.t4 0 0 ∷ [] = take-suc a.t4 0 0 (omega arith) in (
+      omega arith,
+      refl,
+      omega (arith, c.requires.2 0),
+      rw t (omega arith),
+      rw (t, c.requires.1) refl,
+      λ k h. get_or-set_other (replicate 11 0) 0 k _ 0 (λ e. omega arith) ∙ zeros_at 11 k,
+    )
+
+pub returns-then-w-eq0 : goal.returns-then-w-eq0
+returns-then-w-eq0 c =
+    let l = c.loop-i in
+    let a = c.args in
+    let n : length a.t4 ≡ 11 = search rules in
+    values-are a.b.now a.before a.t4 l.v l.i (omega (arith, l.invariant.1)) l.invariant.4 l.invariant.5 (λ k h. c.requires.3 l.i k h c.if-w-eq0.true)
+
+pub loop-i-preserved : goal.loop-i-preserved
+loop-i-preserved c =
+    let l = c.loop-i in
+    let a = c.args in
+    let w = get_or a.t4 l.i 0 in
+    let n : length a.t4 ≡ 11 = search rules in
+    let t : take (l.i + 1) a.t4 ≡ take l.i a.t4 ++ (w ∷ []) = rw add-one (take-suc a.t4 l.i 0 (omega arith)) in (
+      omega arith,
+      simp length-set l.invariant.1,
+      omega (arith, c.requires.2 l.i),
+      rw (t, sum_join) (omega (arith, l.invariant.3)),
+      rw (t, values_of_snoc, ← l.invariant.3, ← l.invariant.4, ← whole a.b.now l.at w (omega (arith, c.requires.2 l.i)), ← c.read.ensures, add-one) (take-suc-set l.v l.i _ (omega arith)),
+      λ k h. get_or-set_other l.v l.i k _ 0 (λ e. omega arith) ∙ l.invariant.5 k (omega arith),
+    )

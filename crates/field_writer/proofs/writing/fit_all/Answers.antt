@@ -1,0 +1,34 @@
+-- `field_writer::writing::fit_all` meets its contract: what the parts from i on say is what all of them say. Assumes nothing.
+use borrow.Author.Rules.{rules}
+use mathlib.Core.Path.{◌≡◌, sym, ◌∙◌}
+use Prim.Native.Nat.{◌-◌}
+use native.Mathlib.Omega.{arith}
+use lib.ListN.{length, drop_of_length-le}
+use Rattle.fields.specs.Writing.{fit_all}
+use Rattle.field_writer.proofs.Puts.{fit_all_good, fit_all_bad, shifted_out, shifted_in}
+use Rattle.field_writer.proofs.writing.fit_all.Goals as goal
+
+pub loop-i-preserved : goal.loop-i-preserved
+loop-i-preserved c =
+    let l = c.loop-i in
+    let a = c.args in
+    let n : length a.t1 ≡ 11 = search rules in
+    let m : length a.t2 ≡ 11 = search rules in
+    (omega arith, sym (fit_all_good a.t1 a.t2 l.i (omega arith) (omega arith) (shifted_out _ _ c.if-v-i-eq0.true)) ∙ l.invariant.1)
+
+pub returns-else-v-i-eq0 : goal.returns-else-v-i-eq0
+returns-else-v-i-eq0 c =
+    let l = c.loop-i in
+    let a = c.args in
+    let n : length a.t1 ≡ 11 = search rules in
+    let m : length a.t2 ≡ 11 = search rules in
+    sym (fit_all_bad a.t1 a.t2 l.i (omega arith) (omega arith) (shifted_in _ _ c.if-v-i-eq0.false)) ∙ l.invariant.1
+
+pub returns : goal.returns
+unfolding fit_all
+returns c =
+    let l = c.loop-i in
+    let a = c.args in
+    let n : length a.t1 ≡ 11 = search rules in
+    let e : l.i ≡ 11 = omega arith in
+    rw (e, drop_of_length-le a.t1 {i = 11} (omega arith)) at l.invariant.1

@@ -1,0 +1,32 @@
+-- `field_writer::writing::put_parts` meets its contract: what is left to write, written to the bytes of now, gives what is asked. Assumes nothing.
+use borrow.Author.Rules.{rules}
+use mathlib.Core.Path.{◌≡◌, sym, ◌∙◌}
+use Prim.Native.Nat.{◌-◌}
+use native.Mathlib.Omega.{arith}
+use lib.ListN.{length, drop_of_length-le}
+use Rattle.bits.proofs.Laws.{length-put_bits}
+use Rattle.fields.specs.Writing.{put_all}
+use Rattle.field_writer.proofs.Puts.{put_all_step}
+use Rattle.field_writer.proofs.writing.put_parts.Goals as goal
+
+pub loop-i-preserved : goal.loop-i-preserved
+loop-i-preserved c =
+    let p = c.write in
+    let l = c.loop-i in
+    let a = c.args in
+    let n : length a.t3 ≡ 11 = search rules in
+    let m : length a.t4 ≡ 11 = search rules in (
+      omega arith,
+      omega (arith, c.requires.1 l.i),
+      rw (p.ensures, length-put_bits) l.invariant.2,
+      rw p.ensures (sym (put_all_step l.s l.at a.t3 a.t4 l.i (omega arith) (omega arith)) ∙ l.invariant.3),
+    )
+
+pub returns : goal.returns
+unfolding put_all
+returns c =
+    let l = c.loop-i in
+    let a = c.args in
+    let n : length a.t3 ≡ 11 = search rules in
+    let e : l.i ≡ 11 = omega arith in
+    rw (e, drop_of_length-le a.t3 {i = 11} (omega arith)) at l.invariant.3

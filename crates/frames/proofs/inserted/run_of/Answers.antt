@@ -1,0 +1,28 @@
+-- `frames::inserted::run_of` meets its contract: the highest digit of the fives is the end of the run. Assumes nothing.
+use Prim.Native.Nat.{◌+◌, ◌-◌, ◌≤◌}
+use mathlib.Core.Path.{sym, ◌∙◌}
+use lib.Count.{count_leading_zeros}
+use Rattle.frames.specs.Steps.{RunIs}
+use Rattle.frames.proofs.Runs.{all_clear, found}
+use Rattle.frames.proofs.inserted.run_of.Goals as goal
+use Rattle.frames.proofs.inserted.run_of.Goals.{Else-five-eq0}
+
+run-found : (c : Else-five-eq0) → let a = c.args in let z = count_leading_zeros 64 c.fives-five.result in
+    (63 ≤ a.m + z) × RunIs a.n a.m a.x (a.m + z - 63) 5
+run-found c =
+    let a = c.args in
+    let h = c.requires in
+    found a.n a.m a.x c.behind_ones-y.result h.0 h.1 h.3 c.behind_ones-y.ensures.0
+    c.fives-five.result c.fives-five.ensures c.if-five-eq0.false h.2
+
+pub returns-then-five-eq0 : goal.returns-then-five-eq0
+returns-then-five-eq0 c =
+    let a = c.args in
+    let h = c.requires in
+    all_clear a.n a.m a.x c.behind_ones-y.result h.0 h.1 h.3 c.behind_ones-y.ensures.0 (sym c.fives-five.ensures ∙ c.if-five-eq0.true)
+
+pub overflow_sub-result : goal.overflow_sub-result
+overflow_sub-result c = (run-found ((goal.at.overflow_sub-result c).Else-five-eq0)).0
+
+pub returns : goal.returns
+returns c = (run-found ((goal.at.returns c).Else-five-eq0)).1
