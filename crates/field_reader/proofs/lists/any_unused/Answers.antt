@@ -9,7 +9,7 @@ use Rattle.field_reader.proofs.lists.any_unused.Goals as goal
 use Rattle.field_reader.proofs.lists.any_unused.Goals.{After-block_unused}
 
 -- what the block at k says
-told : (c : After-block_unused →
+told : (c : After-block_unused) →
     let a = c.args in
     block_unused (bits_of a.b.now (a.before + 8 * c.loop-k.k) 8) ≡ c.block_unused.result
 told c =

@@ -17,8 +17,8 @@ pub loop-i-init : goal.loop-i-init
 unfolding values_of
 loop-i-init c =
     let a = c.args in
-    let n : length a.t4 ≡ 11 = search rules in
-    let t : take 1 a.t4 ≡ get_or a.t4 0 0 ∷ [] = take-suc a.t4 0 0 (omega arith) in (
+    let n : length a.widths ≡ 11 = search rules in
+    let t : take 1 a.widths ≡ get_or a.widths 0 0 ∷ [] = take-suc a.widths 0 0 (omega arith) in (
       omega arith,
       refl,
       omega (arith, c.requires.2 0),
@@ -31,16 +31,16 @@ pub returns-then-w-eq0 : goal.returns-then-w-eq0
 returns-then-w-eq0 c =
     let l = c.loop-i in
     let a = c.args in
-    let n : length a.t4 ≡ 11 = search rules in
-    values-are a.b.now a.before a.t4 l.v l.i (omega (arith, l.invariant.1)) l.invariant.4 l.invariant.5 (λ k h. c.requires.3 l.i k h c.if-w-eq0.true)
+    let n : length a.widths ≡ 11 = search rules in
+    values-are a.b.now a.before a.widths l.v l.i (omega (arith, l.invariant.1)) l.invariant.4 l.invariant.5 (λ k h. c.requires.3 l.i k h c.if-w-eq0.true)
 
 pub loop-i-preserved : goal.loop-i-preserved
 loop-i-preserved c =
     let l = c.loop-i in
     let a = c.args in
-    let w = get_or a.t4 l.i 0 in
-    let n : length a.t4 ≡ 11 = search rules in
-    let t : take (l.i + 1) a.t4 ≡ take l.i a.t4 ++ (w ∷ []) = rw add-one (take-suc a.t4 l.i 0 (omega arith)) in (
+    let w = get_or a.widths l.i 0 in
+    let n : length a.widths ≡ 11 = search rules in
+    let t : take (l.i + 1) a.widths ≡ take l.i a.widths ++ (w ∷ []) = rw add-one (take-suc a.widths l.i 0 (omega arith)) in (
       omega arith,
       simp length-set l.invariant.1,
       omega (arith, c.requires.2 l.i),

@@ -15,7 +15,7 @@ use Rattle.field_reader.proofs.reading.judged.Goals.{After-any_unused, After-fau
 -- the faults are those of the table's rules
 found : (c : After-faults-found) →
     let a = c.args in
-    c.faults-found.result ≡ record { spare = has_fault 1 (rules_at a.i) a.t6; unused = has_fault 2 (rules_at a.i) a.t6 }
+    c.faults-found.result ≡ record { spare = has_fault 1 (rules_at a.i) a.v; unused = has_fault 2 (rules_at a.i) a.v }
 found c =
     let e = c.rules_at-rules.ensures in
     rw (← e) (c.faults-found.ensures ∙ within_quiet _ _ _ (search rules) (search rules) (rw e c.requires.3))
@@ -23,19 +23,19 @@ found c =
 -- a spare bit is one
 spare : (c : After-faults-found) →
     let a = c.args in
-    has_fault 1 (rules_at a.i) a.t6 ≡ c.faults-found.result.spare
+    has_fault 1 (rules_at a.i) a.v ≡ c.faults-found.result.spare
 spare c = sym (ap (λ (f : Faults). f.spare) (found c))
 
 -- a value is not in use
 unused : (c : After-faults-found) →
     let a = c.args in
-    has_fault 2 (rules_at a.i) a.t6 ≡ c.faults-found.result.unused
+    has_fault 2 (rules_at a.i) a.v ≡ c.faults-found.result.unused
 unused c = sym (ap (λ (f : Faults). f.unused) (found c))
 
 -- a block is not in use
 block : (c : After-any_unused) →
     let a = c.args in
-    any_unused (blocks_by a.b.now a.before a.row a.t6) ≡ c.any_unused.result
+    any_unused (blocks_by a.b.now a.before a.row a.v) ≡ c.any_unused.result
 block c = rw (← c.block_count.ensures) (sym c.any_unused.ensures)
 
 pub returns-then-found : goal.returns-then-found

@@ -1,5 +1,4 @@
 -- `field_reader::reading::row_read` meets its contract: the tests in the document's order. Assumes nothing.
-use borrow.Author.Tests.{not-true, not-false}
 use mathlib.Core.Path.{◌≡◌, refl, sym, ◌∙◌}
 use mathlib.Core.Bool.{true}
 use native.Mathlib.Omega.{arith}
@@ -35,17 +34,17 @@ relayed-is c = rw (← c.row_at-row.ensures) (sym c.not_relayed-relayed.ensures)
 sized-is : (c : After-is_sized-sized) →
     let a = c.args in
     sized_by a.count a.before (row_at a.i) (values_of a.b.now a.before (widths_at a.i)) ≡ c.is_sized-sized.result
-sized-is c = rw (← values-are c.After-values-v, ← c.row_at-row.ensures) (sym c.is_sized-sized.ensures)
+sized-is c = rw (← (let its : let a = c.args in c.values-v.result ≡ values_of a.b.now a.before (widths_at a.i) = rw (← c.widths_at-widths.ensures) c.values-v.ensures in its), ← c.row_at-row.ensures) (sym c.is_sized-sized.ensures)
 
 -- the way is the type's
 same : (c : After-is_sized-sized) →
     let a = c.args in
     same_way_as (row_at a.i).way a.way ≡ true
-same c = way-is c.After-same_way ∙ not-false _ c.if-not-same_way.false
+same c = (let its : let a = c.args in same_way_as (row_at a.i).way a.way ≡ c.same_way.result = rw (← c.row_at-row.ensures) (sym c.same_way.ensures) in its) ∙ c.if-not-same_way.false
 
 pub returns-then-not-same_way : goal.returns-then-not-same_way
 unfolding row_read
-returns-then-not-same_way c = rw (way-is ((goal.at.returns-then-not-same_way c).After-same_way) ∙ not-true _ c.if-not-same_way.true)
+returns-then-not-same_way c = rw (way-is ((goal.at.returns-then-not-same_way c).After-same_way) ∙ c.if-not-same_way.true)
 
 pub values-v-requires : goal.values-v-requires
 values-v-requires c =
@@ -62,7 +61,7 @@ returns-then-relayed c = rw (same ((goal.at.returns-then-relayed c).After-is_siz
 pub returns-then-not-sized : goal.returns-then-not-sized
 unfolding row_read
 returns-then-not-sized c =
-    rw (same ((goal.at.returns-then-not-sized c).After-is_sized-sized), relayed-is ((goal.at.returns-then-not-sized c).After-not_relayed-relayed) ∙ c.if-relayed.false, sized-is ((goal.at.returns-then-not-sized c).After-is_sized-sized) ∙ not-true _ c.if-not-sized.true)
+    rw (same ((goal.at.returns-then-not-sized c).After-is_sized-sized), relayed-is ((goal.at.returns-then-not-sized c).After-not_relayed-relayed) ∙ c.if-relayed.false, sized-is ((goal.at.returns-then-not-sized c).After-is_sized-sized) ∙ c.if-not-sized.true)
 
 pub judged-requires : goal.judged-requires
 judged-requires c =
@@ -72,5 +71,5 @@ judged-requires c =
 pub returns : goal.returns
 unfolding row_read
 returns c =
-    rw (same ((goal.at.returns c).After-is_sized-sized), relayed-is ((goal.at.returns c).After-not_relayed-relayed) ∙ c.if-relayed.false, sized-is ((goal.at.returns c).After-is_sized-sized) ∙ not-false _ c.if-not-sized.false)
+    rw (same ((goal.at.returns c).After-is_sized-sized), relayed-is ((goal.at.returns c).After-not_relayed-relayed) ∙ c.if-relayed.false, sized-is ((goal.at.returns c).After-is_sized-sized) ∙ c.if-not-sized.false)
     (c.judged.ensures ∙ rw (values-are ((goal.at.returns c).After-values-v), c.row_at-row.ensures) refl)

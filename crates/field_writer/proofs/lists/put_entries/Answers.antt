@@ -18,10 +18,10 @@ loop-k-preserved c =
     let x = c.entry_bits in
     let l = c.loop-k in
     let a = c.args in
-    let m : length a.t5 ≡ 30 = search rules in
-    let vs = entries_bits a.step a.n a.t5 in
-    let n : length vs ≡ a.n = entries_bits-length a.step a.n a.t5 (omega arith) in
-    let e : x.result ≡ get_or vs l.k 0 = x.ensures ∙ ap (entry_bits a.step) (to_z-of_z {w = w32} (record { sfits = c.z-1.given })) ∙ sym (entries_bits_at a.step a.n a.t5 l.k (omega arith) (omega arith)) in (
+    let m : length a.list ≡ 30 = search rules in
+    let vs = entries_bits a.step a.n a.list in
+    let n : length vs ≡ a.n = entries_bits-length a.step a.n a.list (omega arith) in
+    let e : x.result ≡ get_or vs l.k 0 = x.ensures ∙ ap (entry_bits a.step) (to_z-of_z {w = w32} (record { sfits = c.z-1.given })) ∙ sym (entries_bits_at a.step a.n a.list l.k (omega arith) (omega arith)) in (
       omega arith,
       rw (p.ensures, length-put_bits) l.invariant.1,
       rw (p.ensures, e) (sym (same_step l.s a.before a.step a.n vs l.k (omega arith) (omega arith)) ∙ l.invariant.2),

@@ -1,5 +1,5 @@
 -- `field_writer::writing::answer_at` meets its contract: 30 before 31. Assumes nothing.
-use borrow.Author.Tests.{not-true, not-false, lt-ltb, le-ltb}
+use borrow.Author.Tests.{lt-ltb, le-ltb}
 use mathlib.Core.Path.{◌≡◌, refl, sym, ◌∙◌}
 use mathlib.Core.Bool.{true}
 use Rattle.fields.specs.Writing.{takes_at}
@@ -9,11 +9,11 @@ use Rattle.field_writer.proofs.writing.answer_at.Goals as goal
 use Rattle.field_writer.proofs.writing.answer_at.Goals.{Else-not-takes}
 
 yes : (c : Else-not-takes) → let a = c.args in takes_at a.i a.given a.list a.len ≡ true
-yes c = sym c.takes.ensures ∙ not-false _ c.if-not-takes.false
+yes c = sym c.takes.ensures ∙ c.if-not-takes.false
 
 pub returns-then-not-takes : goal.returns-then-not-takes
 unfolding written_at
-returns-then-not-takes c = rw (sym c.takes.ensures ∙ not-true _ c.if-not-takes.true) refl
+returns-then-not-takes c = rw (sym c.takes.ensures ∙ c.if-not-takes.true) refl
 
 pub bits_at-n-requires : goal.bits_at-n-requires
 bits_at-n-requires c =

@@ -12,23 +12,23 @@ pub loop-i-preserved : goal.loop-i-preserved
 loop-i-preserved c =
     let l = c.loop-i in
     let a = c.args in
-    let n : length a.t1 ≡ 11 = search rules in
-    let m : length a.t2 ≡ 11 = search rules in
-    (omega arith, sym (fit_all_good a.t1 a.t2 l.i (omega arith) (omega arith) (shifted_out _ _ c.if-v-i-eq0.true)) ∙ l.invariant.1)
+    let n : length a.widths ≡ 11 = search rules in
+    let m : length a.v ≡ 11 = search rules in
+    (omega arith, sym (fit_all_good a.widths a.v l.i (omega arith) (omega arith) (shifted_out _ _ c.if-v-i-eq0.true)) ∙ l.invariant.1)
 
 pub returns-else-v-i-eq0 : goal.returns-else-v-i-eq0
 returns-else-v-i-eq0 c =
     let l = c.loop-i in
     let a = c.args in
-    let n : length a.t1 ≡ 11 = search rules in
-    let m : length a.t2 ≡ 11 = search rules in
-    sym (fit_all_bad a.t1 a.t2 l.i (omega arith) (omega arith) (shifted_in _ _ c.if-v-i-eq0.false)) ∙ l.invariant.1
+    let n : length a.widths ≡ 11 = search rules in
+    let m : length a.v ≡ 11 = search rules in
+    sym (fit_all_bad a.widths a.v l.i (omega arith) (omega arith) (shifted_in _ _ c.if-v-i-eq0.false)) ∙ l.invariant.1
 
 pub returns : goal.returns
 unfolding fit_all
 returns c =
     let l = c.loop-i in
     let a = c.args in
-    let n : length a.t1 ≡ 11 = search rules in
+    let n : length a.widths ≡ 11 = search rules in
     let e : l.i ≡ 11 = omega arith in
-    rw (e, drop_of_length-le a.t1 {i = 11} (omega arith)) at l.invariant.1
+    rw (e, drop_of_length-le a.widths {i = 11} (omega arith)) at l.invariant.1

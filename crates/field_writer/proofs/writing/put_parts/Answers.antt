@@ -14,12 +14,12 @@ loop-i-preserved c =
     let p = c.write in
     let l = c.loop-i in
     let a = c.args in
-    let n : length a.t3 ≡ 11 = search rules in
-    let m : length a.t4 ≡ 11 = search rules in (
+    let n : length a.widths ≡ 11 = search rules in
+    let m : length a.v ≡ 11 = search rules in (
       omega arith,
       omega (arith, c.requires.1 l.i),
       rw (p.ensures, length-put_bits) l.invariant.2,
-      rw p.ensures (sym (put_all_step l.s l.at a.t3 a.t4 l.i (omega arith) (omega arith)) ∙ l.invariant.3),
+      rw p.ensures (sym (put_all_step l.s l.at a.widths a.v l.i (omega arith) (omega arith)) ∙ l.invariant.3),
     )
 
 pub returns : goal.returns
@@ -27,6 +27,6 @@ unfolding put_all
 returns c =
     let l = c.loop-i in
     let a = c.args in
-    let n : length a.t3 ≡ 11 = search rules in
+    let n : length a.widths ≡ 11 = search rules in
     let e : l.i ≡ 11 = omega arith in
-    rw (e, drop_of_length-le a.t3 {i = 11} (omega arith)) at l.invariant.3
+    rw (e, drop_of_length-le a.widths {i = 11} (omega arith)) at l.invariant.3

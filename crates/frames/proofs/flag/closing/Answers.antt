@@ -12,7 +12,7 @@ use Rattle.frames.specs.Steps.{NoFlags}
 use Rattle.frames.proofs.Flagged.{flag_is, up-to-flag, up_to_end}
 use Rattle.frames.proofs.Windows.{up_to_clear}
 use Rattle.frames.proofs.flag.closing.Goals as goal
-use Rattle.frames.proofs.flag.closing.Goals.{After-near-place, Joined-n-gt-WINDOW}
+use Rattle.frames.proofs.flag.closing.Goals.{After-near-place, Joined-n-gt-WINDOW, then-n-gt-WINDOW, else-n-gt-WINDOW}
 use Rattle.frames.proofs.flag.closing.Invariants.{Sought}
 
 -- as many bits of a window as are left
@@ -35,18 +35,18 @@ module _ {b : List ℕ} {count from p : ℕ} (s : Sought b count from p) where
       let z : length (up_to_flag (stream_at b count p)) ≡ 0 = ap length (up-to-flag _ (flag_is b count p (omega arith) e)) in
       sym (add-zero p) ∙ ap (λ (k : ℕ). p + k) (sym z) ∙ s.same
 
-left : (c : Joined-n-gt-WINDOW → Left c.args.count c.loop-p.p c.if-n-gt-WINDOW.n
+left : (c : Joined-n-gt-WINDOW) → Left c.args.count c.loop-p.p c.if-n-gt-WINDOW.n
 left c =
     let l = c.loop-p-test.true in
-    ⊎_elim
-    (λ w. record { few = omega arith; many = omega arith; room = omega arith })
-    (λ w. record { few = omega arith; many = omega arith; room = omega arith })
-    c.if-n-gt-WINDOW.branch
+    elim c.if-n-gt-WINDOW.branch [
+      then-n-gt-WINDOW w ↦ record { few = omega arith; many = omega arith; room = omega arith }
+    | else-n-gt-WINDOW w ↦ record { few = omega arith; many = omega arith; room = omega arith }
+    ]
 
 -- where the two steps of a turn lead
-come : (c : After-near-place → Sought c.args.b.now c.args.count c.args.from c.near-place.result
+come : (c : After-near-place) → Sought c.args.b.now c.args.count c.args.from c.near-place.result
 come c =
-    let k = left c.Joined-n-gt-WINDOW in
+    let k : Left c.args.count c.loop-p.p c.if-n-gt-WINDOW.n = elim c.if-n-gt-WINDOW.branch [ then-n-gt-WINDOW w ↦ record { few = omega arith; many = omega arith; room = omega arith } | else-n-gt-WINDOW w ↦ record { few = omega arith; many = omega arith; room = omega arith } ] in
     let x = c.clear.ensures in
     let y = c.near-place.ensures in
     on c.loop-p.invariant _ _ (omega arith) y.0 (omega (arith, y.1)) x.1 y.2
