@@ -1,13 +1,13 @@
--- What the walks say of lists: a store past the end, the numbers put over an array one after the other, and that what is decided of the array is what
--- is answered of the table. Assumes nothing.
+-- What the proofs of the two calls say of lists: a store where the answer says, the numbers put over an array one after the other, and that what is
+-- decided of the array is what is answered of the table. Assumes nothing.
 use Prim.Native.Nat.{ℕ, zero, suc, ◌<◌, ◌≤◌, ◌+◌, ◌^◌}
-use mathlib.Core.Bool.{Bool, true, false, not, cond, ◌||◌, true≢false}
-use mathlib.Core.List.{List, [], ◌∷◌, ◌++◌}
+use mathlib.Core.Bool.{Bool, true, false, not, cond, ◌||◌}
+use mathlib.Core.List.{List, [], ◌∷◌}
 use mathlib.Core.Path.{◌≡◌, refl, sym, ap, ◌∙◌}
 use native.Mathlib.Numerals.{add-one}
 use native.Mathlib.Omega.{arith}
-use borrow.Author.Tests.{lt-ltb, le-ltb, ltb-true, ltb-false}
-use lib.Dec.{T as Holds, ltb, T_not, lt→ltb}
+use borrow.Author.Tests.{lt-ltb, le-ltb, ltb-false}
+use lib.Dec.{ltb}
 use lib.ListN.{length, set, take, get_or, replicate, length-replicate}
 use lib.Seq.{set_out, take-length}
 use Rattle.words.proofs.Tests.{by_test}
@@ -24,15 +24,6 @@ use Rattle.index.specs.Steps.{blank, onto, bounded as boundedOf, looked_in, inde
 use Rattle.index.proofs.Looks.{held_place}
 
 -- ---- a store
-
-past : (ys : List Entry) (i : ℕ) (e : Entry) → (i < length ys → ⊥) → set ys i e ≡ ys
-past [] i e h = refl
-past (y ∷ ys) zero e h = absurd (h (omega arith))
-past (y ∷ ys) (suc i) e h = ap (λ (l : List Entry). y ∷ l) (past ys i e (λ l. h (omega arith)))
-
--- a store past the end changes nothing
-pub set_past : (ys : List Entry) (i : ℕ) (e : Entry) → Holds (not (ltb i (length ys))) → set ys i e ≡ ys
-set_past ys i e h = past ys i e (λ l. T_not (ltb i (length ys)) h (lt→ltb i (length ys) l))
 
 -- the entry is stored where the answer says
 pub stores : (r : Indexed) (ys : List Entry) (e : Entry) → length ys < 2 ^ 64 → set ys (spot_of r) e ≡ left_as r ys e
@@ -68,13 +59,7 @@ numbers_none ns = refl
 
 -- ---- what is decided of the array is what is answered of the table
 
--- n entries of a table, or 512
-pub bounded_fits : (n : ℕ) → (boundedOf n ≤ n) × (boundedOf n ≤ 512)
-bounded_fits n =
-    by_test (ltb n 512)
-    (λ l. rw l (omega arith, omega (arith, ltb-true n 512 l)))
-    (λ g. rw g (ltb-false n 512 g, omega arith))
-
+-- the entries of a table of 512 and below
 bounded_all : (n : ℕ) → n ≤ 512 → boundedOf n ≡ n
 bounded_all n h =
     by_test (ltb n 512)

@@ -1,8 +1,6 @@
 pub mod Looks
 pub mod Marks
 pub mod Lent
-pub mod Frames
-pub mod Calls
 pub mod Afresh
 pub mod Sound
 pub mod History

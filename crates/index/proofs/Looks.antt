@@ -1,7 +1,7 @@
 -- Laws of the numbers of a table that the searches need: what is found at a place by what stands there, and a look at the front alone. Assumes
 -- nothing.
-use Prim.Native.Nat.{ℕ, zero, suc, ◌+◌, ◌<◌, ◌≤◌}
-use mathlib.Core.Bool.{Bool, true, false, not, ◌&&◌, ◌||◌, true≢false}
+use Prim.Native.Nat.{ℕ, suc, ◌+◌, ◌<◌, ◌≤◌}
+use mathlib.Core.Bool.{Bool, true, false, ◌||◌, true≢false}
 use mathlib.Core.List.{List, [], ◌∷◌}
 use mathlib.Core.Path.{◌≡◌, refl, sym, ap, ◌∙◌}
 use native.Mathlib.Numerals.{add-one}
@@ -13,7 +13,7 @@ use lib.Seq.{drop-cons}
 use Rattle.words.proofs.Tests.{by_test}
 use Rattle.index.specs.declared.judging.Looked.TheVariants as L
 use Rattle.index.specs.Steps.{looked_in}
-use Rattle.index.specs.Table.{is_used, any_used, holds, place_of, used_after_unused, held_twice}
+use Rattle.index.specs.Table.{any_used, holds, place_of, used_after_unused, held_twice}
 
 -- ---- at a place
 

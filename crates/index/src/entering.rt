@@ -1,6 +1,5 @@
 // The two calls on a lent table: what an outcome brought is entered, and a number's entry is found. Any table, any entry and any number are taken. Both
-// read the numbers of the table once and let judging.rt decide; the first then writes at most one entry. They have a slice of entries, so their proofs
-// are walks by hand: a few calls each, no branch and no loop.
+// read the numbers of the table once and let judging.rt decide; the first then writes at most one entry.
 // Relies on table.rt for the lent table, and on judging.rt for the answers.
 ghost use Rattle.std.specs.Prelude.{◌≡◌};
 ghost use Rattle.index.specs.Indexing.{Indexes, found};

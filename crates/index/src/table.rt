@@ -1,5 +1,4 @@
-// The lent table: a slice of entries, which a C program declares. No function with such a slice is covered by the borrow checker, so the proofs here are
-// walks by hand, and there are few functions: one that reads the numbers of the entries, and one that writes an entry.
+// The lent table: a slice of entries, which a C program declares. One function reads the numbers of the entries, and one writes an entry.
 // Relies on nothing else of the crate.
 ghost use Rattle.std.specs.Prelude.{◌≡◌, ◌≤◌, length, set, take};
 ghost use Rattle.index.specs.Table.{most, numbers_of};
