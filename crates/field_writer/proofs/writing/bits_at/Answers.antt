@@ -19,7 +19,7 @@ small c = rw (numbers-are c, c.row_at-row.ensures) c.requires.1
 
 most : (c : After-count_in) → c.row_at-row.result.step * c.count_in.result ≤ 80 * 46
 most c =
-    let p = (let its : RowSmall c.row_at-row.result c.numbers-v.result = small c.After-numbers-v = rw ((let its : c.numbers-v.result ≡ numbers_in c.args.given = numbers-are c.After-numbers-v = c.numbers-v.ensures ∙ ap numbers_of c.field_in.ensures in its), c.row_at-row.ensures) c.requires.1 in its) in
+    let p = (let its : RowSmall c.row_at-row.result c.numbers-v.result = rw ((let its : c.numbers-v.result ≡ numbers_in c.args.given = c.numbers-v.ensures ∙ ap numbers_of c.field_in.ensures in its), c.row_at-row.ensures) c.requires.1 in its) in
     product c.row_at-row.result.step c.count_in.result 80 46 p.step (rw ((c.count_in.ensures ∙ count_whole _ _ p)) (count_small _ _ p))
 
 pub overflow_mul-result : goal.overflow_mul-result

@@ -26,7 +26,7 @@ small c = taken_small c.args.i c.args.given c.requires.0 (told c).fits
 
 listed-is : (c : After-listed_in-n) → let a = c.args in c.listed_in-n.result ≡ listed a.i (numbers_in a.given)
 listed-is c =
-    rw (← (let its : c.numbers-v.result ≡ numbers_in c.args.given = numbers-are c.After-numbers-v = c.numbers-v.ensures ∙ ap numbers_of c.field_in.ensures in its), ← c.row_at-row.ensures) c.listed_in-n.ensures
+    rw (← (let its : c.numbers-v.result ≡ numbers_in c.args.given = c.numbers-v.ensures ∙ ap numbers_of c.field_in.ensures in its), ← c.row_at-row.ensures) c.listed_in-n.ensures
 
 -- what is small enough for a sum
 bounds : (c : After-bits_at-size) →
@@ -37,11 +37,11 @@ bounds : (c : After-bits_at-size) →
     × (c.row_at-row.result.step * c.listed_in-n.result ≤ 80 * 30)
 bounds c =
     let m : length c.args.list ≡ 30 = search rules in
-    let room = list_fits_room (row_at c.args.i).step (listed c.args.i (numbers_in c.args.given)) c.args.list ((let its : Taken c.args.i c.args.given c.args.list (length c.args.text.now) = told c.Start = taken _ _ _ _ c.requires.1 in its)).list in
-    let n : c.listed_in-n.result ≤ 30 = rw ((let its : let a = c.args in c.listed_in-n.result ≡ listed a.i (numbers_in a.given) = listed-is c.After-listed_in-n = rw (← (let its : c.numbers-v.result ≡ numbers_in c.args.given = numbers-are c.After-numbers-v = c.numbers-v.ensures ∙ ap numbers_of c.field_in.ensures in its), ← c.row_at-row.ensures) c.listed_in-n.ensures in its)) (omega arith) in
-    let q : c.row_at-row.result.step ≤ 80 = rw c.row_at-row.ensures ((let its : RowSmall (row_at c.args.i) (numbers_in c.args.given) = small c.Start = taken_small c.args.i c.args.given c.requires.0 ((let its : Taken c.args.i c.args.given c.args.list (length c.args.text.now) = told c.Start = taken _ _ _ _ c.requires.1 in its)).fits in its)).step in (
+    let room = list_fits_room (row_at c.args.i).step (listed c.args.i (numbers_in c.args.given)) c.args.list ((let its : Taken c.args.i c.args.given c.args.list (length c.args.text.now) = taken _ _ _ _ c.requires.1 in its)).list in
+    let n : c.listed_in-n.result ≤ 30 = rw ((let its : let a = c.args in c.listed_in-n.result ≡ listed a.i (numbers_in a.given) = rw (← (let its : c.numbers-v.result ≡ numbers_in c.args.given = c.numbers-v.ensures ∙ ap numbers_of c.field_in.ensures in its), ← c.row_at-row.ensures) c.listed_in-n.ensures in its)) (omega arith) in
+    let q : c.row_at-row.result.step ≤ 80 = rw c.row_at-row.ensures ((let its : RowSmall (row_at c.args.i) (numbers_in c.args.given) = taken_small c.args.i c.args.given c.requires.0 ((let its : Taken c.args.i c.args.given c.args.list (length c.args.text.now) = taken _ _ _ _ c.requires.1 in its)).fits in its)).step in (
       rw c.head_bits-at.ensures (head_small c.args.given),
-      rw c.row_at-row.ensures ((let its : RowSmall (row_at c.args.i) (numbers_in c.args.given) = small c.Start = taken_small c.args.i c.args.given c.requires.0 ((let its : Taken c.args.i c.args.given c.args.list (length c.args.text.now) = told c.Start = taken _ _ _ _ c.requires.1 in its)).fits in its)).base,
+      rw c.row_at-row.ensures ((let its : RowSmall (row_at c.args.i) (numbers_in c.args.given) = taken_small c.args.i c.args.given c.requires.0 ((let its : Taken c.args.i c.args.given c.args.list (length c.args.text.now) = taken _ _ _ _ c.requires.1 in its)).fits in its)).base,
       q,
       n,
       product c.row_at-row.result.step c.listed_in-n.result 80 30 q n,
