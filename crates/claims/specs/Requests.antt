@@ -102,7 +102,7 @@ pub record Ticket1 : Type 0 where
 -- ---- Ticket 2: one-segment ELM from the aircraft
 
 -- "A sensor sends downlink ELMs of 120 bits and we refuse them. The figure ends its first text at 120; the two-segment minimum stands among the
--- ground-to-air blocks. For type 42, Length 0 is one segment and accepted, bare or relayed, read or written." The rule is the row of type 42 in
+-- blocks from the earth to the air. For type 42, Length 0 is one segment and accepted, bare or relayed, read or written." The rule is the row of type 42 in
 -- fields/specs/Table.antt: it asks nothing of Length. Demand 2 says that a field that is written is read again; it is about these fields too. The
 -- C calls of field_host are promised by the same definitions
 pub record OneSegmentAccepted : Type 0 where

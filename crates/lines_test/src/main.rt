@@ -5,11 +5,12 @@
 
 ghost use Rattle.std.specs.Prelude.{◌<◌};
 
-use libc::STDIN_FILENO;
 use lines::What;
 use measures::{CoarseAzimuth, CoarseRange, RunLength, Time};
 use reports::altitude::Form;
 use reports::{Report, Search};
+use std::io;
+use std::io::{ErrorKind, Read, Stdout};
 
 mod lent; // lent.rt: the line and its bytes, filled
 mod print; // print.rt: outcomes, answers and words
@@ -71,6 +72,7 @@ fn repeated(case: [u8; 142]) -> [u16; 64] {
 
 // A line read from a place to its end, each outcome printed where the line is short.
 fn read_line(
+    out: Stdout,
     line: &mut [u16],
     bytes: &mut [u8],
     n: usize,
@@ -79,42 +81,70 @@ fn read_line(
     form: Form,
     link: u32,
     words: [u16; 64],
-)
+) -> io::Result<()>
     requires { n < 65536 }
 {
     if line.len() < n {
-        return;
+        return Ok(());
     }
     if bytes.len() < n * 2 {
-        return;
+        return Ok(());
     }
     lent::fill(&mut line[0..n], words, k);
     lent::spell(bytes, &line[0..n]);
-    walk::to_the_end(&line[0..n], &bytes[0..n * 2], place, form, link, n <= 64);
+    walk::to_the_end(
+        out,
+        &line[0..n],
+        &bytes[0..n * 2],
+        place,
+        form,
+        link,
+        n <= 64,
+    )
 }
 
 // One byte fewer than the words have.
-fn read_odd(bytes: &[u8], n: usize, place: usize, form: Form, link: u32)
+fn read_odd(
+    out: Stdout,
+    bytes: &[u8],
+    n: usize,
+    place: usize,
+    form: Form,
+    link: u32,
+) -> io::Result<()>
     requires { n < 65536 }
 {
     if n == 0 {
-        return;
+        return Ok(());
     }
     let odd = n * 2 - 1;
     if bytes.len() < odd {
-        return;
+        return Ok(());
     }
-    print::outcome(line_reader::bytes::read(&bytes[0..odd], place, form, link));
+    print::outcome(
+        out,
+        line_reader::bytes::read(&bytes[0..odd], place, form, link),
+    )
 }
 
 // A report written into a line whose words are numbered.
-fn write_report(line: &mut [u16], n: usize, place: usize, form: Form, report: Report) {
+fn write_report(
+    out: Stdout,
+    line: &mut [u16],
+    n: usize,
+    place: usize,
+    form: Form,
+    report: Report,
+) -> io::Result<()> {
     if line.len() < n {
-        return;
+        return Ok(());
     }
     lent::numbered(&mut line[0..n]);
-    print::answer(line_writer::wide::write(&mut line[0..n], place, form, report));
-    print::changed(&line[0..n]);
+    print::answer(
+        out,
+        line_writer::wide::write(&mut line[0..n], place, form, report),
+    )?;
+    print::changed(out, &line[0..n])
 }
 
 // What the first k words are.
@@ -129,6 +159,7 @@ fn what_of(words: &[u16], k: usize, form: Form) -> What {
 
 // The report that the words are in one form, written in another one or in the same.
 fn write_read(
+    out: Stdout,
     line: &mut [u16],
     n: usize,
     k: usize,
@@ -136,12 +167,12 @@ fn write_read(
     form: Form,
     to: Form,
     words: [u16; 64],
-) {
+) -> io::Result<()> {
     let what = what_of(&words, k, form);
     match what {
-        What::Accepted(report) => write_report(line, n, place, to, report),
-        What::Refused(_) => print::line(b"NO REPORT"),
-        What::End => print::line(b"NO REPORT"),
+        What::Accepted(report) => write_report(out, line, n, place, to, report),
+        What::Refused(_) => print::line(out, "NO REPORT"),
+        What::End => print::line(out, "NO REPORT"),
     }
 }
 
@@ -160,7 +191,7 @@ fn too_large() -> Report {
     })
 }
 
-fn one_case(case: [u8; 142]) {
+fn one_case(out: Stdout, case: [u8; 142]) -> io::Result<()> {
     let what = number(case, 0);
     let n = number(case, 1) as usize;
     let k = number(case, 2) as usize;
@@ -172,33 +203,35 @@ fn one_case(case: [u8; 142]) {
     let mut line = [0u16; ROOM];
     let mut bytes = [0u8; ROOM * 2];
     if what == 0 {
-        read_line(&mut line, &mut bytes, n, k, place, form, link, words);
-        return;
+        return read_line(out, &mut line, &mut bytes, n, k, place, form, link, words);
     }
     if what == 1 {
-        read_odd(&bytes, n, place, form, link);
-        return;
+        return read_odd(out, &bytes, n, place, form, link);
     }
     if what == 2 {
-        write_read(&mut line, n, k, place, form, to, words);
-        return;
+        return write_read(out, &mut line, n, k, place, form, to, words);
     }
-    write_report(&mut line, n, place, to, too_large());
+    write_report(out, &mut line, n, place, to, too_large())
 }
 
 // The cases of standard input, of which there are fewer than a thousand.
-fn cases() {
+fn cases(rt: HostRuntime) -> io::Result<()> {
+    let mut input = rt.stdin();
     let mut left: usize = 1000;
     while 0 < left {
         let mut case = [0u8; 142];
-        if io::read_full(STDIN_FILENO, &mut case) < 142 {
-            return;
+        if let Err(error) = input.read_exact(&mut case) {
+            if error.kind() == ErrorKind::UnexpectedEof {
+                return Ok(());
+            }
+            return Err(error);
         }
-        one_case(case);
+        one_case(rt.stdout(), case)?;
         left -= 1;
     }
+    Ok(())
 }
 
-fn main() {
-    cases();
+fn main(rt: HostRuntime) -> io::Result<()> {
+    cases(rt)
 }

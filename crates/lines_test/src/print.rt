@@ -1,74 +1,70 @@
 // What the program prints.
-use libc::STDOUT_FILENO;
 use lines::{Received, What, Wrote};
+use std::io;
+use std::io::Stdout;
 
-pub fn line(text: &[u8]) {
-    io::write_all(STDOUT_FILENO, text);
-    io::write_all(STDOUT_FILENO, b"\n");
+pub fn line(out: Stdout, text: &str) -> io::Result<()> {
+    println!(out; "{text}")
 }
 
-pub fn number(n: u64) {
-    io::write_all(STDOUT_FILENO, b" ");
-    io::print_decimal(STDOUT_FILENO, n);
+pub fn number(out: Stdout, n: u64) -> io::Result<()> {
+    print!(out; " {n}")
 }
 
-fn name(what: What) {
+fn name(out: Stdout, what: What) -> io::Result<()> {
     match what {
-        What::Accepted(_) => {
-            io::write_all(STDOUT_FILENO, b"REPORT");
-        }
+        What::Accepted(_) => print!(out; "REPORT"),
         What::Refused(q) => {
-            io::write_all(STDOUT_FILENO, b"REFUSED");
-            number(q.number() as u64);
+            print!(out; "REFUSED")?;
+            number(out, q.number() as u64)
         }
-        What::End => {
-            io::write_all(STDOUT_FILENO, b"END");
-        }
+        What::End => print!(out; "END"),
     }
 }
 
 // The name, the three places, and the link.
-pub fn outcome(r: Received) {
+pub fn outcome(out: Stdout, r: Received) -> io::Result<()> {
     let o = r.outcome;
     let what = o.what;
-    name(what);
-    number(o.first as u64);
-    number(o.after as u64);
-    number(o.named as u64);
-    io::write_all(STDOUT_FILENO, b" LINK");
-    number(r.link as u64);
-    line(b"");
+    name(out, what)?;
+    number(out, o.first as u64)?;
+    number(out, o.after as u64)?;
+    number(out, o.named as u64)?;
+    print!(out; " LINK")?;
+    number(out, r.link as u64)?;
+    line(out, "")
 }
 
-pub fn answer(w: Wrote) {
+pub fn answer(out: Stdout, w: Wrote) -> io::Result<()> {
     match w {
         Wrote::Next(place) => {
-            io::write_all(STDOUT_FILENO, b"NEXT");
-            number(place as u64);
+            print!(out; "NEXT")?;
+            number(out, place as u64)?;
         }
         Wrote::Refused(q, place) => {
-            io::write_all(STDOUT_FILENO, b"REFUSED");
-            number(q.number() as u64);
-            number(place as u64);
+            print!(out; "REFUSED")?;
+            number(out, q.number() as u64)?;
+            number(out, place as u64)?;
         }
     }
-    line(b"");
+    line(out, "")
 }
 
-fn changed_at(i: usize, w: u16) {
+fn changed_at(out: Stdout, i: usize, w: u16) -> io::Result<()> {
     if !crate::lent::is_numbered(i, w) {
-        number(i as u64);
-        number(w as u64);
+        number(out, i as u64)?;
+        number(out, w as u64)?;
     }
+    Ok(())
 }
 
 // The words that no longer tell their place.
-pub fn changed(words: &[u16]) {
-    io::write_all(STDOUT_FILENO, b"CHANGED");
+pub fn changed(out: Stdout, words: &[u16]) -> io::Result<()> {
+    print!(out; "CHANGED")?;
     let mut i: usize = 0;
     while i < words.len() {
-        changed_at(i, words[i]);
+        changed_at(out, i, words[i])?;
         i += 1;
     }
-    line(b"");
+    line(out, "")
 }

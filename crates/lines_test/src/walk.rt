@@ -1,6 +1,8 @@
 // A line read call by call, continuing from the place given: lent as words and as bytes.
 use lines::{Outcome, Received, What};
 use reports::altitude::Form;
+use std::io;
+use std::io::Stdout;
 
 // How many calls, reports and refusals, the words in each, and how often the two readers differ.
 #[derive(Clone, Copy)]
@@ -124,25 +126,29 @@ fn is_printed(shown: bool, o: Outcome, place: usize) -> bool {
     gives_back(o, place)
 }
 
-fn print_tally(t: Tally) {
-    write(b"CALLS");
-    crate::print::number(t.calls);
-    write(b" REPORTS");
-    crate::print::number(t.reports);
-    crate::print::number(t.reported);
-    write(b" REFUSED");
-    crate::print::number(t.refusals);
-    crate::print::number(t.refused);
-    write(b" DIFFER");
-    crate::print::number(t.differ);
-    crate::print::line(b"");
+fn print_tally(out: Stdout, t: Tally) -> io::Result<()> {
+    print!(out; "CALLS")?;
+    crate::print::number(out, t.calls)?;
+    print!(out; " REPORTS")?;
+    crate::print::number(out, t.reports)?;
+    crate::print::number(out, t.reported)?;
+    print!(out; " REFUSED")?;
+    crate::print::number(out, t.refusals)?;
+    crate::print::number(out, t.refused)?;
+    print!(out; " DIFFER")?;
+    crate::print::number(out, t.differ)?;
+    crate::print::line(out, "")
 }
 
-fn write(text: &[u8]) {
-    io::write_all(libc::STDOUT_FILENO, text);
-}
-
-pub fn to_the_end(words: &[u16], bytes: &[u8], place: usize, form: Form, link: u32, shown: bool) {
+pub fn to_the_end(
+    out: Stdout,
+    words: &[u16],
+    bytes: &[u8],
+    place: usize,
+    form: Form,
+    link: u32,
+    shown: bool,
+) -> io::Result<()> {
     let mut t = Tally {
         calls: 0,
         reports: 0,
@@ -162,7 +168,7 @@ pub fn to_the_end(words: &[u16], bytes: &[u8], place: usize, form: Form, link: u
             differing(r, line_reader::bytes::read(bytes, at, form, link)),
         );
         if is_printed(shown, o, at) {
-            crate::print::outcome(r);
+            crate::print::outcome(out, r)?;
         }
         if is_last(o, at) {
             break;
@@ -170,5 +176,5 @@ pub fn to_the_end(words: &[u16], bytes: &[u8], place: usize, form: Form, link: u
         at = o.after;
         left -= 1;
     }
-    print_tally(t);
+    print_tally(out, t)
 }

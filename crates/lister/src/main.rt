@@ -4,71 +4,51 @@
 // Relies on listing for every byte that it prints.
 #![tactic(auto)]
 
-ghost use Rattle.std.specs.Prelude.{◌≤◌, length};
+ghost use Rattle.std.specs.Prelude.{◌≤◌, length, IfOk};
 
-use libc::{STDERR_FILENO, STDIN_FILENO, STDOUT_FILENO};
 use listing::{LONGEST, Piece, Walk};
+use std::io;
+use std::io::{ErrorKind, Read};
 
 // More than a recording of 65,536 bytes has lines, its end among them.
 const CALLS: usize = 16386;
 
-// How many bytes came in before the input ended or the buffer was full, and whether a read failed.
-#[derive(Clone, Copy)]
-struct Input {
-    count: usize,
-    failed: bool,
-}
-
-fn take_in(buffer: &mut [u8]) -> Input
-    ensures { result.count ≤ length buffer.old }
+// How many bytes came in before the input ended or the buffer was full, or why a read failed.
+fn take_in(rt: HostRuntime, buffer: &mut [u8]) -> io::Result<usize>
+    ensures { IfOk result (λ count. count ≤ length buffer.old) }
 {
+    let mut input = rt.stdin();
     let mut count: usize = 0;
     while count < buffer.len() {
-        let got = libc::read(STDIN_FILENO, &mut buffer[count..]);
-        if got < 0 {
-            return Input {
-                count,
-                failed: true,
-            };
-        }
-        let more = io::count(got, &buffer[count..]);
+        let more = input.read(&mut buffer[count..])?;
         if more == 0 {
-            return Input {
-                count,
-                failed: false,
-            };
+            return Ok(count);
         }
         count += more;
     }
-    Input {
-        count,
-        failed: false,
-    }
+    Ok(count)
 }
 
-// The first n bytes of a text, and whether they all went out.
-fn put_out(text: &[u8], n: usize) -> bool {
+// Writes the first n bytes of a text.
+fn put_out(rt: HostRuntime, text: &[u8], n: usize) -> io::Result<()> {
     if text.len() < n {
-        return false;
+        return Err(io::Error::from(ErrorKind::InvalidInput));
     }
-    io::write_all(STDOUT_FILENO, &text[0..n])
+    rt.write_all(&text[0..n])
 }
 
 // What no walk from the start comes to (the claim Whole of listing), and is named all the same.
-fn lost() {
-    io::write_all(
-        STDERR_FILENO,
-        b"lister: the walk over the recording went astray\n",
-    );
+fn lost(rt: HostRuntime) -> io::Result<()> {
+    eprintln!(rt; "lister: the walk over the recording went astray")
 }
 
-// The same, with a failure named.
-fn sent(text: &[u8], n: usize) -> bool {
-    if put_out(text, n) {
-        return true;
+// Whether the first n bytes of a text went out. A failure is named.
+fn sent(rt: HostRuntime, text: &[u8], n: usize) -> io::Result<bool> {
+    if let Err(error) = put_out(rt, text, n) {
+        eprintln!(rt; "lister: standard output: {error}")?;
+        return Ok(false);
     }
-    os::fail(b"lister: standard output");
-    false
+    Ok(true)
 }
 
 // Where in a text of so many bytes, of which the first `at` are taken, the next line goes: behind them, or, where it may not fit, at the start.
@@ -85,58 +65,49 @@ fn start_of(size: usize, at: usize) -> usize
 }
 
 // The listing of a recording, line by line into a buffer, which goes out when another line may not fit, and at the end.
-fn list(recording: &[u8], text: &mut [u8]) {
+fn list(rt: HostRuntime, recording: &[u8], text: &mut [u8]) -> io::Result<()> {
     let mut walk = Walk::new();
     let mut left = CALLS;
     let mut at: usize = 0;
     while 0 < left {
         let start = start_of(text.len(), at);
         if start < at {
-            if !sent(text, at) {
-                return;
+            if !sent(rt, text, at)? {
+                return Ok(());
             }
         }
         let piece = listing::next(recording, walk, &mut text[start..]);
         match piece {
             Piece::Text(n, next) => {
                 if text.len() - start < n {
-                    lost();
-                    return;
+                    return lost(rt);
                 }
                 at = start + n;
                 walk = next;
             }
             Piece::End => {
-                sent(text, start);
-                return;
+                sent(rt, text, start)?;
+                return Ok(());
             }
-            Piece::Astray => {
-                lost();
-                return;
-            }
-            Piece::NoRoom => {
-                lost();
-                return;
-            }
+            Piece::Astray => return lost(rt),
+            Piece::NoRoom => return lost(rt),
         }
         left -= 1;
     }
-    lost();
+    lost(rt)
 }
 
-fn run(buffer: &mut [u8], text: &mut [u8]) {
-    let input = take_in(buffer);
-    if input.failed {
-        os::fail(b"lister: standard input");
-        return;
+fn run(rt: HostRuntime, buffer: &mut [u8], text: &mut [u8]) -> io::Result<()> {
+    match take_in(rt, buffer) {
+        Ok(n) => list(rt, &buffer[0..n], text),
+        Err(error) => eprintln!(rt; "lister: standard input: {error}"),
     }
-    let n = input.count;
-    list(&buffer[0..n], text);
 }
 
-fn main() {
+// An error is returned where standard error itself cannot be written: every other failure is named there.
+fn main(rt: HostRuntime) -> io::Result<()> {
     // one byte more than the longest recording, so that a longer one is seen
     let mut buffer = [0u8; 65537];
     let mut text = [0u8; 8192];
-    run(&mut buffer, &mut text);
+    run(rt, &mut buffer, &mut text)
 }

@@ -179,7 +179,7 @@ mtd_given v = record {
   quality = count_of 8 v N.quality;
   confidence = count_of 8 v N.confidence;
   false_target = flag_of v N.false_target_flag;
-  ground = flag_of v N.ground;
+  ground_traffic = flag_of v N.ground_traffic;
 }
 
 abbrev pub rdas_given : List ℕ → Rdas

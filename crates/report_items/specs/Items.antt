@@ -126,12 +126,12 @@ doppler1 = 34
 abbrev pub doppler2 : ℕ
 doppler2 = 35
 
-abbrev pub ground : ℕ
-ground = 36
+abbrev pub ground_traffic : ℕ
+ground_traffic = 36
 
 -- the greatest of them: they are numbered from 1 on, without a gap
 abbrev pub last : ℕ
-last = ground
+last = ground_traffic
 
 -- ---- the items of each kind
 
@@ -150,7 +150,7 @@ items_of (R.Status s) = flag test s.test ∷ flag faa s.faa ∷ flag af s.af ∷
 items_of (R.Rtqc s) = flag faa s.faa ∷ flag af s.af ∷ count range s.range.0 ∷ count azimuth s.azimuth.0 ∷ count run s.run.0 ∷ count time s.time.0 ∷ []
 items_of (R.Dabs d) = flag test d.test ∷ flag primary d.primary ∷ flag spi d.spi ∷ flag reinforced d.reinforced ∷ flag code7700 d.code7700 ∷ flag code7600 d.code7600 ∷ flag faa d.faa ∷ count range d.range.0 ∷ count azimuth d.azimuth.0 ∷ flag alert d.alert ∷ flag relay d.relay ∷ count time d.time.0 ∷ count address d.address ∷ height_items d.height
 items_of (R.Atcrbs a) = flag test a.test ∷ flag mode3a a.mode3a ∷ flag spi a.spi ∷ flag reinforced a.reinforced ∷ flag code7700 a.code7700 ∷ flag code7600 a.code7600 ∷ flag faa a.faa ∷ count range a.range.0 ∷ count azimuth a.azimuth.0 ∷ flag confidence a.confidence ∷ flag transition a.transition ∷ flag false_target_flag a.false_target ∷ flag relay a.relay ∷ count time a.time.0 ∷ count code a.code ∷ count file a.file ∷ height_items a.height
-items_of (R.Mtd m) = flag test m.test ∷ flag faa m.faa ∷ count range m.range.0 ∷ count azimuth m.azimuth.0 ∷ flag aims m.aims ∷ count time m.time.0 ∷ count doppler1 m.doppler1 ∷ count doppler2 m.doppler2 ∷ count file m.file ∷ count quality m.quality ∷ count confidence m.confidence ∷ flag false_target_flag m.false_target ∷ flag ground m.ground ∷ []
+items_of (R.Mtd m) = flag test m.test ∷ flag faa m.faa ∷ count range m.range.0 ∷ count azimuth m.azimuth.0 ∷ flag aims m.aims ∷ count time m.time.0 ∷ count doppler1 m.doppler1 ∷ count doppler2 m.doppler2 ∷ count file m.file ∷ count quality m.quality ∷ count confidence m.confidence ∷ flag false_target_flag m.false_target ∷ flag ground_traffic m.ground_traffic ∷ []
 items_of (R.Rdas x) = flag test x.test ∷ flag faa x.faa ∷ count range x.range.0 ∷ count azimuth x.azimuth.0 ∷ flag aims x.aims ∷ count time x.time.0 ∷ count file x.file ∷ count quality x.quality ∷ flag false_target_flag x.false_target ∷ []
 
 -- the value of an item, where the list has it

@@ -229,7 +229,7 @@ fn mtd_given(v: [u64; SLOTS]) -> Mtd
         quality: (v[numbers::QUALITY] % TWO_TO_8) as u8,
         confidence: (v[numbers::CONFIDENCE] % TWO_TO_8) as u8,
         false_target: v[numbers::FALSE_TARGET] == 1,
-        ground: v[numbers::GROUND] == 1,
+        ground_traffic: v[numbers::GROUND] == 1,
     }
 }
 

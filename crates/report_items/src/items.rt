@@ -243,7 +243,7 @@ fn mtd_item(m: Mtd, item: usize) -> Item
         numbers::QUALITY => small(m.quality),
         numbers::CONFIDENCE => small(m.confidence),
         numbers::FALSE_TARGET => flag(m.false_target),
-        numbers::GROUND => flag(m.ground),
+        numbers::GROUND => flag(m.ground_traffic),
         _ => Item::Missing,
     }
 }

@@ -148,7 +148,7 @@ pub fn mtd_of(a: u16, b: u16, c: u16, d: u16, e: u16, f: u16, g: u16) -> Mtd
         quality: (g / BIT_2 % TWO_BITS) as u8, // 79-80
         confidence: (g / BIT_6 % FOUR_BITS) as u8, // 81-84
         false_target: g / BIT_7 % ONE_BIT == 1, // 85
-        ground: g / BIT_8 % ONE_BIT == 1, // 86
+        ground_traffic: g / BIT_8 % ONE_BIT == 1, // 86
     }
 }
 

@@ -162,8 +162,8 @@ fn dopplers(first: u8, second: u8) -> u32
     first * DATA_6 + second + TOO_LARGE * (first / SIX_BITS + second / SIX_BITS)
 }
 
-fn mtd_last(quality: u8, confidence: u8, target: bool, ground: bool) -> u32
-    ensures { result ≡ data_or_more (count 2 quality ∷ count 4 confidence ∷ flag target ∷ flag ground ∷ spare 1 ∷ fixed 3 mtd_search_code ∷ []) }
+fn mtd_last(quality: u8, confidence: u8, target: bool, ground_traffic: bool) -> u32
+    ensures { result ≡ data_or_more (count 2 quality ∷ count 4 confidence ∷ flag target ∷ flag ground_traffic ∷ spare 1 ∷ fixed 3 mtd_search_code ∷ []) }
 {
     let quality = quality as u32;
     let confidence = confidence as u32;
@@ -171,7 +171,7 @@ fn mtd_last(quality: u8, confidence: u8, target: bool, ground: bool) -> u32
     quality * DATA_2
         + confidence * DATA_6
         + bit(target) * DATA_7
-        + bit(ground) * DATA_8
+        + bit(ground_traffic) * DATA_8
         + forms::MTD_SEARCH_CODE as u32
         + TOO_LARGE * over
 }
@@ -401,7 +401,7 @@ fn mtd_data(m: Mtd) -> Data
         radar_fourth(m.azimuth.0, m.aims, m.time.0),
         dopplers(m.doppler1, m.doppler2),
         whole(m.file as u32),
-        mtd_last(m.quality, m.confidence, m.false_target, m.ground),
+        mtd_last(m.quality, m.confidence, m.false_target, m.ground_traffic),
     )
 }
 

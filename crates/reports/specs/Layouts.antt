@@ -121,7 +121,7 @@ mtd_layout m =
     ∷ (rest 4 m.azimuth.0 ∷ flag m.aims ∷ spare 1 ∷ count 6 m.time.0 ∷ [])
     ∷ (count 6 m.doppler1 ∷ count 6 m.doppler2 ∷ [])
     ∷ (count 12 m.file ∷ [])
-    ∷ (count 2 m.quality ∷ count 4 m.confidence ∷ flag m.false_target ∷ flag m.ground ∷ spare 1 ∷ fixed 3 mtd_search_code ∷ [])
+    ∷ (count 2 m.quality ∷ count 4 m.confidence ∷ flag m.false_target ∷ flag m.ground_traffic ∷ spare 1 ∷ fixed 3 mtd_search_code ∷ [])
     ∷ []
 
 abbrev pub rdas_layout : Rdas → List (List Field)

@@ -140,7 +140,7 @@ mtd_of ws = record {
   quality = bits ws 79 80;
   confidence = bits ws 81 84;
   false_target = bit ws 85;
-  ground = bit ws 86;
+  ground_traffic = bit ws 86;
 }
 
 abbrev pub rdas_of : List ℕ → Rdas

@@ -138,7 +138,7 @@ pub struct Mtd {
     pub quality: u8,
     pub confidence: u8,
     pub false_target: bool,
-    pub ground: bool,
+    pub ground_traffic: bool,
 }
 
 // RDAS search.
