@@ -32,6 +32,7 @@ module _ {X : Type 0} (f : Found → X) (first : ℕ) (s : List ℕ) (left n k :
     (e : l ≡ each_from f first slots (behind s left)) (p : n ≡ eight (drop (16 * (left - 1)) s)) (o : Slot first n k) where
   q : left ≡ suc (left - 1)
   q = omega arith
+
   sets : (v : ℕ) → v ≡ eight (drop (16 * (left - 1) + 8) s) → k < slots → set l k (f (F.Value v)) ≡ each_from f first slots (behind s (left - 1))
   sets v w a =
       ap (λ (x : List X). set x k (f (F.Value v))) e
@@ -39,6 +40,7 @@ module _ {X : Type 0} (f : Found → X) (first : ℕ) (s : List ℕ) (left n k :
       ∙ ap (λ (x : ℕ). each_from f first slots ((x, v) ∷ behind s left)) p
       ∙ ap (λ (x : ℕ). each_from f first slots ((eight (drop (16 * (left - 1)) s), x) ∷ behind s left)) w
       ∙ ap (λ (x : List Pair). each_from f first slots x) (sym (one_more s left (left - 1) q m))
+
   leaves : slots ≤ k → l ≡ each_from f first slots (behind s (left - 1))
   leaves a =
       e

@@ -23,18 +23,22 @@ module _ (ws : List ℕ) (f : is_four ws ≡ true) where
   search-read : eqb (bits ws 4 10) search_pattern ≡ true → (r : Search) → r ≡ search_of ws → content (R.Search r) (bits ws 25 25) ≡ four_content ws
   unfolding four_of four_zeros
   search-read k r e = simp (f, k, e)
+
   module _ (n1 : eqb (bits ws 4 10) search_pattern ≡ false) where
     strobe-read : eqb (bits ws 4 10) strobe_pattern ≡ true → (r : Strobe) → r ≡ strobe_of ws → content (R.Strobe r) (bits ws 25 25) ≡ four_content ws
     unfolding four_of four_zeros
     strobe-read k r e = simp (f, n1, k, e)
+
     module _ (n2 : eqb (bits ws 4 10) strobe_pattern ≡ false) where
       status-read : eqb (bits ws 4 10) status_pattern ≡ true → (r : Status) → r ≡ status_of ws → content (R.Status r) 0 ≡ four_content ws
       unfolding four_of four_zeros
       status-read k r e = simp (f, n1, n2, k, e)
+
       module _ (n3 : eqb (bits ws 4 10) status_pattern ≡ false) where
         map_read : eqb (bits ws 4 8) map_pattern ≡ true → (r : Map) → r ≡ map_of ws → content (R.Map r) (bits ws 25 25 + bits ws 51 51) ≡ four_content ws
         unfolding four_of four_zeros
         map_read k r e = simp (f, n1, n2, n3, k, e)
+
         rtqc-read : eqb (bits ws 4 8) map_pattern ≡ false → (r : Rtqc) → r ≡ rtqc_of ws → content (R.Rtqc r) (bits ws 25 25) ≡ four_content ws
         unfolding four_of four_zeros
         rtqc-read k r e = simp (f, n1, n2, n3, k, e)
