@@ -3,4 +3,3 @@
 // There is no code here: what the claims speak of is promised by the functions of line_reader, line_writer, field_reader and
 // field_writer.
 #![tactic(auto)]
-

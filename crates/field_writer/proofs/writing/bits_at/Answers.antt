@@ -38,8 +38,7 @@ pub returns : goal.returns
 unfolding size_in
 returns c =
     let p = small ((goal.at.returns c).After-numbers-v) in
-    let h : c.head_bits-at.result ≤ 16 = rw c.head_bits-at.ensures (head_small c.args.given) in
-    (
+    let h : c.head_bits-at.result ≤ 16 = rw c.head_bits-at.ensures (head_small c.args.given) in (
       rw ((c.count_in.ensures ∙ count_whole _ _ p), numbers-are ((goal.at.returns c).After-numbers-v), c.row_at-row.ensures, c.head_bits-at.ensures) refl,
       omega (arith, most ((goal.at.returns c).After-count_in)),
     )

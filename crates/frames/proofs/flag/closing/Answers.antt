@@ -29,6 +29,7 @@ module _ {b : List ℕ} {count from p : ℕ} (s : Sought b count from p) where
         within = omega arith;
         same = sym (up_to_clear b count p q h (omega arith) x ∙ up_to_clear b count q r k l y) ∙ s.same;
       }
+
   -- it ends here
   here : p + 8 ≤ count → bits_of b p 8 ≡ 0x7E → p ≡ from + length (up_to_flag (stream_at b count from))
   here h e =
@@ -39,8 +40,8 @@ left : (c : Joined-n-gt-WINDOW) → Left c.args.count c.loop-p.p c.if-n-gt-WINDO
 left c =
     let l = c.loop-p-test.true in
     elim c.if-n-gt-WINDOW.branch [
-      then-n-gt-WINDOW w ↦ record { few = omega arith; many = omega arith; room = omega arith }
-    | else-n-gt-WINDOW w ↦ record { few = omega arith; many = omega arith; room = omega arith }
+      | then-n-gt-WINDOW w ↦ record { few = omega arith; many = omega arith; room = omega arith }
+      | else-n-gt-WINDOW w ↦ record { few = omega arith; many = omega arith; room = omega arith }
     ]
 
 -- where the two steps of a turn lead

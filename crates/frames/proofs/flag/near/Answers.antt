@@ -14,6 +14,7 @@ use Rattle.frames.proofs.flag.near.Invariants.{Sought}
 module _ {b : List ℕ} {from to p eight : ℕ} (s : Sought b from to p eight) where
   small : eight < 256
   small = rw s.is (bits_of-lt b p 8)
+
   -- none there, and it goes on one place
   on : (eight ≡ 0x7E → ⊥) → p < to → (x : ℕ) → x ≡ bit_at b (p + 8) → Sought b from to (p + 1) (eight * 2 % 256 + x)
   on n l x e =

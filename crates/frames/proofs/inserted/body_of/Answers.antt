@@ -38,10 +38,12 @@ module _ {b : List ℕ} {from to : ℕ} {bytes : List ℕ} {count n p : ℕ} (d 
         count_is = d.count_is;
         bytes_are = d.bytes_are;
       }
+
   -- it is a one in place of it
   absent : p < to → n ≡ 5 → bit_at b p ≡ 1 → zero_missing 0 (stream_at b to from) ≡ true
   unfolding zero_missing
   absent l e o = d.missing ∙ ap (zero_missing n) (stream_cons b to p l) ∙ rw (eq-eqb n 5 e, eq-eqb (bit_at b p) 1 o) refl
+
   -- a run of the body
   kept : (m x k o : ℕ) → p + m ≤ to → m ≤ 64 → x ≡ bits_of b p m % 2 ^ 64 → RunIs n m x k o → (more : List ℕ) → more ≡ put_bits bytes count k (x / 2 ^ (m - k))
       → Done b from to more (count + k) o (p + k)
@@ -62,10 +64,12 @@ module _ {b : List ℕ} {from to : ℕ} {bytes : List ℕ} {count n p : ℕ} (d 
         count_is = rw (length-append d.done xs, length-bits_from b p k, sym d.count_is) refl;
         bytes_are = put ∙ filled_read 255 d.done bytes b count p k _ d.bytes_are (sym d.count_is) there.0;
       }
+
   -- no bit is left
   at_end : to ≤ p → zero_missing 0 (stream_at b to from) ≡ eqb n 5
   unfolding zero_missing
   at_end l = d.missing ∙ ap (zero_missing n) (stream_none b to p l)
+
   all_done : to ≤ p → zeros_out 0 (stream_at b to from) ≡ d.done
   unfolding zeros_out
   all_done l = d.out ∙ ap (λ (s : List Bool). d.done ++ zeros_out n s) (stream_none b to p l) ∙ append-nil d.done

@@ -40,6 +40,7 @@ module _ {b : List ℕ} {n : ℕ} {bytes : List ℕ} {count ones i : ℕ} (d : P
         count_is = rw (length-append (d.done ++ xs) zs, length-append d.done xs, k-is, length-replicate (o / 5) false, sym d.count_is) (omega arith);
         bytes_are = put ∙ filled_read 306 d.done bytes b count i k _ d.bytes_are (sym d.count_is) there.0 ∙ sym (filled_zeros 306 (d.done ++ xs) (o / 5));
       }
+
   -- no bit is left
   all_done : n ≤ i → with_zeros 0 (bits_from b 0 n) ≡ d.done
   unfolding with_zeros

@@ -16,10 +16,12 @@ module _ (b : List ℕ) (count place : ℕ) where
   over : count_over (length b) count ≡ true → found_at place (refused R.CountOrFlag) ≡ read_frame b count place
   unfolding read_frame read_bits
   over e = sym (rw (e, add-zero place) refl)
+
   module _ (within : count_over (length b) count ≡ false) where
     no_flag : begins flag (stream_at b count place) ≡ false → found_at place (refused R.CountOrFlag) ≡ read_frame b count place
     unfolding read_frame read_bits
     no_flag e = sym (rw (within, e, add-zero place) refl)
+
     flagged : behind_flag place (stream_at b count place) ≡ read_frame b count place
     unfolding read_frame
     flagged = sym (rw within refl)
