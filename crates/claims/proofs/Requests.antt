@@ -19,7 +19,7 @@ use Rattle.manners.proofs.Answered as answered
 use Rattle.manners.proofs.Broken as broken
 use Rattle.manners.proofs.Exactly as exactly
 use Rattle.manners.proofs.Worked.{worked}
-use Rattle.claims.specs.Requests.{ReadAndWriteThem, FlagsAndIdle, PlacesAnswered, TheWriter, TheirOwnRoundTrip, FrameRefusals, Ticket1, OneSegmentAccepted, UplinkKeepsItsMinimum, RefusalsLoseThisCase, TakesReportsWithANumber, EntersAndReplaces, EqualsTheOneWorkedOutAfresh, IndexRefusals, CountsTheOnes, ItsPromiseStays, TheFormAsAnInput, RangeAndPatterns, RefusalsOfAltitudes, TheRules, ExactlyTheBreaches, StaysAccepted, MannersRefusals, OneAnswerOneList, LinkOfEveryOutcome, NoPartOfTheWords, FixedNumber, LinkRefusal, Requests}
+use Rattle.claims.specs.Requests.{ReadAndWriteThem, FlagsAndIdle, PlacesAnswered, TheWriter, TheirOwnRoundTrip, FrameRefusals, OneSegmentAccepted, UplinkKeepsItsMinimum, RefusalsLoseThisCase, TakesReportsWithANumber, EntersAndReplaces, EqualsTheOneWorkedOutAfresh, IndexRefusals, CountsTheOnes, ItsPromiseStays, TheFormAsAnInput, RangeAndPatterns, RefusalsOfAltitudes, TheRules, ExactlyTheBreaches, StaysAccepted, MannersRefusals, OneAnswerOneList, LinkOfEveryOutcome, NoPartOfTheWords, FixedNumber, LinkRefusal, Requests}
 use Rattle.claims.proofs.Numbers.{numbers_differ, no_number_is_zero}
 use Rattle.claims.proofs.OneSegment as segment
 use Rattle.claims.proofs.Folds.{folds_answer_the_same}

@@ -6,8 +6,8 @@ use mathlib.Core.Bool.{Bool, true, false, not, cond}
 use mathlib.Core.List.{List, [], ◌∷◌, ◌++◌}
 use native.Mathlib.Omega.{arith}
 use borrow.Author.Tests.{eqb-true, ltb-true, lt-ltb}
-use lib.Dec.{eqb, leb, ltb}
-use lib.IntN.{ℤ, pos, negsuc, neg_ℤ, ◌-ℤ◌}
+use lib.Dec.{eqb, ltb}
+use lib.IntN.{ℤ, pos, neg_ℤ, ◌-ℤ◌}
 use lib.ListN.{length, get_or, take}
 use Rattle.rows.specs.Rows.{Row, row, first_of, each}
 use Rattle.rows.specs.Claims.{NoneHolds, Refusing}
@@ -45,7 +45,7 @@ use Rattle.reports.proofs.Demand2.{demand_2}
 use Rattle.lines.specs.declared.What.{What}
 use Rattle.lines.specs.declared.What.TheVariants as W
 use Rattle.lines.specs.declared.Outcome.{Outcome}
-use Rattle.lines.specs.Line.{outcome_of, what_of, placed, outcome_at, run_at, line_rows, most, read_by, read_at}
+use Rattle.lines.specs.Line.{outcome_of, what_of, placed, outcome_at, line_rows, most, read_by, read_at}
 use Rattle.lines.specs.Bytes.{most_bytes, words_in, byte_rows, read_bytes}
 use Rattle.lines.specs.declared.Wrote.TheVariants as P
 use Rattle.lines.specs.Writing.{place_rows, write_at, left_as}

@@ -1,6 +1,6 @@
 -- A record that the writer takes, written over zeros, is read as that record, its list and its text.
 -- Assumes nothing.
-use Rattle.std.proofs.Common.{◌≡◌, ℕ, ◌+◌, ◌-◌, ◌*◌, ◌/◌, ◌%◌, ◌<◌, ◌≤◌, Bool, true, false, cond, not, ◌&&◌, eqb, ltb, leb, List, [], ◌∷◌, ◌++◌, length, get_or, drop, replicate, ℤ, sym, refl, ap, ◌∙◌, subst, add-zero, mul-zero, zero-add, arith, length-drop, take_all, pow_pos, ltb-true, le-ltb, eq-eqb, ne_eqb, le-leb}
+use Rattle.std.proofs.Common.{◌≡◌, ℕ, ◌+◌, ◌*◌, ◌/◌, ◌%◌, ◌<◌, ◌≤◌, Bool, true, false, cond, not, ◌&&◌, eqb, ltb, leb, List, [], ◌∷◌, ◌++◌, length, get_or, drop, replicate, ℤ, sym, refl, ap, ◌∙◌, subst, add-zero, mul-zero, zero-add, arith, length-drop, take_all, pow_pos, ltb-true, le-ltb, eq-eqb, ne_eqb, le-leb}
 use lib.ListN.{length-replicate}
 use lib.Seq.{drop-length}
 use borrow.Author.Tests.{not-true}

@@ -1,6 +1,6 @@
 -- A record that the writer takes, written and read, gives the same record, list and text.
 -- Assumes nothing.
-use Rattle.std.proofs.Common.{◌≡◌, ℕ, zero, suc, ◌+◌, ◌-◌, ◌*◌, ◌/◌, ◌%◌, ◌^◌, ◌<◌, ◌≤◌, Bool, true, false, not, eqb, ltb, ◌⊎◌, List, [], ◌∷◌, ◌++◌, length, take, drop, replicate, ℤ, pos, negsuc, nat_abs, sym, refl, ap, ◌∙◌, inl, inr, add-zero, add_assoc, arith, drop-cons, take_at, drop_at, ltb-true, le-ltb, eq-eqb, ne_eqb, eqb-true}
+use Rattle.std.proofs.Common.{◌≡◌, ℕ, zero, suc, ◌+◌, ◌*◌, ◌/◌, ◌%◌, ◌^◌, ◌<◌, ◌≤◌, Bool, true, false, not, eqb, ltb, ◌⊎◌, List, [], ◌∷◌, ◌++◌, length, take, drop, replicate, ℤ, pos, negsuc, nat_abs, sym, refl, ap, ◌∙◌, inl, inr, add-zero, add_assoc, arith, drop-cons, take_at, drop_at, ltb-true, le-ltb, eq-eqb, ne_eqb, eqb-true}
 use Rattle.bits.specs.Bits.{bits_of, put_bits, Bytes}
 use Rattle.bits.proofs.Laws.{bits_of-put_bits_other, byte_bits}
 use Rattle.fields.specs.Table.{values_of}

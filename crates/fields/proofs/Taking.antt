@@ -1,6 +1,6 @@
 -- What it says of a record that the writer takes it; and how a field's parts are written one group after the other.
 -- Assumes nothing.
-use Rattle.std.proofs.Common.{◌≡◌, ℕ, zero, suc, ◌+◌, ◌-◌, ◌*◌, ◌<◌, ◌≤◌, Bool, true, false, cond, not, eqb, List, ◌++◌, length, replicate, ℤ, sym, refl, ap, ◌∙◌, zero-le, mul-zero, mul-suc, arith, eqb→eq, eqb-true}
+use Rattle.std.proofs.Common.{◌≡◌, ℕ, zero, suc, ◌+◌, ◌*◌, ◌<◌, ◌≤◌, Bool, true, false, cond, not, eqb, List, ◌++◌, length, replicate, ℤ, sym, refl, ap, ◌∙◌, zero-le, mul-zero, mul-suc, arith, eqb→eq, eqb-true}
 use lib.ListN.{length-replicate}
 use borrow.Author.Tests.{not-true}
 use Rattle.fields.specs.declared.Row.{Row}

@@ -1,14 +1,13 @@
 -- What a call answers and leaves: how the rows are gone through, and the claims of the calls. Assumes nothing.
 use Prim.Native.Nat.{ℕ, ◌+◌, ◌*◌, ◌/◌, ◌%◌, ◌≤◌, ◌<◌}
 use mathlib.Core.Path.{◌≡◌, refl, ap, sym, ◌∙◌}
-use mathlib.Core.Bool.{Bool, true, false, cond}
+use mathlib.Core.Bool.{Bool, false, cond}
 use mathlib.Core.List.{List, [], ◌∷◌, ◌++◌}
 use native.Mathlib.Omega.{arith}
-use lib.Dec.{eqb, ltb}
+use lib.Dec.{ltb}
 use lib.ListN.{length, take, drop, length-append, length-drop}
 use lib.Seq.{take-append_seam, drop-append_seam}
 use borrow.Author.Tests.{lt-ltb, le-ltb, eq-eqb, ne_eqb, ltb-true, ltb-false, eqb-false}
-use Rattle.rows.specs.Rows.{Row, row, first_of}
 use Rattle.rows.proofs.Claims as law
 use Rattle.rows.proofs.Claims.{differ}
 use Rattle.refusals.specs.declared.LineRefusal.TheVariants.{LineTooLong, OddByteCount}
@@ -20,7 +19,7 @@ use Rattle.lines.proofs.ByteWords.{words_length}
 use Rattle.manners.specs.declared.MannersRefusal.TheVariants.{ListTooSmall}
 use Rattle.manners.specs.declared.Listed.{Listed}
 use Rattle.manners.specs.declared.Listed.TheVariants as L
-use Rattle.manners.specs.Breaches.{Breach, breaches, numbers_of}
+use Rattle.manners.specs.Breaches.{breaches, numbers_of}
 use Rattle.manners.specs.Listing.{count_in, left_as, list_rows, listed, byte_list_rows, listed_bytes, Gives}
 use Rattle.manners.specs.Claims.{is_listed, ListRefuses, ByteListRefuses, ListedExactly, ByteListedExactly, RefusedStays, Fills, BehindStays, BytesAsWords}
 use Rattle.manners.proofs.Stored.{as_numbers, as_bytes}

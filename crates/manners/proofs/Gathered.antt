@@ -1,7 +1,7 @@
 -- The breaches from a place on, outcome by outcome, as the loops gather them. Assumes nothing.
 use Prim.Native.Nat.{ℕ, ◌+◌, ◌%◌, ◌≤◌, ◌<◌}
 use mathlib.Core.Path.{◌≡◌, refl, ap, sym, ◌∙◌, subst}
-use mathlib.Core.List.{List, [], ◌∷◌, ◌++◌}
+use mathlib.Core.List.{List, [], ◌++◌}
 use mathlib.Core.Logic.{⊎_elim}
 use native.Mathlib.Omega.{arith}
 use lib.ListN.{length, length-append}
@@ -12,7 +12,7 @@ use Rattle.lines.specs.declared.Outcome.{Outcome}
 use Rattle.reports.specs.Records.{report_of}
 use Rattle.lines.specs.Line.{most, read_by}
 use Rattle.lines.specs.Bytes.{most_bytes, words_in, read_bytes}
-use Rattle.lines.specs.Stretches.{runs_at, gathered}
+use Rattle.lines.specs.Stretches.{gathered}
 use Rattle.lines.specs.Claims.{Answer}
 use Rattle.lines.proofs.ByteWords.{words_length, bytes_as_words}
 use Rattle.lines.proofs.Walked.{next_run, none_left, step_by_step}

@@ -1,7 +1,7 @@
 -- `bits::by_digits` meets its contract: v is the number of the bits passed, of which the first are those that no number of 64 bits holds.
 -- Assumes nothing.
 use mathlib.Core.Path.{◌≡◌, refl, ◌∙◌}
-use Prim.Native.Nat.{◌-◌, ◌^◌, ◌<◌}
+use Prim.Native.Nat.{◌^◌, ◌<◌}
 use native.Mathlib.Omega.{arith}
 use Rattle.bits.proofs.Laws.{bit_at_lt, bits_of_below, bits_of_none, bits_of_next, last_64}
 use Rattle.bits.proofs.by_digits.Goals as goal

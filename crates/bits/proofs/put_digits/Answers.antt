@@ -1,6 +1,5 @@
 -- `bits::put_digits` meets its contract: what is left to write, written to the bytes of now, gives what is asked. Assumes nothing.
 use mathlib.Core.Path.{◌≡◌, sym, ◌∙◌}
-use Prim.Native.Nat.{◌-◌}
 use native.Mathlib.Omega.{arith}
 use Rattle.bits.specs.Bits.{put_bits}
 use Rattle.bits.proofs.Laws.{put_bits_less, length-put_bit}

@@ -1,6 +1,6 @@
 -- `bits::put_digits` meets its contract: what is left to write, written to the bytes of now, gives what is asked. Assumes nothing.
 use mathlib.Core.Path.{◌≡◌}
-use Prim.Native.Nat.{◌-◌, ◌≤◌}
+use Prim.Native.Nat.{◌≤◌}
 use lib.ListN.{length}
 use Rattle.bits.specs.Bits.{put_bits}
 use Rattle.bits.proofs.put_digits.Given as goal

@@ -1,7 +1,7 @@
 -- `field_items::given::list_given` meets its contract: what stands in the array, and what is left, is the list. Assumes nothing.
 use mathlib.Core.Path.{◌≡◌}
 use mathlib.Core.List.{◌++◌}
-use Prim.Native.Nat.{◌+◌, ◌-◌, ◌*◌, ◌≤◌}
+use Prim.Native.Nat.{◌-◌, ◌*◌, ◌≤◌}
 use lib.ListN.{length, take}
 use Rattle.field_items.specs.Given.{numbers_from}
 use Rattle.field_items.proofs.given.list_given.Given as goal

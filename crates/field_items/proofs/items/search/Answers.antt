@@ -2,7 +2,6 @@
 use borrow.Author.Rules.{rules}
 use mathlib.Core.Path.{◌≡◌, sym, ◌∙◌}
 use native.Mathlib.Omega.{arith}
-use Prim.Native.Nat.{◌-◌}
 use lib.ListN.{length, drop_of_length-le}
 use Rattle.pairs.specs.Pairs.{find_in}
 use Rattle.field_items.specs.Items.{pairs_by}

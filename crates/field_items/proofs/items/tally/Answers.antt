@@ -2,7 +2,6 @@
 use borrow.Author.Rules.{rules}
 use mathlib.Core.Path.{◌≡◌}
 use native.Mathlib.Omega.{arith}
-use Prim.Native.Nat.{◌-◌}
 use lib.ListN.{length, drop_of_length-le}
 use Rattle.field_items.specs.Items.{tally_of}
 use Rattle.field_items.proofs.Laws.{tally_step}

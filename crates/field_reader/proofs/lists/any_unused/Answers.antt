@@ -1,6 +1,6 @@
 -- `field_reader::lists::any_unused` meets its contract: what the blocks from k on say is what all of them say. Assumes nothing.
 use mathlib.Core.Path.{◌≡◌, sym, ap, ◌∙◌}
-use Prim.Native.Nat.{◌+◌, ◌-◌, ◌*◌}
+use Prim.Native.Nat.{◌+◌, ◌*◌}
 use native.Mathlib.Omega.{arith}
 use Rattle.bits.specs.Bits.{bits_of}
 use Rattle.fields.specs.Lists.{block_unused}

@@ -1,7 +1,7 @@
 -- `field_reader::lists::entries` meets its contract: what stands in the array, and what is left, is the list. Assumes nothing.
 use mathlib.Core.Path.{◌≡◌}
 use mathlib.Core.List.{◌++◌}
-use Prim.Native.Nat.{◌+◌, ◌-◌, ◌≤◌}
+use Prim.Native.Nat.{◌-◌, ◌≤◌}
 use lib.ListN.{length, take, replicate}
 use Rattle.fields.specs.Table.{values_of}
 use Rattle.fields.specs.Lists.{entries_in}

@@ -1,7 +1,6 @@
 -- `field_writer::lists::put_entries` meets its contract: what is left to write, written to the bytes of now, gives what is asked. Assumes nothing.
 use borrow.Author.Rules.{rules}
 use mathlib.Core.Path.{◌≡◌, sym, ap, ◌∙◌}
-use Prim.Native.Nat.{◌-◌}
 use native.Mathlib.Omega.{arith}
 use mir.Syntax.{w32}
 use mir.Facts.{to_z-of_z}

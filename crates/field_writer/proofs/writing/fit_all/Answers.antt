@@ -1,7 +1,6 @@
 -- `field_writer::writing::fit_all` meets its contract: what the parts from i on say is what all of them say. Assumes nothing.
 use borrow.Author.Rules.{rules}
 use mathlib.Core.Path.{◌≡◌, sym, ◌∙◌}
-use Prim.Native.Nat.{◌-◌}
 use native.Mathlib.Omega.{arith}
 use lib.ListN.{length, drop_of_length-le}
 use Rattle.fields.specs.Writing.{fit_all}

@@ -1,7 +1,6 @@
 -- `field_writer::writing::put_parts` meets its contract: what is left to write, written to the bytes of now, gives what is asked. Assumes nothing.
 use borrow.Author.Rules.{rules}
 use mathlib.Core.Path.{◌≡◌, sym, ◌∙◌}
-use Prim.Native.Nat.{◌-◌}
 use native.Mathlib.Omega.{arith}
 use lib.ListN.{length, drop_of_length-le}
 use Rattle.bits.proofs.Laws.{length-put_bits}

@@ -1,6 +1,5 @@
 -- `field_writer::writing::put_text` meets its contract: what is left to write, written to the bytes of now, gives what is asked. Assumes nothing.
 use mathlib.Core.Path.{sym, ◌∙◌}
-use Prim.Native.Nat.{◌-◌}
 use native.Mathlib.Omega.{arith}
 use lib.ListN.{length}
 use Rattle.bits.proofs.Laws.{length-put_bits}

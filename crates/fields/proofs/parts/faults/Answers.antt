@@ -1,5 +1,5 @@
 -- `fields::parts::faults` meets its contract: what was seen before i or is found from i on is what all parts say. Assumes nothing.
-use Rattle.std.proofs.Common.{◌-◌, sym, ap, ◌∙◌, arith, rules}
+use Rattle.std.proofs.Common.{◌-◌, sym, ap, ◌∙◌, arith}
 use Rattle.fields.specs.declared.Faults.{Faults}
 use Rattle.fields.proofs.Values.{within_next, within_stop, within_none}
 use Rattle.fields.proofs.parts.faults.Goals as goal

@@ -1,5 +1,5 @@
 -- `fields::parts::faults` meets its contract: what was seen before i or is found from i on is what all parts say. Assumes nothing.
-use Rattle.std.proofs.Common.{◌≡◌, ◌-◌, ◌≤◌, ◌||◌, rules}
+use Rattle.std.proofs.Common.{◌≡◌, ◌-◌, ◌≤◌, ◌||◌}
 use Rattle.fields.specs.Steps.{fault_within}
 use Rattle.fields.proofs.parts.faults.Given as goal
 

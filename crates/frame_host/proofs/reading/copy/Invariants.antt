@@ -1,7 +1,7 @@
 -- `frame_host::reading::copy` meets its contract: the first i bytes are copied. Assumes nothing.
 use mathlib.Core.Path.{◌≡◌}
 use mathlib.Core.List.{List, ◌++◌}
-use Prim.Native.Nat.{ℕ, ◌+◌, ◌-◌, ◌≤◌}
+use Prim.Native.Nat.{ℕ, ◌-◌, ◌≤◌}
 use lib.ListN.{length, take, drop}
 use Rattle.frame_host.proofs.reading.copy.Given as goal
 

@@ -1,7 +1,7 @@
 -- `frames::check::check` meets its contract: the register is the definition's when i bits are fed. Assumes nothing.
 use mathlib.Core.Path.{◌≡◌, sym, ap, ◌∙◌}
 use mathlib.Core.List.{List}
-use Prim.Native.Nat.{ℕ, ◌-◌, ◌<◌}
+use Prim.Native.Nat.{ℕ, ◌<◌}
 use native.Mathlib.Omega.{arith}
 use Rattle.frames.specs.Steps.{register_at}
 use Rattle.frames.proofs.Bytewise.{register_lt, bit_on, check_is}

@@ -1,7 +1,7 @@
 -- `frames::check::fed_bytes` meets its contract: the register is the definition's when i bytes are fed. Assumes nothing.
 use mathlib.Core.Path.{refl, sym, ◌∙◌}
 use mathlib.Core.List.{List}
-use Prim.Native.Nat.{ℕ, ◌-◌, ◌*◌, ◌<◌}
+use Prim.Native.Nat.{ℕ, ◌*◌, ◌<◌}
 use native.Mathlib.Omega.{arith}
 use Rattle.frames.specs.Stream.{bits_from, number}
 use Rattle.frames.specs.Check.{feed}

@@ -1,6 +1,5 @@
 -- `frames::flag::past_flags` meets its contract: what lies behind the flags from p on lies behind those from the place on. Assumes nothing.
 use mathlib.Core.Path.{sym, ◌∙◌}
-use Prim.Native.Nat.{◌-◌}
 use native.Mathlib.Omega.{arith}
 use Rattle.frames.proofs.Flagged.{flag_room, past_none, past_one}
 use Rattle.frames.proofs.flag.past_flags.Goals as goal

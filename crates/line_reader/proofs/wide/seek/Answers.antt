@@ -1,5 +1,4 @@
 -- `line_reader::wide::seek` meets its contract: up to the word at i the search did not stop. Assumes nothing.
-use Prim.Native.Nat.{◌-◌}
 use Rattle.line_reader.proofs.Searches.{goes_on, stops_there}
 use native.Mathlib.Omega.{arith}
 use Rattle.line_reader.proofs.wide.seek.Goals as goal

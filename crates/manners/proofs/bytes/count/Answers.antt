@@ -1,5 +1,4 @@
 -- `manners::bytes::count` meets its contract: each outcome brings its breaches. Assumes nothing.
-use Prim.Native.Nat.{◌-◌}
 use Rattle.lines.proofs.ByteWords.{words_length}
 use Rattle.manners.proofs.Gathered.{byte_step, counted_more, counted_all}
 use native.Mathlib.Omega.{arith}

@@ -1,5 +1,4 @@
 -- `manners::bytes::fill` meets its contract: each outcome brings its breaches, and they are stored behind those before. Assumes nothing.
-use Prim.Native.Nat.{◌-◌}
 use Rattle.lines.specs.Bytes.{words_in}
 use Rattle.lines.proofs.ByteWords.{words_length}
 use Rattle.manners.proofs.Stored.{as_bytes, more_found, full}

@@ -1,5 +1,4 @@
 -- `manners::wide::count` meets its contract: each outcome brings its breaches. Assumes nothing.
-use Prim.Native.Nat.{◌-◌}
 use Rattle.manners.proofs.Gathered.{step, counted_more, counted_all}
 use native.Mathlib.Omega.{arith}
 use Rattle.manners.proofs.wide.count.Goals as goal

@@ -1,5 +1,4 @@
 -- `manners::wide::fill` meets its contract: each outcome brings its breaches, and they are stored behind those before. Assumes nothing.
-use Prim.Native.Nat.{◌-◌}
 use Rattle.manners.proofs.Stored.{as_numbers, more_found, full}
 use Rattle.manners.proofs.Gathered.{step, none_from, among_left}
 use native.Mathlib.Omega.{arith}
