@@ -21,7 +21,7 @@ pub fn files(folder: &str, suffix: &str) -> Vec<File> {
     found
 }
 
-// LineTooLong and aimsCode as LINE_TOO_LONG and AIMS_CODE.
+// LineTooLong and aims_code as LINE_TOO_LONG and AIMS_CODE.
 pub fn upper(name: &str) -> String {
     let mut out = String::new();
     for (i, c) in name.chars().enumerate() {
@@ -71,8 +71,8 @@ pub fn single(specs: &[File], name: &str) -> u32 {
 // The numbers of the kinds by the header's names: each report's, a frame's, and the two that are neither's. These stand in the crate of the
 // lines' calls and in that of the frames', and are the same in both.
 pub fn kinds(specs: &[File]) -> Vec<(String, u32)> {
-    let mut found = numbered(specs.iter(), "kindNumber K.");
-    for (name, definition) in [("Refused", "refusedKind"), ("End", "endKind"), ("Frame", "frameKind")] {
+    let mut found = numbered(specs.iter(), "kind_number K.");
+    for (name, definition) in [("Refused", "refused_kind"), ("End", "end_kind"), ("Frame", "frame_kind")] {
         found.push((name.into(), single(specs, definition)));
     }
     found

@@ -45,14 +45,14 @@ fn limits(page: &[Table], found: &mut Findings) {
         let number = body(&word, name).and_then(|body| body.trim().parse().ok());
         there.insert(name.into(), number.unwrap_or_else(|| panic!("{WORD}: {name} is no number")));
     }
-    for (name, constant) in [("most", "MOST: usize"), ("mostBytes", "MOST_BYTES: usize"), ("lastLink", "LAST_LINK: u32")] {
+    for (name, constant) in [("most", "MOST: usize"), ("most_bytes", "MOST_BYTES: usize"), ("last_link", "LAST_LINK: u32")] {
         let text = line.split_once(&format!("pub const {constant} = ")).and_then(|(_, text)| text.split(';').next());
         there.insert(name.into(), text.and_then(|text| text.parse().ok()).unwrap_or_else(|| panic!("{LINE}: {constant} is no number")));
     }
     found.both_ways("limit", &table(page, "The line", "limit").numbers("limit", "number"), "a definition", &there);
     // the conditions of the refusals say them again
     let refusals = table(page, "Refusals of lines", "given when");
-    for (refusal, name) in [("LineTooLong", "most"), ("LineTooLong", "mostBytes"), ("WordTooWide", "largest"), ("NoSuchLink", "lastLink")] {
+    for (refusal, name) in [("LineTooLong", "most"), ("LineTooLong", "most_bytes"), ("WordTooWide", "largest"), ("NoSuchLink", "last_link")] {
         let (said, limit) = (plain(refusals.at("name", refusal, "given when")), there[name].to_string());
         found.that(words(&said).contains(&&limit[..]), || format!("refusal {refusal}: its condition does not say {limit}"));
     }

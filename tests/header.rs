@@ -24,30 +24,35 @@ fn compare<T: PartialEq + std::fmt::Debug>(what: &str, defined: &BTreeMap<String
 
 // ---- numbers
 
-// Adds numbers by the header's names; no name comes twice.
+// Adds numbers by the header's names; no name comes twice. Two definitions have a longer name than the field that they number.
 fn add(to: &mut Numbers, from: Vec<(String, u32)>, prefix: &str) {
     for (name, number) in from {
-        let name = format!("{prefix}_{}", upper(&name));
+        let name = match &name[..] {
+            "false_target_flag" => "false_target",
+            "mode_c_of" => "mode_c",
+            _ => &name,
+        };
+        let name = format!("{prefix}_{}", upper(name));
         assert!(to.insert(name.clone(), number).is_none(), "{name} is defined twice");
     }
 }
 
-// Adds the types of the lines "numbersOf (F.NAME ..) = eleven CODE ..", and the relay's, which is no record's first number.
+// Adds the types of the lines "numbers_of (F.NAME ..) = eleven CODE ..", and the relay's, which is no record's first number.
 fn add_types(to: &mut Numbers, specs: &[File]) {
     for line in specs.iter().flat_map(|file| file.2.lines()) {
-        if let Some((left, right)) = line.strip_prefix("numbersOf (F.").and_then(|rest| rest.split_once(") = eleven ")) {
+        if let Some((left, right)) = line.strip_prefix("numbers_of (F.").and_then(|rest| rest.split_once(") = eleven ")) {
             let name = format!("TYPE_{}", upper(left.split(' ').next().unwrap()));
             let code = number(right.split(' ').next().unwrap()).unwrap();
             assert!(to.insert(name.clone(), code).is_none(), "{name} is defined twice");
         }
     }
-    let relay = specs.iter().flat_map(|file| file.2.lines()).find_map(|line| line.strip_prefix("outerOf (Relay x f) = "));
+    let relay = specs.iter().flat_map(|file| file.2.lines()).find_map(|line| line.strip_prefix("outer_of (Relay x f) = "));
     to.insert("TYPE_RELAY".into(), number(relay.expect("the relay's type")).unwrap());
 }
 
-// What a call of the index has done: the number of each line "enteredDone = NUMBER" and so on.
+// What a call of the index has done: the number of each line "entered_done = NUMBER" and so on.
 fn done(specs: &[File]) -> Vec<(String, u32)> {
-    ["Entered", "Replaced", "Left", "Found", "Missing"].map(|name| (name.into(), single(specs, &format!("{}Done", name.to_lowercase())))).into()
+    ["Entered", "Replaced", "Left", "Found", "Missing"].map(|name| (name.into(), single(specs, &format!("{}_done", name.to_lowercase())))).into()
 }
 
 // No two of the names that are asked for have the same number.
@@ -66,17 +71,17 @@ fn numbers(header: &str) {
     let items = |fields: bool| specs.iter().filter(move |file| file.1 == "Items.antt" && file.0.starts_with("field") == fields);
     let mut expected = BTreeMap::new();
     add(&mut expected, kinds(&specs), "KIND");
-    add(&mut expected, numbered(specs.iter(), "formNumber F."), "FORM");
-    add(&mut expected, numbered(specs.iter(), "lineNumber L."), "REFUSAL");
-    add(&mut expected, numbered(specs.iter(), "fieldNumber F."), "FIELD_REFUSAL");
-    add(&mut expected, numbered(specs.iter(), "frameNumber R."), "FRAME_REFUSAL");
-    add(&mut expected, numbered(specs.iter(), "indexNumber R."), "INDEX_REFUSAL");
+    add(&mut expected, numbered(specs.iter(), "form_number F."), "FORM");
+    add(&mut expected, numbered(specs.iter(), "line_number L."), "REFUSAL");
+    add(&mut expected, numbered(specs.iter(), "field_number F."), "FIELD_REFUSAL");
+    add(&mut expected, numbered(specs.iter(), "frame_number R."), "FRAME_REFUSAL");
+    add(&mut expected, numbered(specs.iter(), "index_number R."), "INDEX_REFUSAL");
     add(&mut expected, done(&specs), "INDEX");
-    add(&mut expected, numbered(specs.iter(), "ruleNumber R."), "BREACH");
-    add(&mut expected, numbered(specs.iter(), "mannersNumber M."), "MANNERS_REFUSAL");
-    expected.insert("MANNERS_LISTED".into(), single(&specs, "listedDone"));
-    expected.insert("MOST_BREACHES".into(), single(&specs, "mostBreaches"));
-    expected.insert("LAST_LINK".into(), single(&specs, "lastLink"));
+    add(&mut expected, numbered(specs.iter(), "rule_number R."), "BREACH");
+    add(&mut expected, numbered(specs.iter(), "manners_number M."), "MANNERS_REFUSAL");
+    expected.insert("MANNERS_LISTED".into(), single(&specs, "listed_done"));
+    expected.insert("MOST_BREACHES".into(), single(&specs, "most_breaches"));
+    expected.insert("LAST_LINK".into(), single(&specs, "last_link"));
     expected.insert("VERSION".into(), single(&specs, "version"));
     add(&mut expected, numbered(items(false), ""), "ITEM");
     add(&mut expected, numbered(items(true), ""), "FIELD_ITEM");
@@ -143,12 +148,16 @@ fn c_struct(name: &str) -> String {
 // The fields of a struct as C has them, in their order, by the struct's name in C.
 type Structs = BTreeMap<String, Vec<String>>;
 
-// Every `#[repr(C)] pub struct NAME { pub NAME: TYPE, .. }` of the crates.
+// Every `#[repr(C)] pub struct NAME { pub NAME: TYPE, .. }` of the crates; other attributes may stand before `pub`.
 fn defined_structs() -> Structs {
     let mut structs = Structs::new();
     for (krate, file, text) in files("src", ".rt") {
         for part in text.split("#[repr(C)]").skip(1) {
-            let rest = part.trim_start().strip_prefix("pub struct ").unwrap_or_else(|| panic!("{krate}/src/{file}: #[repr(C)] before no struct"));
+            let mut rest = part.trim_start();
+            while rest.starts_with("#[") {
+                rest = rest.split_once('\n').map_or("", |(_, below)| below);
+            }
+            let rest = rest.strip_prefix("pub struct ").unwrap_or_else(|| panic!("{krate}/src/{file}: #[repr(C)] before no struct"));
             let (name, rest) = rest.split_once('{').unwrap();
             let (fields, _) = rest.split_once('}').unwrap();
             let fields = fields.split(',').map(str::trim).filter(|field| !field.is_empty());
@@ -210,7 +219,7 @@ fn defined() -> Calls {
         let parts: Vec<&str> = text.split("pub extern \"C\" fn ").collect();
         for pair in parts.windows(2) {
             let (name, rest) = pair[1].split_once('(').unwrap();
-            assert!(pair[0].trim_end().ends_with("#[no_mangle]"), "{name} of {krate}/src/{file} is not #[no_mangle]");
+            assert!(pair[0].trim_end().ends_with("#[unsafe(no_mangle)]"), "{name} of {krate}/src/{file} is not #[unsafe(no_mangle)]");
             let (arguments, rest) = rest.split_once(')').unwrap();
             let arguments: Vec<String> = arguments
                 .split(',')

@@ -124,10 +124,10 @@ fn printed() -> BTreeMap<String, (u32, &'static str, Size, Vec<String>)> {
 fn rule_of(name: &str) -> (&'static str, u32) {
     match name {
         "any" => ("none", 0),
-        "notZero" => ("0", 1),
+        "not_zero" => ("0", 1),
         "one" => ("all but 1", 1),
-        "upTo4" => ("5 to 7", 0),
-        "upTo5" => ("6 and 7", 0),
+        "up_to4" => ("5 to 7", 0),
+        "up_to5" => ("6 and 7", 0),
         "advisory" => ("those that end in 111", 0),
         _ => panic!("{TYPES} has a rule that the page has no words for: {name}"),
     }

@@ -47,11 +47,11 @@ fn orders([line, field, frame, index, manners]: [&[(String, u32)]; 5]) -> BTreeM
 pub fn refusals(page: &[Table], specs: &[File], header: &Numbers, found: &mut Findings) {
     let mut ordered = Vec::new();
     for (heading, head, prefix, cases) in [
-        ("7. Refusals of lines", "lineNumber L.", "REFUSAL_", cases(REFUSALS, "LineRefusal")),
-        ("9. Refusals of link data fields", "fieldNumber F.", "FIELD_REFUSAL_", cases(REFUSALS, "FieldRefusal")),
-        ("11. Refusals of frames", "frameNumber R.", "FRAME_REFUSAL_", cases(FRAMES, "FrameRefusal")),
-        ("12. The index", "indexNumber R.", "INDEX_REFUSAL_", cases(INDEX, "IndexRefusal")),
-        ("13. Manners", "mannersNumber M.", "MANNERS_REFUSAL_", cases(MANNERS, "MannersRefusal")),
+        ("7. Refusals of lines", "line_number L.", "REFUSAL_", cases(REFUSALS, "LineRefusal")),
+        ("9. Refusals of link data fields", "field_number F.", "FIELD_REFUSAL_", cases(REFUSALS, "FieldRefusal")),
+        ("11. Refusals of frames", "frame_number R.", "FRAME_REFUSAL_", cases(FRAMES, "FrameRefusal")),
+        ("12. The index", "index_number R.", "INDEX_REFUSAL_", cases(INDEX, "IndexRefusal")),
+        ("13. Manners", "manners_number M.", "MANNERS_REFUSAL_", cases(MANNERS, "MannersRefusal")),
     ] {
         let table = table(page, heading, "given when");
         let here = table.numbers("name", "number");
@@ -113,7 +113,7 @@ fn conditions(page: &[Table], found: &mut Findings) {
             sentence = sentence + " " + text;
             continue;
         }
-        for (head, heading) in [("lineNumber L.", "Refusals of lines"), ("fieldNumber F.", "Refusals of link data fields")] {
+        for (head, heading) in [("line_number L.", "Refusals of lines"), ("field_number F.", "Refusals of link data fields")] {
             let table = table(page, heading, "given when");
             let name = line.strip_prefix(head).and_then(|rest| rest.split(' ').next());
             if let Some(row) = name.and_then(|name| table.rows.iter().find(|row| plain(table.cell(row, "name")) == name)) {

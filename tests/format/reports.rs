@@ -115,7 +115,7 @@ fn records(text: &str) -> BTreeMap<String, Record> {
     let mut inside: Option<String> = None;
     for line in text.lines() {
         if let Some(head) = line.strip_suffix(" = record {") {
-            inside = head.split(' ').next().unwrap().strip_suffix("Of").map(str::to_string);
+            inside = head.split(' ').next().unwrap().strip_suffix("_of").map(str::to_string);
             found.extend(inside.clone().map(|name| (name, Record::default())));
         } else if line.starts_with('}') {
             inside = None;
@@ -133,7 +133,7 @@ fn records(text: &str) -> BTreeMap<String, Record> {
 
 // The forms of the height: what is read for each, and the bit that is asked before it on its line.
 fn heights(text: &str) -> BTreeMap<String, (Vec<String>, Vec<Vec<Span>>)> {
-    let body = body(text, "heightOf").unwrap_or_else(|| panic!("{RECORDS} has no heightOf"));
+    let body = body(text, "height_of").unwrap_or_else(|| panic!("{RECORDS} has no height_of"));
     let line = |line: &str| {
         let (before, after) = line.split_once("H.")?;
         Some((words(after)[0].to_lowercase(), (reads(after).iter().map(|spans| shown(spans)).collect(), reads(before))))
@@ -152,10 +152,10 @@ fn height_members(text: &str, height: &str) -> Vec<(String, String)> {
     }
 }
 
-// CoarseRange as coarseRange; what is no type of a weight has none.
+// CoarseRange as coarse_range; what is no type of a weight has none.
 fn weight_of(of: &str) -> String {
     let counted = of.starts_with(char::is_uppercase) && of != "Height";
-    if counted { of[..1].to_lowercase() + &of[1..] } else { String::new() }
+    if counted { upper(of).to_lowercase() } else { String::new() }
 }
 
 // The fields of a layout: names, bits, weights. Answers the last bit that its definition reads.
@@ -163,7 +163,7 @@ fn fields(layout: &Layout, records: &BTreeMap<String, Record>, found: &mut Findi
     let heights = heights(&code(RECORDS));
     let declared = code(REPORTS);
     let kind = layout.kind.split('-').next().unwrap().to_lowercase();
-    let record = records.get(&kind).unwrap_or_else(|| panic!("{RECORDS} has no {kind}Of for the layout {}", layout.name));
+    let record = records.get(&kind).unwrap_or_else(|| panic!("{RECORDS} has no {kind}_of for the layout {}", layout.name));
     let mut there = record.fields.clone();
     let mut types = members(&declared, &format!("pub struct {}{} {{", kind[..1].to_uppercase(), &kind[1..]));
     if !layout.height.is_empty() {
@@ -215,26 +215,25 @@ fn told(layout: &Layout, words: u32, specs: &[File]) -> BTreeMap<String, String>
     let mut one = |bits: Vec<Span>, digit: bool| told.push((bits, if digit { "1" } else { "0" }.to_string()));
     let mut patterns = Vec::new();
     if words == 4 {
-        let name = layout.kind[..1].to_string() + &layout.kind[1..].to_lowercase();
-        patterns.extend(["isFour".to_string(), format!("is{name}")]);
-        if name == "Rtqc" {
-            one(bit_of("isRtqc"), true);
+        patterns.extend(["is_four".to_string(), format!("is_{}", layout.kind.to_lowercase())]);
+        if layout.kind == "RTQC" {
+            one(bit_of("is_rtqc"), true);
         }
     } else {
         let (first, second) = layout.kind.split_once('-').unwrap_or((&layout.kind, ""));
-        one(bit_of("isDabs"), first == "DABS");
+        one(bit_of("is_dabs"), first == "DABS");
         let radar = match (first, second) {
             ("DABS" | "ATCRBS", "") => None,
             ("DABS" | "ATCRBS", radar) => Some(radar.to_string()),
             (radar, _) => Some(format!("{radar} search")),
         };
-        one(bit_of("radarCode"), radar.is_some());
+        one(bit_of("radar_code"), radar.is_some());
         if radar.is_none() {
             let altitude = heights(&code(RECORDS)).remove("altitude").unwrap_or_else(|| panic!("{RECORDS}: no altitude")).1;
             one(altitude[0].clone(), layout.height == "altitude");
         }
-        let name = |radar: String| format!("is{}{}", &radar[..1], radar[1..].to_lowercase().replace(" search", "Search"));
-        patterns.push("isSeven".to_string());
+        let name = |radar: String| format!("is_{}", radar.to_lowercase().replace(' ', "_"));
+        patterns.push("is_seven".to_string());
         patterns.extend(radar.map(name));
     }
     told.extend(patterns.iter().map(|name| pattern(specs, name)));
@@ -284,7 +283,7 @@ fn forms(page: &[Table], specs: &[File], header: &Numbers, found: &mut Findings)
     let table = table(page, "The forms of the altitude", "number in C");
     let first = |row: &[String]| table.cell(row, "number in C").split(',').next().unwrap().parse::<u32>().expect("a number");
     let here: Numbers = table.rows.iter().map(|row| (plain(table.cell(row, "form")), first(row))).collect();
-    let there: Numbers = numbered(specs.iter(), "formNumber F.").into_iter().collect();
+    let there: Numbers = numbered(specs.iter(), "form_number F.").into_iter().collect();
     found.both_ways("form of the altitude", &here, ALTITUDE, &there);
     let upper_names = here.iter().map(|(name, number)| (format!("FORM_{}", upper(name)), *number)).collect();
     let in_header = header.iter().filter(|(name, _)| name.starts_with("FORM_")).map(|(name, number)| (name.clone(), *number)).collect();

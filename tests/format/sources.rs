@@ -39,7 +39,7 @@ pub fn body(text: &str, name: &str) -> Option<String> {
     Some(lines.take_while(|line| !line.trim().is_empty()).fold(first, |body, line| body + "\n" + line))
 }
 
-// What "bit ws a", "bits ws a b" and "bitsThen ws a b c d" read, in their order.
+// What "bit ws a", "bits ws a b" and "bits_then ws a b c d" read, in their order.
 pub fn reads(text: &str) -> Vec<Vec<Span>> {
     let words = words(text);
     let at = |i: usize| words.get(i).and_then(|word| word.parse::<u32>().ok()).unwrap_or_else(|| panic!("no bit number where one is read: {text}"));
@@ -48,7 +48,7 @@ pub fn reads(text: &str) -> Vec<Vec<Span>> {
         match (words[i], words.get(i + 1)) {
             ("bit", Some(&"ws")) => found.push(vec![(at(i + 2), at(i + 2))]),
             ("bits", Some(&"ws")) => found.push(vec![(at(i + 2), at(i + 3))]),
-            ("bitsThen", Some(&"ws")) => found.push(vec![(at(i + 2), at(i + 3)), (at(i + 4), at(i + 5))]),
+            ("bits_then", Some(&"ws")) => found.push(vec![(at(i + 2), at(i + 3)), (at(i + 4), at(i + 5))]),
             _ => (),
         }
     }
