@@ -24,11 +24,12 @@ fn compare<T: PartialEq + std::fmt::Debug>(what: &str, defined: &BTreeMap<String
 
 // ---- numbers
 
-// Adds numbers by the header's names; no name comes twice. Two definitions have a longer name than the field that they number.
+// Adds numbers by the header's names; no name comes twice. Three definitions have a longer name than the header has for what they number.
 fn add(to: &mut Numbers, from: Vec<(String, u32)>, prefix: &str) {
     for (name, number) in from {
         let name = match &name[..] {
             "false_target_flag" => "false_target",
+            "ground_traffic" => "ground",
             "mode_c_of" => "mode_c",
             _ => &name,
         };
