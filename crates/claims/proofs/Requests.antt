@@ -5,7 +5,7 @@ use Rattle.words.proofs.Claims as words
 use Rattle.reports.proofs.Altitudes as altitudes
 use Rattle.lines.specs.declared.Received.{Received}
 use Rattle.lines.proofs.Linked as linked
-use Rattle.lines.proofs.Refused as line_Refused
+use Rattle.lines.proofs.Refused as line_refused
 use Rattle.frames.proofs.Back as back
 use Rattle.frames.proofs.Checked as checked
 use Rattle.frames.proofs.Ends as ends
@@ -253,8 +253,8 @@ link_refusal : LinkRefusal
 link_refusal = record {
   exactly = linked.no_such_link_exactly;
   gives = linked.no_such_link_gives;
-  rows = line_Refused.reader_refuses;
-  byte_rows = line_Refused.byte_reader_refuses;
+  rows = line_refused.reader_refuses;
+  byte_rows = line_refused.byte_reader_refuses;
   thirteen = refl;
   numbers = numbers_differ;
   none_is_0 = no_number_is_zero;

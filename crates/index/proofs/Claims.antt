@@ -25,7 +25,7 @@ use Rattle.reports.specs.Forms.{is_seven, is_search, is_strobe, is_status, is_ma
 use Rattle.reports.specs.Records.{search_of, strobe_of, status_of, map_of, rtqc_of, dabs_of, mtd_of, rdas_of, atcrbs_of, height_of, four_of, seven_of, report_of}
 use Rattle.reports.specs.Runs.{table_of, is_accepted}
 use Rattle.lines.specs.declared.Outcome.{Outcome}
-use Rattle.lines.specs.Line.{most as mostWords, end_of, outcomes}
+use Rattle.lines.specs.Line.{most as most_words, end_of, outcomes}
 use Rattle.lines.specs.Stretches.{Run, runs}
 use Rattle.lines.specs.Claims.{alone}
 use Rattle.lines.proofs.Runs.{All, all_runs}
@@ -386,7 +386,7 @@ module _ (answer : List ℕ → RunAnswer) (scan : ℕ) where
   all_bring n (r ∷ rs) h = λ i. h.0 i ∷ all_bring n rs h.1 i
 
   -- so do the outcomes of a line; the end brings number 0
-  line_brings : (line : List ℕ) → length line ≤ mostWords
+  line_brings : (line : List ℕ) → length line ≤ most_words
       → map brings (outcomes answer line) ≡ reports_of answer scan line ++ (brings (end_of (length line)) ∷ [])
   line_brings line m =
       ap (map brings) (one_each answer line m)

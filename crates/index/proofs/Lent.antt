@@ -20,7 +20,7 @@ use Rattle.index.specs.declared.judging.Looked.{Looked}
 use Rattle.index.specs.declared.judging.Looked.TheVariants as L
 use Rattle.index.specs.Table.{most, numbers_of, holds, place_of, used_after_unused, held_twice}
 use Rattle.index.specs.Indexing.{indexed, left_as, found}
-use Rattle.index.specs.Steps.{blank, onto, bounded as boundedOf, looked_in, indexed_by, judged, spot_of, nowhere, found_by, sought}
+use Rattle.index.specs.Steps.{blank, onto, bounded as bounded_of, looked_in, indexed_by, judged, spot_of, nowhere, found_by, sought}
 use Rattle.index.proofs.Looks.{held_place}
 
 -- ---- a store
@@ -60,7 +60,7 @@ numbers_none ns = refl
 -- ---- what is decided of the array is what is answered of the table
 
 -- the entries of a table of 512 and below
-bounded_all : (n : ℕ) → n ≤ 512 → boundedOf n ≡ n
+bounded_all : (n : ℕ) → n ≤ 512 → bounded_of n ≡ n
 bounded_all n h =
     by_test (ltb n 512)
     (λ l. rw l)
@@ -78,7 +78,7 @@ onto_front (x ∷ xs) [] h = absurd (omega arith)
 onto_front (x ∷ xs) (y ∷ ys) h = ap (λ (l : List ℕ). x ∷ l) (onto_front xs ys (omega arith))
 
 -- the array's front has the numbers of the table
-front_is : (ys : List Entry) → length ys ≤ 512 → take (length ys) (onto (numbers_of (take (boundedOf (length ys)) ys)) (replicate 512 0)) ≡ numbers_of ys
+front_is : (ys : List Entry) → length ys ≤ 512 → take (length ys) (onto (numbers_of (take (bounded_of (length ys)) ys)) (replicate 512 0)) ≡ numbers_of ys
 front_is ys h =
     rw
     (bounded_all (length ys) h, take-length ys, ← numbers_length ys)
@@ -115,7 +115,7 @@ looks_broken f ns x = go (used_after_unused ns) (held_twice ns) (L.Sound (place_
 
 -- the same of any answer that goes by a look, over 512 entries and below
 of_table : {A : Type 0} (broken : A) (f : Looked → ℕ → A) (ys : List Entry) (x : ℕ)
-    → cond (ltb most (length ys)) broken (f (looked_in (take (length ys) (onto (numbers_of (take (boundedOf (length ys)) ys)) (replicate 512 0))) x) (length ys))
+    → cond (ltb most (length ys)) broken (f (looked_in (take (length ys) (onto (numbers_of (take (bounded_of (length ys)) ys)) (replicate 512 0))) x) (length ys))
     ≡ cond (ltb most (length ys)) broken (f (looked_in (numbers_of ys) x) (length (numbers_of ys)))
 of_table broken f ys x =
     by_test (ltb most (length ys))
@@ -123,14 +123,14 @@ of_table broken f ys x =
     (λ g. rw g (rw (front_is ys (ltb-false most (length ys) g), numbers_length ys)))
 
 module _ (ys : List Entry) (x : ℕ) where
-  pub answered : judged (onto (numbers_of (take (boundedOf (length ys)) ys)) (replicate 512 0)) (length ys) x ≡ indexed ys x
+  pub answered : judged (onto (numbers_of (take (bounded_of (length ys)) ys)) (replicate 512 0)) (length ys) x ≡ indexed ys x
   unfolding judged indexed
   answered =
       let ns = numbers_of ys in
       of_table (I.Refused TableBroken) (λ l n. indexed_by l n x) ys x
       ∙ ap (cond (ltb most (length ys)) (I.Refused TableBroken)) (looks_broken (λ l. indexed_by l (length ns) x) ns x ∙ rw (held_is x ns, held_is 0 ns, reordered (holds x ns) (holds 0 ns) (I.Replaced (place_of x ns)) (I.Entered (place_of 0 ns)) (I.Refused TableFull)))
 
-  pub sought_is : sought (onto (numbers_of (take (boundedOf (length ys)) ys)) (replicate 512 0)) (length ys) x ≡ found ys x
+  pub sought_is : sought (onto (numbers_of (take (bounded_of (length ys)) ys)) (replicate 512 0)) (length ys) x ≡ found ys x
   unfolding sought found
   sought_is =
       let ns = numbers_of ys in

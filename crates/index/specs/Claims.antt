@@ -8,7 +8,7 @@ use Rattle.reports.specs.declared.RunAnswer.TheVariants as A
 use Rattle.reports.specs.Altitude.{AltitudeForm}
 use Rattle.reports.specs.Forms.{is_seven}
 use Rattle.reports.specs.Runs.{read_run}
-use Rattle.lines.specs.Line.{most as mostWords, outcomes}
+use Rattle.lines.specs.Line.{most as most_words, outcomes}
 use Rattle.index.specs.declared.Entry.{Entry}
 use Rattle.index.specs.declared.Indexed.TheVariants as I
 use Rattle.index.specs.declared.Found.TheVariants as F
@@ -148,7 +148,7 @@ FoundIsLatest =
 -- So it goes on line after line, from a table of unused entries (Begins)
 abbrev pub OverALine : Type 0
 OverALine =
-    (answer : List ℕ → RunAnswer) (line : List ℕ) (scan : ℕ) (seen first now : List Entry) → length line ≤ mostWords → length first ≤ most →
+    (answer : List ℕ → RunAnswer) (line : List ℕ) (scan : ℕ) (seen first now : List Entry) → length line ≤ most_words → length first ≤ most →
     HoldsIndex seen first now →
     HoldsIndex
     (seen ++ not_refused now (reports_of answer scan line))

@@ -187,22 +187,22 @@ none_left line = ap (runs_from (length line) []) (drop-length line)
 
 pub step_by_step : StepByStep
 unfolding gathered
-step_by_step answer line m X ofRun ofOutcome none same p h =
+step_by_step answer line m X of_run of_outcome none same p h =
     ⊎_elim
     (λ e.
     let o = e.0 in
     let after : (read_by answer line p).after ≡ length line = ap (λ (x : Outcome). x.after) o in
-    ap (gathered ofRun) e.1
-    ∙ sym (ap (gathered ofRun) (none_left line))
-    ∙ ap (λ (q : ℕ). gathered ofRun (runs_at line q)) (sym after)
-    ∙ ap (λ (l : List X). l ++ gathered ofRun (runs_at line (read_by answer line p).after)) (sym (ap ofOutcome o ∙ none)))
+    ap (gathered of_run) e.1
+    ∙ sym (ap (gathered of_run) (none_left line))
+    ∙ ap (λ (q : ℕ). gathered of_run (runs_at line q)) (sym after)
+    ∙ ap (λ (l : List X). l ++ gathered of_run (runs_at line (read_by answer line p).after)) (sym (ap of_outcome o ∙ none)))
     (λ e.
     let r = e.0 in
     let o = e.1.outcome in
     let after : (read_by answer line p).after ≡ r.place + length r.words = ap (λ (x : Outcome). x.after) o in
-    ap (gathered ofRun) e.2
-    ∙ ap (λ (q : ℕ). ofRun r ++ gathered ofRun (runs_at line q)) (sym after)
-    ∙ ap (λ (l : List X). l ++ gathered ofRun (runs_at line (read_by answer line p).after)) (sym (ap ofOutcome o ∙ same r)))
+    ap (gathered of_run) e.2
+    ∙ ap (λ (q : ℕ). of_run r ++ gathered of_run (runs_at line q)) (sym after)
+    ∙ ap (λ (l : List X). l ++ gathered of_run (runs_at line (read_by answer line p).after)) (sym (ap of_outcome o ∙ same r)))
     (next_run answer line p m h)
 
 -- every outcome but the end goes on

@@ -173,14 +173,14 @@ AlongTheWalk =
     ((place : ℕ) (r : Run) → Meets answer line place r → let behind = r.place + length r.words in P behind (runs_at line behind) → P place (r ∷ runs_at line behind)) →
     (place : ℕ) → place ≤ length line → P place (runs_at line place)
 
--- the step: what the runs from a place on bring is what the outcome there brings, and behind it what the runs from the place after it bring. `ofRun`
--- says what a run brings; `ofOutcome` says the same from its outcome; the end brings nothing
+-- the step: what the runs from a place on bring is what the outcome there brings, and behind it what the runs from the place after it bring. `of_run`
+-- says what a run brings; `of_outcome` says the same from its outcome; the end brings nothing
 abbrev pub StepByStep : Type 1
 StepByStep =
-    (answer : Answer) (line : List ℕ) → length line ≤ most → (X : Type 0) (ofRun : Run → List X) (ofOutcome : Outcome → List X) →
-    ofOutcome (end_of (length line)) ≡ [] → ((r : Run) → ofOutcome (outcome_of_run answer r) ≡ ofRun r) →
+    (answer : Answer) (line : List ℕ) → length line ≤ most → (X : Type 0) (of_run : Run → List X) (of_outcome : Outcome → List X) →
+    of_outcome (end_of (length line)) ≡ [] → ((r : Run) → of_outcome (outcome_of_run answer r) ≡ of_run r) →
     (place : ℕ) → place ≤ length line →
-    gathered ofRun (runs_at line place) ≡ ofOutcome (read_by answer line place) ++ gathered ofRun (runs_at line (read_by answer line place).after)
+    gathered of_run (runs_at line place) ≡ of_outcome (read_by answer line place) ++ gathered of_run (runs_at line (read_by answer line place).after)
 
 -- ---- demand 3: one outcome for each stretch (proofs/Outcomes.antt)
 

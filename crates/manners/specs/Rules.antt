@@ -30,8 +30,8 @@ abbrev pub relay_without_mode_c : List ℕ → Bool
 relay_without_mode_c ws = all (is_dabs ws ∷ bit ws 47 ∷ not (bit ws 6) ∷ [])
 
 -- 3: an ATCRBS report (bit 4 zero) with bit 6 one, bit 12 zero and altitude field all zeros. Bit 6 must be zero for a code of all zeros (4.2.2)
-abbrev pub mode_cAll_zeros : List ℕ → Bool
-mode_cAll_zeros ws = all (is_seven ws ∷ not (bit ws 4) ∷ bit ws 6 ∷ not (bit ws 12) ∷ eqb (bits ws 79 90) 0 ∷ [])
+abbrev pub mode_c_all_zeros : List ℕ → Bool
+mode_c_all_zeros ws = all (is_seven ws ∷ not (bit ws 4) ∷ bit ws 6 ∷ not (bit ws 12) ∷ eqb (bits ws 79 90) 0 ∷ [])
 
 -- 4: a Map whose stop (bits 40-50) is below its start (bits 14-24). Equal start and stop is valid. Document 02 has this rule; 004 has the two fields
 -- alone (Table 4-2)
@@ -42,7 +42,7 @@ map_stop_below_start ws = all (is_map ws ∷ ltb (bits ws 40 50) (bits ws 14 24)
 abbrev pub broken : Rule → List ℕ → Bool
 broken R.SubstitutionMode3a ws = substitution_mode3a ws
 broken R.RelayWithoutModeC ws = relay_without_mode_c ws
-broken R.ModeCAllZeros ws = mode_cAll_zeros ws
+broken R.ModeCAllZeros ws = mode_c_all_zeros ws
 broken R.MapStopBelowStart ws = map_stop_below_start ws
 
 -- ---- over the record
