@@ -157,13 +157,13 @@ sum_back (x ∷ xs) [] e = absurd (omega arith)
 sum_back (x ∷ xs) (y ∷ ys) e = cc (xor_back x y, sum_back xs ys (omega arith))
 
 -- the sum of two bits that stand at the same place
-get_d_sum : (xs ys : List Bool) (i : ℕ) → length xs ≡ length ys → get_or (sum xs ys) i false ≡ xor (get_or xs i false) (get_or ys i false)
+get_or_sum : (xs ys : List Bool) (i : ℕ) → length xs ≡ length ys → get_or (sum xs ys) i false ≡ xor (get_or xs i false) (get_or ys i false)
 unfolding sum xor
-get_d_sum [] [] i e = refl
-get_d_sum [] (y ∷ ys) i e = absurd (omega arith)
-get_d_sum (x ∷ xs) [] i e = absurd (omega arith)
-get_d_sum (x ∷ xs) (y ∷ ys) zero e = refl
-get_d_sum (x ∷ xs) (y ∷ ys) (suc i) e = get_d_sum xs ys i (omega arith)
+get_or_sum [] [] i e = refl
+get_or_sum [] (y ∷ ys) i e = absurd (omega arith)
+get_or_sum (x ∷ xs) [] i e = absurd (omega arith)
+get_or_sum (x ∷ xs) (y ∷ ys) zero e = refl
+get_or_sum (x ∷ xs) (y ∷ ys) (suc i) e = get_or_sum xs ys i (omega arith)
 
 -- bits added to the first of a register
 unfoldable pub over : List Bool → List Bool → List Bool
@@ -231,7 +231,7 @@ before_fed b (r ∷ rs) e = go (xor r b) ∙ ap (λ (t : Bool). t ∷ rs) (xor_b
     last = get_or_at rs false [] false 15 n
 
     go : (t : Bool) → before b (cond t (sum (up rs) generator) (up rs)) ≡ xor t b ∷ rs
-    go true = rw (get_d_sum (up rs) generator 15 l, last, sum_back (up rs) generator l, same)
+    go true = rw (get_or_sum (up rs) generator 15 l, last, sum_back (up rs) generator l, same)
     go false = rw (last, same)
 
 fed_inj : (rs ss : List Bool) (b : Bool) → length rs ≡ 16 → length ss ≡ 16 → fed rs b ≡ fed ss b → rs ≡ ss

@@ -1,6 +1,6 @@
 -- `field_reader::reading::row_read` meets its contract: the tests in the document's order. Assumes nothing.
 use mathlib.Core.Path.{◌≡◌, refl, sym, ◌∙◌}
-use mathlib.Core.Bool.{true}
+use mathlib.Core.Bool.{true, false}
 use native.Mathlib.Omega.{arith}
 use Rattle.fields.specs.Table.{row_at, widths_at, values_of, RowSmall}
 use Rattle.fields.specs.Reading.{same_way_as, not_relayed, sized_by}
@@ -61,7 +61,8 @@ returns-then-relayed c = rw (same ((goal.at.returns-then-relayed c).After-is_siz
 pub returns-then-not-sized : goal.returns-then-not-sized
 unfolding row_read
 returns-then-not-sized c =
-    rw (same ((goal.at.returns-then-not-sized c).After-is_sized-sized), relayed-is ((goal.at.returns-then-not-sized c).After-not_relayed-relayed) ∙ c.if-relayed.false, sized-is ((goal.at.returns-then-not-sized c).After-is_sized-sized) ∙ c.if-not-sized.true)
+    let r : c.not_relayed-relayed.result ≡ false = cc in
+    rw (same ((goal.at.returns-then-not-sized c).After-is_sized-sized), relayed-is ((goal.at.returns-then-not-sized c).After-not_relayed-relayed) ∙ r, sized-is ((goal.at.returns-then-not-sized c).After-is_sized-sized) ∙ c.if-not-sized.true)
 
 pub judged-requires : goal.judged-requires
 judged-requires c =
