@@ -12,7 +12,7 @@ returns-then-i-b c =
     let a = c.args in
     let s = a.b.now in
     let x = get_or s (a.at / 8) 0 in
-    let h : x < 256 = omega (arith, c.shared_slice_known-then-i-b-1.given (a.at / 8)) in
+    let h : x < 256 = omega (arith, c.type_inv.b (a.at / 8)) in
     let e : a.at / 8 * 8 ≡ a.at = omega arith in
     let m : 8 ≡ a.n = omega arith in
     byte_is s (a.at / 8) x refl h ∙ ap (λ (f : ℕ). bits_of s f 8) e ∙ ap (bits_of s a.at) m

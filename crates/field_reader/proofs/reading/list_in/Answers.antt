@@ -16,10 +16,10 @@ place_is : (c : After-find) → place_of (type_of c.args.b.now 0) ≡ c.find.res
 place_is c = rw (← c.type_at-code.ensures) (sym c.find.ensures)
 
 within : (c : In-At) → c.in-At.i < 22
-within c = found_within _ _ ((let its : place_of (type_of c.args.b.now 0) ≡ c.find.result = rw (← c.type_at-code.ensures) (sym c.find.ensures) in its) ∙ c.in-At.is)
+within c = found_within _ _ (sym c.find.ensures ∙ c.in-At.is)
 
 base : (c : After-row_at-row) → c.row_at-row.result.base ≤ 96
-base c = rw c.row_at-row.ensures (row_base _ ((let its : c.in-At.i < 22 = found_within _ _ ((let its : place_of (type_of c.args.b.now 0) ≡ c.find.result = rw (← c.type_at-code.ensures) (sym c.find.ensures) in its) ∙ c.in-At.is) in its)))
+base c = rw c.row_at-row.ensures (row_base _ (found_within _ _ (sym c.find.ensures ∙ c.in-At.is)))
 
 -- the values are those of the type's parts
 values-are : (c : After-values-v) →
@@ -30,7 +30,8 @@ small : (c : After-values-v) → RowSmall c.row_at-row.result c.values-v.result
 small c =
     let i = c.in-At.i in
     let s = c.args.b.now in
-    rw (values-are c, c.row_at-row.ensures) (row_small i (values_of s 0 (widths_at i)) ((let its : c.in-At.i < 22 = found_within _ _ ((let its : place_of (type_of c.args.b.now 0) ≡ c.find.result = rw (← c.type_at-code.ensures) (sym c.find.ensures) in its) ∙ c.in-At.is) in its)) (values_fit s 0 (widths_at i)))
+    let within : i < 22 = found_within _ _ (sym c.find.ensures ∙ c.in-At.is) in
+    rw (values-are c, c.row_at-row.ensures) (row_small i (values_of s 0 (widths_at i)) within (values_fit s 0 (widths_at i)))
 
 pub returns-in_default : goal.returns-in_default
 unfolding list_in values_of

@@ -34,13 +34,17 @@ relayed-is c = rw (← c.row_at-row.ensures) (sym c.not_relayed-relayed.ensures)
 sized-is : (c : After-is_sized-sized) →
     let a = c.args in
     sized_by a.count a.before (row_at a.i) (values_of a.b.now a.before (widths_at a.i)) ≡ c.is_sized-sized.result
-sized-is c = rw (← (let its : let a = c.args in c.values-v.result ≡ values_of a.b.now a.before (widths_at a.i) = rw (← c.widths_at-widths.ensures) c.values-v.ensures in its), ← c.row_at-row.ensures) (sym c.is_sized-sized.ensures)
+sized-is c =
+    let values : c.values-v.result ≡ values_of c.args.b.now c.args.before (widths_at c.args.i) = rw (← c.widths_at-widths.ensures) c.values-v.ensures in
+    rw (← values, ← c.row_at-row.ensures) (sym c.is_sized-sized.ensures)
 
 -- the way is the type's
 same : (c : After-is_sized-sized) →
     let a = c.args in
     same_way_as (row_at a.i).way a.way ≡ true
-same c = (let its : let a = c.args in same_way_as (row_at a.i).way a.way ≡ c.same_way.result = rw (← c.row_at-row.ensures) (sym c.same_way.ensures) in its) ∙ c.if-not-same_way.false
+same c =
+    let way : same_way_as (row_at c.args.i).way c.args.way ≡ c.same_way.result = rw (← c.row_at-row.ensures) (sym c.same_way.ensures) in
+    way ∙ c.if-not-same_way.false
 
 pub returns-then-not-same_way : goal.returns-then-not-same_way
 unfolding row_read

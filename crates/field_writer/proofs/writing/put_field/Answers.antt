@@ -13,7 +13,7 @@ use Rattle.fields.proofs.Entries.{product}
 use Rattle.fields.proofs.Puts.{list_fits_room, head_small}
 use Rattle.fields.proofs.Taking.{Taken, taken, taken_small, text_small, groups}
 use Rattle.field_writer.proofs.writing.put_field.Goals as goal
-use Rattle.field_writer.proofs.writing.put_field.Goals.{After-bits_at-size, After-listed_in-n, After-numbers-v, Start}
+use Rattle.field_writer.proofs.writing.put_field.Goals.{After-bits_at-size, After-numbers-v, Start}
 
 numbers-are : (c : After-numbers-v) → c.numbers-v.result ≡ numbers_in c.args.given
 numbers-are c = c.numbers-v.ensures ∙ ap numbers_of c.field_in.ensures
@@ -24,9 +24,10 @@ told c = taken _ _ _ _ c.requires.1
 small : (c : Start) → RowSmall (row_at c.args.i) (numbers_in c.args.given)
 small c = taken_small c.args.i c.args.given c.requires.0 (told c).fits
 
-listed-is : (c : After-listed_in-n) → let a = c.args in c.listed_in-n.result ≡ listed a.i (numbers_in a.given)
+listed-is : (c : After-bits_at-size) → let a = c.args in c.listed_in-n.result ≡ listed a.i (numbers_in a.given)
 listed-is c =
-    rw (← (let its : c.numbers-v.result ≡ numbers_in c.args.given = c.numbers-v.ensures ∙ ap numbers_of c.field_in.ensures in its), ← c.row_at-row.ensures) c.listed_in-n.ensures
+    let numbers : c.numbers-v.result ≡ numbers_in c.args.given = c.numbers-v.ensures ∙ ap numbers_of c.field_in.ensures in
+    rw (← numbers, ← c.row_at-row.ensures) c.listed_in-n.ensures
 
 -- what is small enough for a sum
 bounds : (c : After-bits_at-size) →
@@ -37,11 +38,13 @@ bounds : (c : After-bits_at-size) →
     × (c.row_at-row.result.step * c.listed_in-n.result ≤ 80 * 30)
 bounds c =
     let m : length c.args.list ≡ 30 = search rules in
-    let room = list_fits_room (row_at c.args.i).step (listed c.args.i (numbers_in c.args.given)) c.args.list ((let its : Taken c.args.i c.args.given c.args.list (length c.args.text.now) = taken _ _ _ _ c.requires.1 in its)).list in
-    let n : c.listed_in-n.result ≤ 30 = rw ((let its : let a = c.args in c.listed_in-n.result ≡ listed a.i (numbers_in a.given) = rw (← (let its : c.numbers-v.result ≡ numbers_in c.args.given = c.numbers-v.ensures ∙ ap numbers_of c.field_in.ensures in its), ← c.row_at-row.ensures) c.listed_in-n.ensures in its)) (omega arith) in
-    let q : c.row_at-row.result.step ≤ 80 = rw c.row_at-row.ensures ((let its : RowSmall (row_at c.args.i) (numbers_in c.args.given) = taken_small c.args.i c.args.given c.requires.0 ((let its : Taken c.args.i c.args.given c.args.list (length c.args.text.now) = taken _ _ _ _ c.requires.1 in its)).fits in its)).step in (
+    let told : Taken c.args.i c.args.given c.args.list (length c.args.text.now) = taken _ _ _ _ c.requires.1 in
+    let small : RowSmall (row_at c.args.i) (numbers_in c.args.given) = taken_small c.args.i c.args.given c.requires.0 told.fits in
+    let room = list_fits_room (row_at c.args.i).step (listed c.args.i (numbers_in c.args.given)) c.args.list told.list in
+    let n : c.listed_in-n.result ≤ 30 = rw (listed-is c) (omega arith) in
+    let q : c.row_at-row.result.step ≤ 80 = rw c.row_at-row.ensures small.step in (
       rw c.head_bits-at.ensures (head_small c.args.given),
-      rw c.row_at-row.ensures ((let its : RowSmall (row_at c.args.i) (numbers_in c.args.given) = taken_small c.args.i c.args.given c.requires.0 ((let its : Taken c.args.i c.args.given c.args.list (length c.args.text.now) = taken _ _ _ _ c.requires.1 in its)).fits in its)).base,
+      rw c.row_at-row.ensures small.base,
       q,
       n,
       product c.row_at-row.result.step c.listed_in-n.result 80 30 q n,
@@ -85,5 +88,5 @@ returns c =
     let a = c.args in
     let m : length a.list ≡ 30 = search rules in
     let b = bounds ((goal.at.returns c).After-bits_at-size) in
-    rw (c.write.ensures, c.put_text.ensures, c.put_entries.ensures, c.put_parts.ensures, c.put_head.ensures, c.widths_at.ensures, listed-is ((goal.at.returns c).After-listed_in-n), c.head_bits-at.ensures, numbers-are ((goal.at.returns c).After-numbers-v), c.row_at-row.ensures, c.bits_at-size.ensures.0, groups a.i a.given a.list a.text.now a.s.now c.requires.0 (omega (arith, listed-is ((goal.at.returns c).After-listed_in-n))))
+    rw (c.write.ensures, c.put_text.ensures, c.put_entries.ensures, c.put_parts.ensures, c.put_head.ensures, c.widths_at.ensures, listed-is ((goal.at.returns c).After-bits_at-size), c.head_bits-at.ensures, numbers-are ((goal.at.returns c).After-numbers-v), c.row_at-row.ensures, c.bits_at-size.ensures.0, groups a.i a.given a.list a.text.now a.s.now c.requires.0 (omega (arith, listed-is ((goal.at.returns c).After-bits_at-size))))
     refl

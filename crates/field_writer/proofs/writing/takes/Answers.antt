@@ -19,28 +19,35 @@ numbers-are c = c.numbers-v.ensures ∙ ap numbers_of c.field_in.ensures
 fit : (c : After-fit_all) →
     let a = c.args in
     fit_all (widths_at a.i) (numbers_in a.given) ≡ c.fit_all.result
-fit c = rw (← c.widths_at-widths.ensures, ← (let its : c.numbers-v.result ≡ numbers_in c.args.given = c.numbers-v.ensures ∙ ap numbers_of c.field_in.ensures in its)) (sym c.fit_all.ensures)
+fit c =
+    let numbers : c.numbers-v.result ≡ numbers_in c.args.given = c.numbers-v.ensures ∙ ap numbers_of c.field_in.ensures in
+    rw (← c.widths_at-widths.ensures, ← numbers) (sym c.fit_all.ensures)
 
 unused : (c : After-faults-found) →
     let a = c.args in
     has_fault 2 (rules_at a.i) (numbers_in a.given) ≡ c.faults-found.result.unused
 unused c =
-    let f = fit_numbers c.args.i c.args.given c.requires ((let its : let a = c.args in fit_all (widths_at a.i) (numbers_in a.given) ≡ c.fit_all.result = rw (← c.widths_at-widths.ensures, ← (let its : c.numbers-v.result ≡ numbers_in c.args.given = c.numbers-v.ensures ∙ ap numbers_of c.field_in.ensures in its)) (sym c.fit_all.ensures) in its) ∙ c.if-not-fit_all.false) in
+    let numbers : c.numbers-v.result ≡ numbers_in c.args.given = c.numbers-v.ensures ∙ ap numbers_of c.field_in.ensures in
+    let fit : fit_all (widths_at c.args.i) (numbers_in c.args.given) ≡ c.fit_all.result = rw (← c.widths_at-widths.ensures, ← numbers) (sym c.fit_all.ensures) in
+    let f = fit_numbers c.args.i c.args.given c.requires (fit ∙ c.if-not-fit_all.false) in
     let k = c.rules_at-rules.ensures in
-    rw (← k, ← (let its : c.numbers-v.result ≡ numbers_in c.args.given = c.numbers-v.ensures ∙ ap numbers_of c.field_in.ensures in its))
+    rw (← k, ← numbers)
     (sym
     (ap (λ (x : Faults). x.unused)
-    (c.faults-found.ensures ∙ within_quiet _ _ _ (search rules) (search rules) (rw (c.widths_at-widths.ensures, k, (let its : c.numbers-v.result ≡ numbers_in c.args.given = c.numbers-v.ensures ∙ ap numbers_of c.field_in.ensures in its)) (rest_quiet c.args.i _ c.requires f)))))
+    (c.faults-found.ensures ∙ within_quiet _ _ _ (search rules) (search rules) (rw (c.widths_at-widths.ensures, k, numbers) (rest_quiet c.args.i _ c.requires f)))))
 
 small : (c : Else-not-fit_all) → RowSmall c.row_at-row.result c.numbers-v.result
 small c =
-    rw ((let its : c.numbers-v.result ≡ numbers_in c.args.given = c.numbers-v.ensures ∙ ap numbers_of c.field_in.ensures in its), c.row_at-row.ensures) (taken_small c.args.i c.args.given c.requires ((let its : let a = c.args in fit_all (widths_at a.i) (numbers_in a.given) ≡ c.fit_all.result = rw (← c.widths_at-widths.ensures, ← (let its : c.numbers-v.result ≡ numbers_in c.args.given = c.numbers-v.ensures ∙ ap numbers_of c.field_in.ensures in its)) (sym c.fit_all.ensures) in its) ∙ c.if-not-fit_all.false))
+    let numbers : c.numbers-v.result ≡ numbers_in c.args.given = c.numbers-v.ensures ∙ ap numbers_of c.field_in.ensures in
+    let fit : fit_all (widths_at c.args.i) (numbers_in c.args.given) ≡ c.fit_all.result = rw (← c.widths_at-widths.ensures, ← numbers) (sym c.fit_all.ensures) in
+    rw (numbers, c.row_at-row.ensures) (taken_small c.args.i c.args.given c.requires (fit ∙ c.if-not-fit_all.false))
 
 list-ok : (c : After-list_fits) →
     let a = c.args in
     list_fits (row_at a.i).step (listed a.i (numbers_in a.given)) a.list ≡ c.list_fits.result
 list-ok c =
-    rw (← (let its : c.numbers-v.result ≡ numbers_in c.args.given = c.numbers-v.ensures ∙ ap numbers_of c.field_in.ensures in its), ← c.row_at-row.ensures, ← c.listed_in.ensures) (sym c.list_fits.ensures)
+    let numbers : c.numbers-v.result ≡ numbers_in c.args.given = c.numbers-v.ensures ∙ ap numbers_of c.field_in.ensures in
+    rw (← numbers, ← c.row_at-row.ensures, ← c.listed_in.ensures) (sym c.list_fits.ensures)
 
 pub returns-then-not-head_fits : goal.returns-then-not-head_fits
 unfolding takes_at

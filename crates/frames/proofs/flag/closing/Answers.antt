@@ -11,7 +11,7 @@ use Rattle.frames.specs.Steps.{NoFlags}
 use Rattle.frames.proofs.Flagged.{flag_is, up-to-flag, up_to_end}
 use Rattle.frames.proofs.Windows.{up_to_clear}
 use Rattle.frames.proofs.flag.closing.Goals as goal
-use Rattle.frames.proofs.flag.closing.Goals.{After-near-place, Joined-n-gt-WINDOW, then-n-gt-WINDOW, else-n-gt-WINDOW}
+use Rattle.frames.proofs.flag.closing.Goals.{After-near-place, then-n-gt-WINDOW, else-n-gt-WINDOW}
 use Rattle.frames.proofs.flag.closing.Invariants.{Sought}
 
 -- as many bits of a window as are left
@@ -35,7 +35,7 @@ module _ {b : List ℕ} {count from p : ℕ} (s : Sought b count from p) where
       let z : length (up_to_flag (stream_at b count p)) ≡ 0 = ap length (up-to-flag _ (flag_is b count p (omega arith) e)) in
       sym (add-zero p) ∙ ap (λ (k : ℕ). p + k) (sym z) ∙ s.same
 
-left : (c : Joined-n-gt-WINDOW) → Left c.args.count c.loop-p.p c.if-n-gt-WINDOW.n
+left : (c : After-near-place) → Left c.args.count c.loop-p.p c.if-n-gt-WINDOW.n
 left c =
     let l = c.loop-p-test.true in
     elim c.if-n-gt-WINDOW.branch [
@@ -46,14 +46,14 @@ left c =
 -- where the two steps of a turn lead
 come : (c : After-near-place) → Sought c.args.b.now c.args.count c.args.from c.near-place.result
 come c =
-    let k : Left c.args.count c.loop-p.p c.if-n-gt-WINDOW.n = elim c.if-n-gt-WINDOW.branch [ then-n-gt-WINDOW w ↦ record { few = omega arith; many = omega arith; room = omega arith } | else-n-gt-WINDOW w ↦ record { few = omega arith; many = omega arith; room = omega arith } ] in
+    let k = left c in
     let x = c.clear.ensures in
     let y = c.near-place.ensures in
     on c.loop-p.invariant _ _ (omega arith) y.0 (omega (arith, y.1)) x.1 y.2
 
 pub returns-then-place-to : goal.returns-then-place-to
 returns-then-place-to c =
-    let k = left ((goal.at.returns-then-place-to c).Joined-n-gt-WINDOW) in
+    let k = left ((goal.at.returns-then-place-to c).After-near-place) in
     here (come ((goal.at.returns-then-place-to c).After-near-place)) (omega (arith, c.near-place.ensures.1)) (c.near-place.ensures.3 c.if-place-to.true)
 
 pub loop-p-preserved : goal.loop-p-preserved

@@ -21,7 +21,10 @@ opened c =
 missing : (c : After-body_of-body) → let a = c.args in
     zero_missing 0 (stretch (stream_at a.b.now a.count a.place)) ≡ c.body_of-body.result.missing
 missing c =
-    ap (zero_missing 0) (sym (stretch_is ((let its : let a = c.args in Opened a.b.now a.count a.place c.past_flags-from.result = let f = c.past_flags-from.ensures in record { flagged = c.requires; later = f.0; within = f.1; opens = f.2 } in its)) _ c.if-from-count.false c.closing-to.ensures)) ∙ sym c.body_of-body.ensures.missing_is
+    let f = c.past_flags-from.ensures in
+    let o : Opened c.args.b.now c.args.count c.args.place c.past_flags-from.result =
+    record { flagged = c.requires; later = f.0; within = f.1; opens = f.2 } in
+    ap (zero_missing 0) (sym (stretch_is o _ c.if-from-count.false c.closing-to.ensures)) ∙ sym c.body_of-body.ensures.missing_is
 
 pub past_flags-from-requires : goal.past_flags-from-requires
 past_flags-from-requires c = omega (arith, flag_room _ _ _ c.requires)
