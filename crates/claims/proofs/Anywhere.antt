@@ -1,5 +1,6 @@
 -- What the writer of fields leaves in any lent bytes that have room: the field's own bytes, as over zeros, and the bytes behind them as they
 -- were. Shown bit by bit. Assumes nothing.
+use Rattle.std.specs.Prelude.{Result, Some}
 use Prim.Native.Nat.{ℕ, zero, suc, ◌+◌, ◌-◌, ◌*◌, ◌/◌, ◌%◌, ◌≤◌, ◌<◌}
 use mathlib.Core.Path.{◌≡◌, refl, sym, ap, ◌∙◌}
 use mathlib.Core.Bool.{true, not}
@@ -14,8 +15,6 @@ use borrow.Author.Tests.{ltb-true, ltb-false, le-ltb}
 use Rattle.bits.specs.Bits.{bit_at, put_bit, put_bits, Bytes}
 use Rattle.bits.proofs.Laws.{put_bit_same, put_bits_other, length-put_bit, length-put_bits, put_bits_bytes, bits_of_same, byte_bits}
 use Rattle.words.proofs.Tests.{by_test}
-use Rattle.fields.specs.declared.Place.TheVariants.{At}
-use Rattle.fields.specs.declared.Written.{Written}
 use Rattle.fields.specs.declared.Record.{Record}
 use Rattle.fields.specs.declared.Record.TheVariants.{Single, Relay}
 use Rattle.fields.specs.Table.{place_of, row_at, widths_at, size_in}
@@ -27,6 +26,7 @@ use Rattle.fields.proofs.Taking.{Taken, taken, widths_length, widths_sum, sum_sa
 use Rattle.fields.proofs.Rounds.{sum_join}
 use Rattle.fields.proofs.Facts.{steps_told}
 use Rattle.fields.proofs.Back.{zeros_bytes, put_all_bytes, place_in, place_back, place_low}
+use Rattle.refusals.specs.declared.FieldRefusal.{FieldRefusal}
 
 -- ---- bits that were put, whatever stood there
 
@@ -177,16 +177,16 @@ pub left_anywhere : (r : Record) (l : List ℤ) (t b : List ℕ) → takes r l t
 unfolding takes left_of put_in bytes_in bits_in
 left_anywhere r l t b h c m =
     let i = place_in (field_in r) in
-    let at : place_of (get_or (numbers_in r) 0 0) ≡ At i = place_back (field_in r) in
+    let at : place_of (get_or (numbers_in r) 0 0) ≡ Some i = place_back (field_in r) in
     let k : takes_at i r l (length t) ≡ true = rw at at h in
     let n : (bits_at i r + 7) / 8 ≤ length b = rw at at m in
     let written = (written_exactly r l t b (bits_in r)).1 ((ap not h, (le-ltb (length b) ((bits_in r + 7) / 8) m, tt)), refl) in
-    ap (λ (w : Written). left_as w b (put_in r l t b)) written
+    ap (λ (w : Result ℕ FieldRefusal). left_as w b (put_in r l t b)) written
     ∙ rw at (put_anywhere i r l t (place_low (field_in r)) (taken i r l (length t) k) b c n)
 
 pub bytes_length : (r : Record) (l : List ℤ) (t : List ℕ) → length (bytes_in r l t) ≡ (bits_in r + 7) / 8
 unfolding bytes_in put_in bits_in put_field
 bytes_length r l t =
     let i = place_in (field_in r) in
-    let at : place_of (get_or (numbers_in r) 0 0) ≡ At i = place_back (field_in r) in
+    let at : place_of (get_or (numbers_in r) 0 0) ≡ Some i = place_back (field_in r) in
     rw at (length-put_bits _ _ _ _ ∙ length-put_all _ 0 _ _ ∙ length-replicate ((bits_at i r + 7) / 8) 0)

@@ -1,4 +1,5 @@
 -- The demands, each sentence from the law below it. Assumes nothing.
+use Rattle.std.specs.Prelude.{None, Option, Result, Some}
 use Prim.Native.Nat.{ℕ, ◌+◌}
 use mathlib.Core.Path.{◌≡◌, refl, sym, ap, ◌∙◌}
 use mathlib.Core.List.{List, [], ◌∷◌, ◌++◌, map}
@@ -10,13 +11,10 @@ use Rattle.reports.specs.Altitude.{AltitudeForm, form_of}
 use Rattle.reports.specs.Layouts.{words_of}
 use Rattle.reports.specs.Runs.{read_run}
 use Rattle.reports.specs.Values.{Counted, counts, none, Yields}
-use Rattle.reports.specs.declared.values.Values.{Values}
-use Rattle.reports.specs.declared.values.Values.TheVariants as Y
 use Rattle.reports.proofs.Altitudes.{forms_sound}
 use Rattle.reports.proofs.Claims as reports
 use Rattle.reports.proofs.Demand2 as demand2
 use Rattle.reports.proofs.Refusals as runs
-use Rattle.lines.specs.declared.Wrote.{Wrote}
 use Rattle.lines.specs.Line.{end_of, read_at}
 use Rattle.lines.specs.Bytes.{words_in, read_bytes}
 use Rattle.lines.specs.Links.{received_on}
@@ -42,6 +40,8 @@ use Rattle.claims.proofs.Printed.{as_printed, only_printed, entries_as_printed, 
 use Rattle.claims.proofs.Places.{end_exactly, end_of_bytes, report_words, report_words_of_bytes, read_written, read_written_bytes}
 use Rattle.claims.proofs.OnLinks.{end_on, report_on}
 use Rattle.claims.proofs.Fields.{has_layout, again, read_left}
+use Rattle.measures.specs.declared.Measured.{Measured}
+use Rattle.lines.specs.declared.NotWritten.{NotWritten}
 
 -- ---- demand 1
 
@@ -79,26 +79,26 @@ given_exactly = record {
 untouched : LeavesUntouched
 untouched = record {
   words = λ form line place r q p exit w.
-      w.leaves ∙ ap (λ (x : Wrote). left_as x line place (words_of form r)) (sym w.answers);
+      w.leaves ∙ ap (λ (x : Result ℕ NotWritten). left_as x line place (words_of form r)) (sym w.answers);
   bytes = λ form bytes place r q p exit w.
-      w.leaves ∙ ap (λ (x : Wrote). bytes_left x bytes place (words_of form r)) (sym w.answers);
+      w.leaves ∙ ap (λ (x : Result ℕ NotWritten). bytes_left x bytes place (words_of form r)) (sym w.answers);
   fields = λ r l t s q exit w. w.leaves ∙ exactly.refused_untouched r l t s q (sym w.answers);
 }
 
 -- ---- demand 2
 
-one_value : (c : Counted) (x y : Values) → Doubles x → Doubles y → Yields c x → Yields c y → x ≡ y
-one_value (counts r a t) (Y.Measured m) (Y.Measured n) d e p q =
-    λ i. Y.Measured (record {
+one_value : (c : Counted) (x y : Option Measured) → Doubles x → Doubles y → Yields c x → Yields c y → x ≡ y
+one_value (counts r a t) (Some m) (Some n) d e p q =
+    λ i. Some (record {
       range = measures.exact_is_one r m.range n.range d.0 e.0 p.range q.range i;
       azimuth = measures.exact_is_one a m.azimuth n.azimuth d.1 e.1 p.azimuth q.azimuth i;
       time = measures.exact_is_one t m.time n.time d.2 e.2 p.time q.time i;
     })
-one_value (counts r a t) (Y.Measured m) Y.Nothing d e p q = absurd q
-one_value (counts r a t) Y.Nothing y d e p q = absurd p
-one_value none (Y.Measured m) y d e p q = absurd p
-one_value none Y.Nothing (Y.Measured n) d e p q = absurd q
-one_value none Y.Nothing Y.Nothing d e p q = refl
+one_value (counts r a t) (Some m) None d e p q = absurd q
+one_value (counts r a t) None y d e p q = absurd p
+one_value none (Some m) y d e p q = absurd p
+one_value none None (Some n) d e p q = absurd q
+one_value none None None d e p q = refl
 
 meaning : MeanWhatIsPrinted
 meaning = record {

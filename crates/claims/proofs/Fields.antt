@@ -1,4 +1,5 @@
 -- Link data fields: what it is to have a layout, and a record written out again into any lent bytes. Assumes nothing.
+use Rattle.std.specs.Prelude.{Ok}
 use Prim.Native.Nat.{ℕ, ◌+◌, ◌/◌, ◌≤◌}
 use mathlib.Core.Path.{◌≡◌, refl, sym, ap, ◌∙◌}
 use mathlib.Core.Bool.{true, not}
@@ -14,8 +15,6 @@ use Rattle.bits.specs.Bits.{Bytes}
 use Rattle.fields.specs.declared.Direction.{Direction}
 use Rattle.fields.specs.declared.Record.{Record}
 use Rattle.fields.specs.declared.Found.{Found}
-use Rattle.fields.specs.declared.Answer.TheVariants.{Accepted}
-use Rattle.fields.specs.declared.Written.TheVariants as F
 use Rattle.fields.specs.Reading.{answer_of, list_of, read_field, text_of}
 use Rattle.fields.specs.Writing.{takes, bits_in, way_in, bytes_in, written_of}
 use Rattle.fields.proofs.Exactly.{written_exactly}
@@ -26,11 +25,11 @@ use Rattle.claims.specs.Demands.{WritesField, HasFieldLayout}
 -- ---- layouts
 
 -- what is read of an accepted field, whole
-whole : (s : List ℕ) (n : ℕ) (w : Direction) (r : Record) → answer_of s n w ≡ Accepted r → read_field s n w ≡ record { answer = Accepted r; list = (read_field s n w).list }
+whole : (s : List ℕ) (n : ℕ) (w : Direction) (r : Record) → answer_of s n w ≡ Ok r → read_field s n w ≡ record { answer = Ok r; list = (read_field s n w).list }
 unfolding read_field
 whole s n w r e = λ i. record { answer = e i; list = list_of s (answer_of s n w) }
 
-pub has_layout : (s : List ℕ) (n : ℕ) (w : Direction) (r : Record) → Bytes s → (answer_of s n w ≡ Accepted r) ↔ HasFieldLayout s n w r
+pub has_layout : (s : List ℕ) (n : ℕ) (w : Direction) (r : Record) → Bytes s → (answer_of s n w ≡ Ok r) ↔ HasFieldLayout s n w r
 unfolding read_field
 has_layout s n w r b = (
   λ e. let m = (fields_mean s n w r (read_field s n w).list (text_of s n w) b).0 (whole s n w r e, refl) in
@@ -40,9 +39,9 @@ has_layout s n w r b = (
 
 -- ---- written out again
 
-pub again : (s : List ℕ) (n : ℕ) (w : Direction) (r : Record) → Bytes s → answer_of s n w ≡ Accepted r
+pub again : (s : List ℕ) (n : ℕ) (w : Direction) (r : Record) → Bytes s → answer_of s n w ≡ Ok r
     → (b : List ℕ) → Bytes b → length s ≤ length b
-    → WritesField r (read_field s n w).list (text_of s n w) b (F.Bits n) (s ++ drop (length s) b)
+    → WritesField r (read_field s n w).list (text_of s n w) b (Ok n) (s ++ drop (length s) b)
 again s n w r b e x c m =
     let l = (read_field s n w).list in
     let t = text_of s n w in
@@ -59,11 +58,11 @@ again s n w r b e x c m =
 -- ---- written and read
 
 -- a call that answers a bit count was given a record that the writer takes, and room; the count is the record's
-written_so : (r : Record) (l : List ℤ) (t b : List ℕ) (n : ℕ) → written_of r l t b ≡ F.Bits n → (takes r l t ≡ true) × ((bits_in r + 7) / 8 ≤ length b) × (n ≡ bits_in r)
+written_so : (r : Record) (l : List ℤ) (t b : List ℕ) (n : ℕ) → written_of r l t b ≡ Ok n → (takes r l t ≡ true) × ((bits_in r + 7) / 8 ≤ length b) × (n ≡ bits_in r)
 written_so r l t b n e = let k = (written_exactly r l t b n).0 e in (holds (takes r l t) k.0.0, ltb-false _ _ k.0.1.0, sym k.1)
 
-pub read_left : (r : Record) (l : List ℤ) (t b : List ℕ) (n : ℕ) (exit : List ℕ) → length l ≡ 30 → Bytes t → Bytes b → WritesField r l t b (F.Bits n) exit
-    → (read_field (take ((n + 7) / 8) exit) n (way_in r) ≡ record { answer = Accepted r; list = l }) × (text_of (take ((n + 7) / 8) exit) n (way_in r) ≡ t)
+pub read_left : (r : Record) (l : List ℤ) (t b : List ℕ) (n : ℕ) (exit : List ℕ) → length l ≡ 30 → Bytes t → Bytes b → WritesField r l t b (Ok n) exit
+    → (read_field (take ((n + 7) / 8) exit) n (way_in r) ≡ record { answer = Ok r; list = l }) × (text_of (take ((n + 7) / 8) exit) n (way_in r) ≡ t)
 read_left r l t b n exit room bt bb w =
     let k = written_so r l t b n (sym w.answers) in
     let size = (bits_in r + 7) / 8 in

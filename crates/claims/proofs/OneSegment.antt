@@ -1,4 +1,5 @@
 -- The laws of document 02, Ticket 2. The row of type 42 is computed; a row with another code has the rules that it had. Assumes nothing.
+use Rattle.std.specs.Prelude.{Err, None, Ok, Option, Result, Some}
 use Prim.Native.Nat.{ℕ, zero, suc, ◌+◌, ◌-◌, ◌*◌, ◌/◌, ◌^◌}
 use native.Mathlib.Nat.{add-zero}
 use native.Mathlib.Omega.{arith}
@@ -20,11 +21,6 @@ use Rattle.fields.specs.declared.Field.TheVariants.{ElmUplink, ElmDownlink}
 use Rattle.fields.specs.declared.Field.TheVariants as F
 use Rattle.fields.specs.declared.Record.{Record}
 use Rattle.fields.specs.declared.Record.TheVariants.{Single, Relay}
-use Rattle.fields.specs.declared.Answer.{Answer}
-use Rattle.fields.specs.declared.Answer.TheVariants.{Accepted, Refused}
-use Rattle.fields.specs.declared.Written.{Written}
-use Rattle.fields.specs.declared.Place.{Place}
-use Rattle.fields.specs.declared.Place.TheVariants.{At, Nowhere}
 use Rattle.fields.specs.Table.{Known, table, rows, no_row, row_at, widths, widths_at, rules, rules_at, rows_of, part_rules, no_parts, place_from, place_of, by_place, values_of, has_fault, count_in, size_in}
 use Rattle.fields.specs.Lists.{any_unused, list_fits}
 use Rattle.fields.specs.Records.{field_of, field_at, numbers_of}
@@ -34,6 +30,7 @@ use Rattle.fields.proofs.Puts.{both_true}
 use Rattle.fields.proofs.Rows.{found_code}
 use Rattle.claims.specs.OneSegment.{formerly, former_table, former_rules_at, former_spare_bit_set, former_value_not_in_use, former_answer, former_takes_at, former_takes, former_written, RowsAndWidthsStay, has_length0, one_segment_at, one_segment, BareRead, RelayedRead, CountStays, SparesStay, UplinkRead, NotInUseBefore, OthersReadAsBefore, OneSegmentRead, record_has_length0, one_segment_fits, sensor_fits, one_segment_in, BareWritten, RelayedWritten, UplinkWritten, TakenBefore, OthersWrittenAsBefore, OneSegmentWritten}
 use Rattle.claims.proofs.Printed.{no_bits, spare_1, spare_2, value_1, value_2}
+use Rattle.refusals.specs.declared.FieldRefusal.{FieldRefusal}
 
 -- a test is not both
 differ : {X : Type 0} → false ≡ true → X
@@ -57,9 +54,9 @@ same_at : {X : Type 0} (x : X) (f : ℕ → List ℕ → X) (c : ℕ) → eqb c 
 unfolding former_rules_at former_table rules_at rules row_at rows
 same_at x f c e = go (place_of c) refl
   where
-    go : (p : Place) → place_of c ≡ p → by_place x (λ i. f i (former_rules_at i)) p ≡ by_place x (λ i. f i (rules_at i)) p
-    go Nowhere q = refl
-    go (At i) q = ap (f i) (same_rules table i (ap (λ (m : ℕ). eqb m 0x42) (found_code c i q) ∙ e))
+    go : (p : Option ℕ) → place_of c ≡ p → by_place x (λ i. f i (former_rules_at i)) p ≡ by_place x (λ i. f i (rules_at i)) p
+    go None q = refl
+    go (Some i) q = ap (f i) (same_rules table i (ap (λ (m : ℕ). eqb m 0x42) (found_code c i q) ∙ e))
 
 -- ---- type 42
 
@@ -159,37 +156,37 @@ not_in_use_before s a = go (eqb (type_of s a) 0x42) refl
 -- ---- the reader
 
 -- the rows, by the tests of count and bytes and by what is told of the field: as they are, and as they were
-abbrev telling : Bool → Bool → Bool → Told → Bool → Bool → Answer → Answer
+abbrev telling : Bool → Bool → Bool → Told → Bool → Bool → Result Record FieldRefusal → Result Record FieldRefusal
 telling range bytes after t spare unused x =
     first_of
-    (row range (Refused CountOutOfRange)
-    ∷ row bytes (Refused WrongByteCount)
-    ∷ row after (Refused BitAfterCount)
-    ∷ row t.unknown (Refused UnknownType)
-    ∷ row t.not_carried (Refused TypeNotCarried)
-    ∷ row t.other_way (Refused WrongDirection)
-    ∷ row t.not-relayed (Refused NotRelayed)
-    ∷ row t.other_count (Refused WrongBitCount)
-    ∷ row spare (Refused SpareBitSet)
-    ∷ row unused (Refused ValueNotInUse)
+    (row range (Err CountOutOfRange)
+    ∷ row bytes (Err WrongByteCount)
+    ∷ row after (Err BitAfterCount)
+    ∷ row t.unknown (Err UnknownType)
+    ∷ row t.not_carried (Err TypeNotCarried)
+    ∷ row t.other_way (Err WrongDirection)
+    ∷ row t.not-relayed (Err NotRelayed)
+    ∷ row t.other_count (Err WrongBitCount)
+    ∷ row spare (Err SpareBitSet)
+    ∷ row unused (Err ValueNotInUse)
     ∷ [])
     x
 
-abbrev now : Bool → Bool → Bool → Answer → Told → Answer
+abbrev now : Bool → Bool → Bool → Result Record FieldRefusal → Told → Result Record FieldRefusal
 now range bytes after x t = telling range bytes after t t.spare_set t.unused x
 
-abbrev was : Bool → Bool → Bool → Answer → Told → Answer
+abbrev was : Bool → Bool → Bool → Result Record FieldRefusal → Told → Result Record FieldRefusal
 was range bytes after x t = telling range bytes after t t.spare_was_set t.was_unused x
 
 now_told : (s : List ℕ) (n : ℕ) (w : Direction)
     → answer_of s n w
-    ≡ now (count_out_of_range n) (wrong_byte_count s n) (bit_after_count s n) (Accepted (record_of s n w)) (told s n (start_of s n w) w (type_of s (start_of s n w)))
+    ≡ now (count_out_of_range n) (wrong_byte_count s n) (bit_after_count s n) (Ok (record_of s n w)) (told s n (start_of s n w) w (type_of s (start_of s n w)))
 unfolding answer_of wrong_bit_count spare_bit_set value_not_in_use
 now_told s n w = refl
 
 was_told : (s : List ℕ) (n : ℕ) (w : Direction)
     → former_answer s n w
-    ≡ was (count_out_of_range n) (wrong_byte_count s n) (bit_after_count s n) (Accepted (record_of s n w)) (told s n (start_of s n w) w (type_of s (start_of s n w)))
+    ≡ was (count_out_of_range n) (wrong_byte_count s n) (bit_after_count s n) (Ok (record_of s n w)) (told s n (start_of s n w) w (type_of s (start_of s n w)))
 unfolding former_answer wrong_bit_count former_spare_bit_set former_value_not_in_use
 was_told s n w = refl
 
@@ -208,20 +205,20 @@ zero-told s n a w z =
 
 -- so the answers, by their rows
 with_0 : (s : List ℕ) (n : ℕ) (w : Direction) → has_length0 s (start_of s n w) ≡ true
-    → (former_answer s n w ≡ was (count_out_of_range n) (wrong_byte_count s n) (bit_after_count s n) (Accepted (record_of s n w)) (zero_told s n (start_of s n w) w))
-    × (answer_of s n w ≡ now (count_out_of_range n) (wrong_byte_count s n) (bit_after_count s n) (Accepted (record_of s n w)) (zero_told s n (start_of s n w) w))
+    → (former_answer s n w ≡ was (count_out_of_range n) (wrong_byte_count s n) (bit_after_count s n) (Ok (record_of s n w)) (zero_told s n (start_of s n w) w))
+    × (answer_of s n w ≡ now (count_out_of_range n) (wrong_byte_count s n) (bit_after_count s n) (Ok (record_of s n w)) (zero_told s n (start_of s n w) w))
 with_0 s n w z =
     let t = zero-told s n (start_of s n w) w z in (
-      was_told s n w ∙ ap (was (count_out_of_range n) (wrong_byte_count s n) (bit_after_count s n) (Accepted (record_of s n w))) t,
-      now_told s n w ∙ ap (now (count_out_of_range n) (wrong_byte_count s n) (bit_after_count s n) (Accepted (record_of s n w))) t,
+      was_told s n w ∙ ap (was (count_out_of_range n) (wrong_byte_count s n) (bit_after_count s n) (Ok (record_of s n w))) t,
+      now_told s n w ∙ ap (now (count_out_of_range n) (wrong_byte_count s n) (bit_after_count s n) (Ok (record_of s n w))) t,
     )
 
 -- an answer as it was and as it is, by whether the field is the case
-abbrev Split : Bool → Answer → Answer → Answer → Type 0
-Split test before present x = (test ≡ false → present ≡ before) × (test ≡ true → (before ≡ Refused ValueNotInUse) × (present ≡ x))
+abbrev Split : Bool → Result Record FieldRefusal → Result Record FieldRefusal → Result Record FieldRefusal → Type 0
+Split test before present x = (test ≡ false → present ≡ before) × (test ≡ true → (before ≡ Err ValueNotInUse) × (present ≡ x))
 
 -- the last row held, and holds no more
-core : (bytes from spare : Bool) (f : Field) (x : Answer)
+core : (bytes from spare : Bool) (f : Field) (x : Result Record FieldRefusal)
     → Split (not bytes && (from && spare)) (was false bytes false x (elm_by from true spare true f)) (now false bytes false x (elm_by from true spare true f)) x
 core true from spare f x = (λ e. refl, λ e. differ e)
 core false false spare f x = (λ e. refl, λ e. differ e)
@@ -229,7 +226,7 @@ core false true false f x = (λ e. refl, λ e. differ e)
 core false true true f x = (λ e. differ (sym e), λ e. (refl, refl))
 
 -- where the count does not fit, a row before it answers; where it fits, it is in range and fills its bytes
-whole : (range bytes after from fits spare : Bool) (f : Field) (x : Answer) → (fits ≡ true → (range ≡ false) × (after ≡ false))
+whole : (range bytes after from fits spare : Bool) (f : Field) (x : Result Record FieldRefusal) → (fits ≡ true → (range ≡ false) × (after ≡ false))
     → Split (fits && (not bytes && (from && spare))) (was range bytes after x (elm_by from fits spare true f)) (now range bytes after x (elm_by from fits spare true f)) x
 whole range bytes after from false spare f x h = (λ e. refl, λ e. differ e)
 whole range bytes after from true spare f x h = rw ((h refl).0, (h refl).1) (core bytes from spare f x)
@@ -253,7 +250,7 @@ reads_same s n w e =
     rw (v.0, u) refl
 
 -- they are: the last row did
-reads : (s : List ℕ) (n : ℕ) (w : Direction) → Split (one_segment s n w) (former_answer s n w) (answer_of s n w) (Accepted (record_of s n w))
+reads : (s : List ℕ) (n : ℕ) (w : Direction) → Split (one_segment s n w) (former_answer s n w) (answer_of s n w) (Ok (record_of s n w))
 unfolding one_segment_at
 reads s n w = go (has_length0 s a) refl
   where
@@ -261,13 +258,13 @@ reads s n w = go (has_length0 s a) refl
     a = start_of s n w
 
     go : (z : Bool) → has_length0 s a ≡ z
-        → Split (z && (eqb n (a + 120) && (not (wrong_byte_count s n) && (from_sensor w && eqb (bits s (a + 33) (a + 36)) 0)))) (former_answer s n w) (answer_of s n w) (Accepted (record_of s n w))
+        → Split (z && (eqb n (a + 120) && (not (wrong_byte_count s n) && (from_sensor w && eqb (bits s (a + 33) (a + 36)) 0)))) (former_answer s n w) (answer_of s n w) (Ok (record_of s n w))
     go false e = (λ q. reads_same s n w e, λ q. differ q)
     go true e =
         let k = with_0 s n w e in
         rw (k.0, k.1)
         (whole (count_out_of_range n) (wrong_byte_count s n) (bit_after_count s n) (from_sensor w) (eqb n (a + 120)) (eqb (bits s (a + 33) (a + 36)) 0)
-        (ElmDownlink (bits_of s (a + 8) 24) 0) (Accepted (record_of s n w)) (counted s n w))
+        (ElmDownlink (bits_of s (a + 8) 24) 0) (Ok (record_of s n w)) (counted s n w))
 
 pub others_read_as_before : OthersReadAsBefore
 others_read_as_before s n w = (reads s n w).0
@@ -306,11 +303,11 @@ its_text s a e = ap (λ (c : ℕ). by_place (length s) (λ i. cond (eqb (row_at 
 
 -- it is accepted, as the record that its bits make, and its text stands behind its first 40 bits
 one_read : (s : List ℕ) (n a : ℕ) (r : Record) → one_segment s n FromSensor ≡ true → type_of s a ≡ 0x42 → record_of s n FromSensor ≡ r
-    → text_place s (Accepted r) ≡ text_in s a → (answer_of s n FromSensor ≡ Accepted r) × (text_of s n FromSensor ≡ drop ((a + 40) / 8) s)
+    → text_place s (Ok r) ≡ text_in s a → (answer_of s n FromSensor ≡ Ok r) × (text_of s n FromSensor ≡ drop ((a + 40) / 8) s)
 unfolding text_of
 one_read s n a r one type means place =
-    let answer = (one_segment_read s n FromSensor one).1 ∙ ap Accepted means in
-    (answer, ap (λ (x : Answer). drop (text_place s x) s) answer ∙ ap (λ (k : ℕ). drop k s) (place ∙ its_text s a type))
+    let answer = (one_segment_read s n FromSensor one).1 ∙ ap Ok means in
+    (answer, ap (λ (x : Result Record FieldRefusal). drop (text_place s x) s) answer ∙ ap (λ (k : ℕ). drop k s) (place ∙ its_text s a type))
 
 pub bare_read : BareRead
 unfolding opens wrong_byte_count
@@ -490,7 +487,7 @@ unfolding written_of left_of former_written
 others_written_as_before r l t s e =
     let same : takes r l t ≡ former_takes r l t = sym (taken_before r l t ∙ go (takes r l t) (record_has_length0 r) (zero_takes r l t ∙ e)) in
     let answer : written_of r l t s ≡ former_written r l t s = rw same refl in
-    (answer, ap (λ (w : Written). left_as w s (put_in r l t s)) answer)
+    (answer, ap (λ (w : Result ℕ FieldRefusal). left_as w s (put_in r l t s)) answer)
   where
     go : (b z : Bool) → (z && b) ≡ false → (b && not z) ≡ b
     go true true q = differ (sym q)

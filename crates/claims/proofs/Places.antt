@@ -1,5 +1,6 @@
 -- Reading at a place: the end is told exactly where only idle words are left; a report has the words of its run; and what the writer left, as
 -- words or as bytes, is read at its place. Assumes nothing.
+use Rattle.std.specs.Prelude.{Ok, Result, Err}
 use Prim.Native.Nat.{ℕ, zero, suc, ◌+◌, ◌-◌, ◌*◌, ◌%◌, ◌≤◌, ◌<◌}
 use mathlib.Core.Path.{◌≡◌, refl, sym, ap, ◌∙◌}
 use mathlib.Core.Bool.{false}
@@ -14,8 +15,6 @@ use borrow.Author.Tests.{eqb-true, eqb-false, ltb-false}
 use Rattle.words.specs.Word.{idle}
 use Rattle.refusals.specs.declared.LineRefusal.TheVariants.{LineTooLong, OddByteCount, PlaceBeyondLine}
 use Rattle.reports.specs.declared.Report.{Report}
-use Rattle.reports.specs.declared.RunAnswer.{RunAnswer}
-use Rattle.reports.specs.declared.RunAnswer.TheVariants as A
 use Rattle.reports.specs.Altitude.{AltitudeForm, Sound}
 use Rattle.reports.specs.Layouts.{words_of, Fits}
 use Rattle.reports.specs.Records.{report_of}
@@ -23,8 +22,6 @@ use Rattle.reports.specs.Runs.{read_run}
 use Rattle.reports.proofs.Demand2.{demand_2, words_good, words_length}
 use Rattle.lines.specs.declared.What.TheVariants as W
 use Rattle.lines.specs.declared.Outcome.{Outcome}
-use Rattle.lines.specs.declared.Wrote.{Wrote}
-use Rattle.lines.specs.declared.Wrote.TheVariants as P
 use Rattle.lines.specs.Line.{most, outcome_of, not_taken_at, what_of, placed, is_refusal, is_end, gap, stretch, run_in, outcome_at, read_by, read_at}
 use Rattle.lines.specs.Bytes.{most_bytes, words_in, bytes_of, read_bytes}
 use Rattle.lines.specs.Writing.{write_at, left_as, Writes}
@@ -39,6 +36,10 @@ use Rattle.lines.proofs.ByteWords as byte-words
 use Rattle.lines.proofs.ByteWords.{bytes_length, bytes_as_words}
 use Rattle.lines.proofs.ByteLeft.{same_words}
 use Rattle.claims.specs.Demands.{OnlyIdleLeft, between}
+use Rattle.reports.specs.declared.RunRefusal.{RunRefusal}
+use Rattle.lines.specs.declared.NotWritten.{NotWritten}
+use Rattle.reports.specs.Runs.{refused_at}
+use Rattle.lines.specs.Writing.{not_written}
 
 -- ---- idle words alone
 
@@ -63,7 +64,7 @@ no_run (suc k) = no_run k
 -- ---- at a place, in any form of the altitude
 
 module _ (form : AltitudeForm) where
-  abbrev answer : List ℕ → RunAnswer
+  abbrev answer : List ℕ → Result Report RunRefusal
   answer = read_run form
 
   bytes_read : (bytes : List ℕ) (place : ℕ) → length bytes ≤ most_bytes → length bytes % 2 ≡ 0 → read_bytes form bytes place ≡ read_at form (words_in bytes) place
@@ -159,9 +160,9 @@ module _ (form : AltitudeForm) (sound : Sound form) where
   found n f [] r e = let z : ◌≡◌ {A = ℕ} 0 1 = cc in absurd (omega arith)
   found n f (w ∷ ws) r e = (((demand_2 form sound (w ∷ ws) r).0 (accepted (read_run form (w ∷ ws)) e)).0, refl, refl)
     where
-      accepted : (a : RunAnswer) → what_of a ≡ W.Accepted r → a ≡ A.Accepted r
-      accepted (A.Accepted x) e = cc
-      accepted (A.Refused q o) e = let z : ◌≡◌ {A = ℕ} 0 1 = cc in absurd (omega arith)
+      accepted : (a : Result Report RunRefusal) → what_of a ≡ W.Accepted r → a ≡ Ok r
+      accepted (Ok x) e = cc
+      accepted (Err refusal) e = let z : ◌≡◌ {A = ℕ} 0 1 = cc in absurd (omega arith)
 
   pub report_words : (line : List ℕ) (place : ℕ) (r : Report) → (read_at form line place).what ≡ W.Accepted r
       → words_of form r ≡ between (read_at form line place).first (read_at form line place).after line
@@ -191,11 +192,11 @@ module _ (form : AltitudeForm) (sound : Sound form) where
   at_run n f (w ∷ ws) h = refl
 
   -- a line that is too long is not written
-  taken_line : (line : List ℕ) (place next : ℕ) (r : Report) → write_at form line place r ≡ P.Next next → length line ≤ most
+  taken_line : (line : List ℕ) (place next : ℕ) (r : Report) → write_at form line place r ≡ Ok next → length line ≤ most
   unfolding write_at
   taken_line line place next r e =
       by_test (ltb most (length line))
-      (λ a. let k : write_at form line place r ≡ P.Refused LineTooLong place = picked _ _ a in let z : ◌≡◌ {A = ℕ} 0 1 = cc in absurd (omega arith))
+      (λ a. let k : write_at form line place r ≡ not_written LineTooLong place = picked _ _ a in let z : ◌≡◌ {A = ℕ} 0 1 = cc in absurd (omega arith))
       (λ a. ltb-false most (length line) a)
 
   -- a report's words on a line, with an idle word behind them, are read as the report
@@ -220,19 +221,19 @@ module _ (form : AltitudeForm) (sound : Sound form) where
       ∙ ap (placed (place + 0) (length ws)) (reader_returns form sound r fits)
       ∙ (λ i. outcome_of (W.Accepted r) (p i) (p i + length ws) (add-zero (p i) i))
 
-  pub read_written : (line : List ℕ) (place : ℕ) (r : Report) (next : ℕ) (exit : List ℕ) → Writes form line place r (P.Next next) exit
+  pub read_written : (line : List ℕ) (place : ℕ) (r : Report) (next : ℕ) (exit : List ℕ) → Writes form line place r (Ok next) exit
       → read_at form exit place ≡ outcome_of (W.Accepted r) place (next - 1) place
   read_written line place r next exit w =
       ⊎_elim
       (λ h. let f = h.1 in let a = w.answers in let z : ◌≡◌ {A = ℕ} 0 1 = cc in absurd (omega arith))
       (λ h. let f = h.3 in
-      let a : write_at form line place r ≡ P.Next next = sym w.answers in
+      let a : write_at form line place r ≡ Ok next = sym w.answers in
       let ws = words_of form r in
       let n : next ≡ place + length ws + 1 = cc in
       let room = h.2 in
       let top = take place line in
       let rest = drop next line in
-      let left : exit ≡ top ++ (ws ++ (idle ∷ rest)) = w.leaves ∙ ap (λ (x : Wrote). left_as x line place ws) a in
+      let left : exit ≡ top ++ (ws ++ (idle ∷ rest)) = w.leaves ∙ ap (λ (x : Result ℕ NotWritten). left_as x line place ws) a in
       let size : length (top ++ (ws ++ (idle ∷ rest))) ≡ length line = (only_its_words form line place next r a).0 in
       let most-is = taken_line line place next r a in
       let last : place + length ws ≡ next - 1 = omega arith in
@@ -242,8 +243,8 @@ module _ (form : AltitudeForm) (sound : Sound form) where
       (write_cases form line place r)
 
   -- as many bytes are left as were lent
-  left_length : (bytes : List ℕ) (place : ℕ) (r : Report) (next : ℕ) (exit : List ℕ) → exit ≡ bytes_left (P.Next next) bytes place (words_of form r)
-      → write_at form (words_in bytes) place r ≡ P.Next next → length exit ≡ length bytes
+  left_length : (bytes : List ℕ) (place : ℕ) (r : Report) (next : ℕ) (exit : List ℕ) → exit ≡ bytes_left (Ok next) bytes place (words_of form r)
+      → write_at form (words_in bytes) place r ≡ Ok next → length exit ≡ length bytes
   left_length bytes place r next exit e a =
       ⊎_elim
       (λ h. let f = h.1 in let z : ◌≡◌ {A = ℕ} 0 1 = cc in absurd (omega arith))
@@ -260,30 +261,30 @@ module _ (form : AltitudeForm) (sound : Sound form) where
       (write_cases form (words_in bytes) place r)
 
   -- bytes that are written are few enough and even in number, and are written as the words that they hold
-  taken_bytes : (bytes : List ℕ) (place next : ℕ) (r : Report) → write_bytes form bytes place r ≡ P.Next next
-      → (length bytes ≤ most_bytes) × (length bytes % 2 ≡ 0) × (write_at form (words_in bytes) place r ≡ P.Next next)
+  taken_bytes : (bytes : List ℕ) (place next : ℕ) (r : Report) → write_bytes form bytes place r ≡ Ok next
+      → (length bytes ≤ most_bytes) × (length bytes % 2 ≡ 0) × (write_at form (words_in bytes) place r ≡ Ok next)
   unfolding write_bytes
   taken_bytes bytes place next r e =
       by_test (ltb most_bytes (length bytes))
-      (λ a. let k : write_bytes form bytes place r ≡ P.Refused LineTooLong place = picked _ _ a in let z : ◌≡◌ {A = ℕ} 0 1 = cc in absurd (omega arith))
+      (λ a. let k : write_bytes form bytes place r ≡ not_written LineTooLong place = picked _ _ a in let z : ◌≡◌ {A = ℕ} 0 1 = cc in absurd (omega arith))
       (λ a. by_test (eqb (length bytes % 2) 1)
-      (λ b. let k : write_bytes form bytes place r ≡ P.Refused OddByteCount place = passed _ _ a ∙ picked _ _ b in let z : ◌≡◌ {A = ℕ} 0 1 = cc in absurd (omega arith))
+      (λ b. let k : write_bytes form bytes place r ≡ not_written OddByteCount place = passed _ _ a ∙ picked _ _ b in let z : ◌≡◌ {A = ℕ} 0 1 = cc in absurd (omega arith))
       (λ b. taken (ltb-false most_bytes (length bytes) a) (eqb-false (length bytes % 2) 1 b)))
     where
       taken : length bytes ≤ most_bytes → (length bytes % 2 ≡ 1 → ⊥)
-          → (length bytes ≤ most_bytes) × (length bytes % 2 ≡ 0) × (write_at form (words_in bytes) place r ≡ P.Next next)
+          → (length bytes ≤ most_bytes) × (length bytes % 2 ≡ 0) × (write_at form (words_in bytes) place r ≡ Ok next)
       taken few odd = let even : length bytes % 2 ≡ 0 = omega arith in (few, even, sym (bytes_as_words form bytes place r few even).1 ∙ e)
 
-  pub read_written_bytes : (bytes : List ℕ) (place : ℕ) (r : Report) (next : ℕ) (exit : List ℕ) → WritesBytes form bytes place r (P.Next next) exit
+  pub read_written_bytes : (bytes : List ℕ) (place : ℕ) (r : Report) (next : ℕ) (exit : List ℕ) → WritesBytes form bytes place r (Ok next) exit
       → read_bytes form exit place ≡ outcome_of (W.Accepted r) place (next - 1) place
   read_written_bytes bytes place r next exit w =
-      let e : write_bytes form bytes place r ≡ P.Next next = sym w.answers in
+      let e : write_bytes form bytes place r ≡ Ok next = sym w.answers in
       let t = taken_bytes bytes place next r e in
       let few = t.0 in
       let even = t.1 in
       let ws = words_of form r in
       let as_words : words_in exit ≡ left_as (write_at form (words_in bytes) place r) (words_in bytes) place ws =
-      ap words_in w.leaves ∙ same_words form bytes place r ∙ ap (λ (x : Wrote). left_as x (words_in bytes) place ws) (e ∙ sym t.2) in
-      let size : length exit ≡ length bytes = left_length bytes place r next exit (w.leaves ∙ ap (λ (x : Wrote). bytes_left x bytes place ws) e) t.2 in
+      ap words_in w.leaves ∙ same_words form bytes place r ∙ ap (λ (x : Result ℕ NotWritten). left_as x (words_in bytes) place ws) (e ∙ sym t.2) in
+      let size : length exit ≡ length bytes = left_length bytes place r next exit (w.leaves ∙ ap (λ (x : Result ℕ NotWritten). bytes_left x bytes place ws) e) t.2 in
       bytes_read form exit place (omega arith) (ap (λ (n : ℕ). n % 2) size ∙ even)
       ∙ read_written (words_in bytes) place r next (words_in exit) (record { answers = sym t.2; leaves = as_words })

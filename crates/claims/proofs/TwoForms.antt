@@ -1,5 +1,6 @@
 -- The two forms of the altitude: what the new one answers by what document 01's answers (specs/TwoForms.antt). What is read of a report goes by one
 -- law on any two forms (`mapped`). Assumes nothing.
+use Rattle.std.specs.Prelude.{Err, Ok, Result, tt}
 use Prim.Native.Nat.{ℕ, zero, suc, ◌+◌, ◌-◌, ◌/◌, ◌%◌}
 use mathlib.Core.Path.{◌≡◌, refl, sym, ap, ◌∙◌}
 use mathlib.Core.Bool.{Bool, true, false, not, cond}
@@ -25,15 +26,12 @@ use Rattle.reports.specs.declared.Dabs.{Dabs}
 use Rattle.reports.specs.declared.Atcrbs.{Atcrbs}
 use Rattle.reports.specs.declared.Report.{Report}
 use Rattle.reports.specs.declared.Report.TheVariants as R
-use Rattle.reports.specs.declared.RunAnswer.{RunAnswer}
-use Rattle.reports.specs.declared.RunAnswer.TheVariants as A
 use Rattle.reports.specs.declared.altitude.Form.{Form}
 use Rattle.reports.specs.declared.altitude.Form.TheVariants as F
 use Rattle.reports.specs.Altitude.{AltitudeForm, sign, magnitude, negative, sign_magnitude, twos_complement, form_of}
 use Rattle.reports.specs.Forms.{is_seven, is_search, is_strobe, is_status, is_map, is_dabs, is_cd, is_mtd, is_rdas, is_mtd_search, is_rdas_search}
 use Rattle.reports.specs.Records.{height_of, dabs_of, atcrbs_of, mtd_of, rdas_of, four_of, seven_of, report_of}
 use Rattle.reports.specs.Conditions.{too_wide_word, even_word, unknown_form, wrong_length, unassigned, spare_set, minus_zero}
-use Rattle.reports.specs.declared.Written.TheVariants as M
 use Rattle.reports.specs.Layouts.{last_word, layout_of, words_of, takes, as_written, written}
 use Rattle.reports.specs.Runs.{read_run, table_of, answer_offset}
 use Rattle.reports.specs.Values.{counted_of}
@@ -47,11 +45,13 @@ use Rattle.lines.specs.declared.What.TheVariants as W
 use Rattle.lines.specs.declared.Outcome.{Outcome}
 use Rattle.lines.specs.Line.{outcome_of, what_of, placed, outcome_at, line_rows, most, read_by, read_at}
 use Rattle.lines.specs.Bytes.{most_bytes, words_in, byte_rows, read_bytes}
-use Rattle.lines.specs.declared.Wrote.TheVariants as P
 use Rattle.lines.specs.Writing.{place_rows, write_at, left_as}
 use Rattle.lines.specs.ByteWriting.{write_bytes, bytes_left}
 use Rattle.index.specs.Entries.{file_of, number_in, kind_in, entry_of}
 use Rattle.claims.specs.TwoForms.{dabs_with, atcrbs_with, height_by, altitude_by, of_height, of_altitude, turn, turned, lowest, is_minus_zero, answer_anew, NewReading, MinusZeroIsLowest, low_altitude, EqualReadings, RestStays, NeverMinusZero, NeverMinusZeroInBytes, what_anew, outcome_anew, run_from, NewOutcome, NewOutcomeOfBytes, is_nine, SameEntry, ElevenFollows, EqualWriting, TurnedWords, WriteAlike, SameCalls}
+use Rattle.reports.specs.declared.RunRefusal.{RunRefusal}
+use Rattle.reports.specs.Runs.{refused_at}
+use Rattle.lines.specs.Writing.{not_written}
 
 -- ---- the height of a report in two forms
 
@@ -164,18 +164,18 @@ same_plain n h = passed _ _ h ∙ sym (passed _ _ h)
 -- ---- the answers to a run
 
 -- the rows before the last do not ask the form, and where none of them holds, the last decides
-abbrev common : List ℕ → List (Row RunAnswer)
+abbrev common : List ℕ → List (Row (Result Report RunRefusal))
 common ws =
-    row (too_wide_word ws) (A.Refused WordTooWide (first wider_than_a_word ws))
-    ∷ row (even_word ws) (A.Refused EvenWord (first even ws))
-    ∷ row (unknown_form ws) (A.Refused UnknownForm 0)
-    ∷ row (wrong_length ws) (A.Refused WrongLength 0)
-    ∷ row (unassigned ws) (A.Refused UnassignedRadar 0)
-    ∷ row (spare_set ws) (A.Refused SpareBitSet 0)
+    row (too_wide_word ws) (refused_at WordTooWide (first wider_than_a_word ws))
+    ∷ row (even_word ws) (refused_at EvenWord (first even ws))
+    ∷ row (unknown_form ws) (refused_at UnknownForm 0)
+    ∷ row (wrong_length ws) (refused_at WrongLength 0)
+    ∷ row (unassigned ws) (refused_at UnassignedRadar 0)
+    ∷ row (spare_set ws) (refused_at SpareBitSet 0)
     ∷ []
 
-abbrev last_of : AltitudeForm → List ℕ → RunAnswer
-last_of form ws = cond (minus_zero form ws) (A.Refused MinusZero 0) (A.Accepted (report_of form ws))
+abbrev last_of : AltitudeForm → List ℕ → Result Report RunRefusal
+last_of form ws = cond (minus_zero form ws) (refused_at MinusZero 0) (Ok (report_of form ws))
 
 -- rows are asked alike, and where none holds the other answers are the same
 alike : {X : Type 0} (rs : List (Row X)) (x y : X) → (NoneHolds rs → x ≡ y) → first_of rs x ≡ first_of rs y
@@ -210,7 +210,7 @@ module _ (ws : List ℕ) where
   abbrev twelve : ℕ
   twelve = bits ws 79 90
 
-  accepted : last_of twos_complement ws ≡ A.Accepted (report_of twos_complement ws)
+  accepted : last_of twos_complement ws ≡ Ok (report_of twos_complement ws)
   accepted = passed _ _ (no_minus ws)
 
   last_anew : NoneHolds (common ws) → last_of twos_complement ws ≡ answer_anew ws (last_of sign_magnitude ws)
@@ -219,28 +219,28 @@ module _ (ws : List ℕ) where
       by_test (minus_zero sign_magnitude ws)
       (λ t.
       accepted
-      ∙ ap A.Accepted (sym (mapped sign_magnitude twos_complement (λ z. neg_ℤ (pos 2048)) ws assigned (λ s r c. lowest_plain twelve (fourth (is_seven ws) (not (bit ws 12)) (bit ws 6) _ t))))
+      ∙ ap Ok (sym (mapped sign_magnitude twos_complement (λ z. neg_ℤ (pos 2048)) ws assigned (λ s r c. lowest_plain twelve (fourth (is_seven ws) (not (bit ws 12)) (bit ws 6) _ t))))
       ∙ sym (ap (answer_anew ws) (picked _ _ t)))
       (λ t.
       accepted
-      ∙ ap A.Accepted (sym (mapped sign_magnitude twos_complement turn ws assigned (λ s r c. turn_plain twelve (fourth_not (is_seven ws) (bit ws 12) (bit ws 6) _ s r c t))))
+      ∙ ap Ok (sym (mapped sign_magnitude twos_complement turn ws assigned (λ s r c. turn_plain twelve (fourth_not (is_seven ws) (bit ws 12) (bit ws 6) _ s r c t))))
       ∙ sym (ap (answer_anew ws) (passed _ _ t)))
 
 pub new_reading : NewReading
-new_reading ws = alike (common ws) _ _ (last_anew ws) ∙ rows.each_of RunAnswer RunAnswer (answer_anew ws) (common ws) (last_of sign_magnitude ws)
+new_reading ws = alike (common ws) _ _ (last_anew ws) ∙ rows.each_of (Result Report RunRefusal) (Result Report RunRefusal) (answer_anew ws) (common ws) (last_of sign_magnitude ws)
 
 -- ---- minus zero
 
 -- a run that gets 9 is minus zero: no row before the last gives it
-abbrev ninth : RunAnswer → Bool
-ninth (A.Accepted r) = false
-ninth (A.Refused q o) = is_minus_zero q
+abbrev ninth : Result Report RunRefusal → Bool
+ninth (Ok r) = false
+ninth (Err refusal) = is_minus_zero refusal.why
 
-not_given : (rs : List (Row RunAnswer)) (x : RunAnswer) → Refusing ninth rs → ninth x ≡ false → ninth (first_of rs x) ≡ false
+not_given : (rs : List (Row (Result Report RunRefusal))) (x : Result Report RunRefusal) → Refusing ninth rs → ninth x ≡ false → ninth (first_of rs x) ≡ false
 not_given [] x none e = e
 not_given (r ∷ rs) x none e = by_cond (λ y. ninth y ≡ false) r.holds (λ t. none.0) (λ t. not_given rs x none.1 e)
 
-is_minus : (ws : List ℕ) (o : ℕ) → read_run sign_magnitude ws ≡ A.Refused MinusZero o → minus_zero sign_magnitude ws ≡ true
+is_minus : (ws : List ℕ) (o : ℕ) → read_run sign_magnitude ws ≡ refused_at MinusZero o → minus_zero sign_magnitude ws ≡ true
 is_minus ws o e =
     by_test (minus_zero sign_magnitude ws) (λ t. t)
     (λ t. differ (sym (ap ninth e) ∙ not_given (common ws) (last_of sign_magnitude ws) (refl, (refl, (refl, (refl, (refl, (refl, tt)))))) (ap ninth (passed _ _ t))))
@@ -335,7 +335,7 @@ last_same ws low none =
     let report : report_of sign_magnitude ws ≡ report_of twos_complement ws =
     sym (own_report (report_of sign_magnitude ws))
     ∙ mapped sign_magnitude twos_complement (λ z. z) ws none.1.1.1.1.0 (λ s r c. same_plain n (fourth_not (is_seven ws) (bit ws 12) (bit ws 6) (sign n) s r c low-sign)) in
-    accepted ws ∙ ap A.Accepted (sym report) ∙ sym (passed (A.Refused MinusZero 0) _ (not_both (is_seven ws) (not (bit ws 12)) (bit ws 6) (sign n) (eqb (magnitude n) 0) low-sign))
+    accepted ws ∙ ap Ok (sym report) ∙ sym (passed (refused_at MinusZero 0) _ (not_both (is_seven ws) (not (bit ws 12)) (bit ws 6) (sign n) (eqb (magnitude n) 0) low-sign))
 
 pub equal_readings : EqualReadings
 equal_readings = record {
@@ -348,12 +348,12 @@ equal_readings = record {
 -- no refusal's place moves: minus zero is named at its first word, as a report is
 offset_stays : (ws : List ℕ) → answer_offset (answer_anew ws (read_run sign_magnitude ws)) ≡ answer_offset (read_run sign_magnitude ws)
 offset_stays ws =
-    sym (rows.each_of RunAnswer ℕ (λ a. answer_offset (answer_anew ws a)) (table_of sign_magnitude ws) (A.Accepted (report_of sign_magnitude ws)))
-    ∙ rows.each_of RunAnswer ℕ answer_offset (table_of sign_magnitude ws) (A.Accepted (report_of sign_magnitude ws))
+    sym (rows.each_of (Result Report RunRefusal) ℕ (λ a. answer_offset (answer_anew ws a)) (table_of sign_magnitude ws) (Ok (report_of sign_magnitude ws)))
+    ∙ rows.each_of (Result Report RunRefusal) ℕ answer_offset (table_of sign_magnitude ws) (Ok (report_of sign_magnitude ws))
 
-what-anew : (ws : List ℕ) (a : RunAnswer) → what_of (answer_anew ws a) ≡ what_anew ws (what_of a)
-what-anew ws (A.Accepted r) = refl
-what-anew ws (A.Refused q o) = by_conds (λ x y. what_of x ≡ y) (is_minus_zero q) (λ t. refl) (λ t. refl)
+what-anew : (ws : List ℕ) (a : Result Report RunRefusal) → what_of (answer_anew ws a) ≡ what_anew ws (what_of a)
+what-anew ws (Ok r) = refl
+what-anew ws (Err refusal) = by_conds (λ x y. what_of x ≡ y) (is_minus_zero refusal.why) (λ t. refl) (λ t. refl)
 
 run_anew : (n f : ℕ) (run : List ℕ) → outcome_at (read_run twos_complement) n f run ≡ outcome_anew run (outcome_at (read_run sign_magnitude) n f run)
 run_anew n f [] = refl
@@ -537,7 +537,7 @@ neither true = refl
 neither false = refl
 
 outside : (form : Form) (r : Report) (z : ℤ) → of_altitude (λ v. true) r ≡ true → (InRange form z → ⊥)
-    → written (form_of form) (altitude_by (λ v. z) r) ≡ M.Refused ValueTooLarge
+    → written (form_of form) (altitude_by (λ v. z) r) ≡ Err ValueTooLarge
 outside form r z e none =
     let n = (form_of form).bits_of z in
     let over : ltb n 4096 ≡ false = by_test (ltb n 4096) (λ t. absurd (none ((range_of_each form z).0 (ltb-true n 4096 t)))) (λ t. t) in
@@ -566,25 +566,25 @@ eleven_follows = record { outside = outside; inside = inside }
 
 pub equal_writing : EqualWriting
 equal_writing r e =
-    ap (λ (l : List (List Field)). cond (fitting_by l) (as_written (words_by l)) (M.Refused ValueTooLarge))
+    ap (λ (l : List (List Field)). cond (fitting_by l) (as_written (words_by l)) (Err ValueTooLarge))
     (layout_alike twos_complement sign_magnitude negative same_from_zero r e)
 
 -- a writer asks of a report only whether it is taken, and its words
 module _ (f : AltitudeForm) (r : Report) (g : AltitudeForm) (s : Report) (taken : takes f r ≡ takes g s) (words : words_of f r ≡ words_of g s) where
   same_rows : (n place : ℕ) → place_rows f n place r ≡ place_rows g n place s
   same_rows n place =
-      λ i. row (ltb n place) (P.Refused PlaceBeyondLine place) ∷ row (not (taken i)) (P.Refused ValueTooLarge place) ∷ row (ltb (n - place) (length (words i) + 1)) (P.Refused NoRoom place) ∷ []
+      λ i. row (ltb n place) (not_written PlaceBeyondLine place) ∷ row (not (taken i)) (not_written ValueTooLarge place) ∷ row (ltb (n - place) (length (words i) + 1)) (not_written NoRoom place) ∷ []
 
   on_words : (line : List ℕ) (place : ℕ) → write_at f line place r ≡ write_at g line place s
   unfolding write_at
   on_words line place =
-      λ i. first_of (row (ltb most (length line)) (P.Refused LineTooLong place) ∷ same_rows (length line) place i) (P.Next (place + length (words i) + 1))
+      λ i. first_of (row (ltb most (length line)) (not_written LineTooLong place) ∷ same_rows (length line) place i) (Ok (place + length (words i) + 1))
 
   on_bytes : (bytes : List ℕ) (place : ℕ) → write_bytes f bytes place r ≡ write_bytes g bytes place s
   unfolding write_bytes
   on_bytes bytes place =
       λ i.
-      first_of (row (ltb most_bytes (length bytes)) (P.Refused LineTooLong place) ∷ row (eqb (length bytes % 2) 1) (P.Refused OddByteCount place) ∷ same_rows (length (words_in bytes)) place i) (P.Next (place + length (words i) + 1))
+      first_of (row (ltb most_bytes (length bytes)) (not_written LineTooLong place) ∷ row (eqb (length bytes % 2) 1) (not_written OddByteCount place) ∷ same_rows (length (words_in bytes)) place i) (Ok (place + length (words i) + 1))
 
   write_alike : WriteAlike f r g s
   write_alike = record {

@@ -4,7 +4,7 @@
 -- (document 02, Ticket 7): "Demand 2's round trip is read for a fixed link number; demand 3 speaks of lines read with one number", and so they are said
 -- here. Laws on what is found (`read_by`, `read_at`, `read_bytes`, `calls`, `outcomes`) are laws on what the readers answer by ReadWithOneNumber. Demands,
 -- at the end, gathers all, and proofs/Demands.antt proves it as one value. Statements only, with what they need to be said.
-use Rattle.std.specs.Prelude.{ℕ, ◌+◌, ◌-◌, ◌/◌, ◌%◌, ◌≤◌, ◌≡◌, true, List, [], ◌∷◌, ◌++◌, ◌↔◌, T, ℤ, length, take, drop, replicate}
+use Rattle.std.specs.Prelude.{ℕ, ◌+◌, ◌-◌, ◌/◌, ◌%◌, ◌≤◌, ◌≡◌, true, List, [], ◌∷◌, ◌++◌, ◌↔◌, T, ℤ, length, take, drop, replicate, Err, None, Ok, Option, Result, Some}
 use Rattle.std.specs.Float.{binary64}
 use Rattle.std.specs.Float.Ieee.{fits}
 use Rattle.refusals.specs.declared.LineRefusal.{LineRefusal}
@@ -20,13 +20,10 @@ use Rattle.reports.specs.Altitude.{AltitudeForm, Sound, form_of}
 use Rattle.reports.specs.Layouts.{words_of}
 use Rattle.reports.specs.Runs.{read_run}
 use Rattle.reports.specs.Values.{Counted, Yields}
-use Rattle.reports.specs.declared.values.Values.{Values}
-use Rattle.reports.specs.declared.values.Values.TheVariants as Y
 use Rattle.lines.specs.Claims as lines
 use Rattle.lines.specs.declared.What.{What}
 use Rattle.lines.specs.declared.What.TheVariants as W
 use Rattle.lines.specs.declared.Received.{Received}
-use Rattle.lines.specs.declared.Wrote.TheVariants as P
 use Rattle.lines.specs.Line.{most, outcome_of}
 use Rattle.lines.specs.Bytes.{most_bytes, words_in}
 use Rattle.lines.specs.Links.{last_link, received_on, read_on, read_bytes_on, outcomes_on}
@@ -36,14 +33,13 @@ use Rattle.lines.specs.ByteWriting.{WritesBytes}
 use Rattle.fields.specs.Claims as fields
 use Rattle.fields.specs.declared.Direction.{Direction}
 use Rattle.fields.specs.declared.Record.{Record}
-use Rattle.fields.specs.declared.Answer.TheVariants.{Accepted}
-use Rattle.fields.specs.declared.Written.{Written}
-use Rattle.fields.specs.declared.Written.TheVariants as F
 use Rattle.fields.specs.Reading.{answer_of, read_field, text_of}
 use Rattle.fields.specs.Writing.{takes, bits_in, way_in, bytes_in, written_of, left_of}
 use Rattle.claims.specs.Numbers.{NumbersDiffer, NoNumberIsZero}
 use Rattle.claims.specs.Twelve.{Twelve}
 use Rattle.claims.specs.Printed.{AsPrinted, OnlyPrinted, EntriesAsPrinted, RulesAsPrinted, AllHaveRules}
+use Rattle.measures.specs.declared.Measured.{Measured}
+use Rattle.lines.specs.Writing.{not_written}
 
 -- ---- demand 1
 
@@ -52,7 +48,7 @@ abbrev pub AllowsOne : {A : Type 0} → (A → List ℕ → Type 0) → Type 0
 AllowsOne {A} P = (a : A) × (exit : List ℕ) × P a exit × ((b : A) (left : List ℕ) → P b left → (b ≡ a) × (left ≡ exit))
 
 -- what the writer of fields promises
-pub record WritesField (r : Record) (l : List ℤ) (t s : List ℕ) (answer : Written) (exit : List ℕ) : Type 0 where
+pub record WritesField (r : Record) (l : List ℤ) (t s : List ℕ) (answer : Result ℕ FieldRefusal) (exit : List ℕ) : Type 0 where
   pub answers : answer ≡ written_of r l t s
   pub leaves : exit ≡ left_of r l t s
 
@@ -110,18 +106,18 @@ pub record GivenExactly : Type 0 where
 -- alone (`&[T]`), which the language holds it to
 pub record LeavesUntouched : Type 0 where
   pub words : (form : AltitudeForm) (line : List ℕ) (place : ℕ) (r : Report) (q : LineRefusal) (p : ℕ) (exit : List ℕ)
-      → Writes form line place r (P.Refused q p) exit → exit ≡ line
+      → Writes form line place r (not_written q p) exit → exit ≡ line
   pub bytes : (form : AltitudeForm) (bytes : List ℕ) (place : ℕ) (r : Report) (q : LineRefusal) (p : ℕ) (exit : List ℕ)
-      → WritesBytes form bytes place r (P.Refused q p) exit → exit ≡ bytes
+      → WritesBytes form bytes place r (not_written q p) exit → exit ≡ bytes
   pub fields : (r : Record) (l : List ℤ) (t s : List ℕ) (q : FieldRefusal) (exit : List ℕ)
-      → WritesField r l t s (F.Refused q) exit → exit ≡ s
+      → WritesField r l t s (Err q) exit → exit ≡ s
 
 -- ---- demand 2
 
 -- the floats of a report's values are doubles, as `f64` has them
-abbrev pub Doubles : Values → Type 0
-Doubles (Y.Measured m) = T (fits binary64 m.range) × T (fits binary64 m.azimuth) × T (fits binary64 m.time)
-Doubles Y.Nothing = Unit {0}
+abbrev pub Doubles : Option Measured → Type 0
+Doubles (Some m) = T (fits binary64 m.range) × T (fits binary64 m.azimuth) × T (fits binary64 m.time)
+Doubles None = Unit {0}
 
 -- "Reports and link data fields mean what FAA-RD-80-14, with its errata and the readings written in document 01, says they mean." What they
 -- mean is defined twice, by bit numbers as the tables print it and by the widths of what is written, and the two are one: a run is read as a
@@ -141,7 +137,7 @@ pub record MeanWhatIsPrinted : Type 0 where
   pub rules_of_all : AllHaveRules
   pub lists_by_bits : (s : List ℕ) (k : ℕ) → EntriesAsPrinted s k
   pub weights : measures.WeightsAsPrinted
-  pub values : (c : Counted) (x y : Values) → Doubles x → Doubles y → Yields c x → Yields c y → x ≡ y
+  pub values : (c : Counted) (x y : Option Measured) → Doubles x → Doubles y → Yields c x → Yields c y → x ≡ y
   pub twelve : Twelve
 
 -- a field's bytes, count and direction are those of a record, a list and a text that the writer takes
@@ -155,7 +151,7 @@ pub record AcceptedExactly : Type 0 where
   pub runs : reports.AcceptedExactly
   pub runs_by_words : reports.LayoutIsWords
   pub fields : fields.AcceptedExactly
-  pub fields_by_bytes : (s : List ℕ) (n : ℕ) (w : Direction) (r : Record) → Bytes s → (answer_of s n w ≡ Accepted r) ↔ HasFieldLayout s n w r
+  pub fields_by_bytes : (s : List ℕ) (n : ℕ) (w : Direction) (r : Record) → Bytes s → (answer_of s n w ≡ Ok r) ↔ HasFieldLayout s n w r
 
 -- the words of a line from a place up to another
 abbrev pub between : ℕ → ℕ → List ℕ → List ℕ
@@ -173,15 +169,15 @@ pub record WordsThere (form : AltitudeForm) (link : ℕ) : Type 0 where
 pub record WrittenAgain : Type 0 where
   pub runs : reports.WrittenAgain
   pub there : (form : AltitudeForm) → Sound form → (link : ℕ) → WordsThere form link
-  pub fields : (s : List ℕ) (n : ℕ) (w : Direction) (r : Record) → Bytes s → answer_of s n w ≡ Accepted r
+  pub fields : (s : List ℕ) (n : ℕ) (w : Direction) (r : Record) → Bytes s → answer_of s n w ≡ Ok r
       → (b : List ℕ) → Bytes b → length s ≤ length b
-      → WritesField r (read_field s n w).list (text_of s n w) b (F.Bits n) (s ++ drop (length s) b)
+      → WritesField r (read_field s n w).list (text_of s n w) b (Ok n) (s ++ drop (length s) b)
 
 -- a report read at the place where it was written, of words and of bytes; read with this link number
 pub record ReadThere (form : AltitudeForm) (link : ℕ) : Type 0 where
-  pub on_a_line : (line : List ℕ) (place : ℕ) (r : Report) (next : ℕ) (exit : List ℕ) → Writes form line place r (P.Next next) exit
+  pub on_a_line : (line : List ℕ) (place : ℕ) (r : Report) (next : ℕ) (exit : List ℕ) → Writes form line place r (Ok next) exit
       → read_on form link exit place ≡ received_on link (outcome_of (W.Accepted r) place (next - 1) place)
-  pub in_bytes : (bytes : List ℕ) (place : ℕ) (r : Report) (next : ℕ) (exit : List ℕ) → WritesBytes form bytes place r (P.Next next) exit
+  pub in_bytes : (bytes : List ℕ) (place : ℕ) (r : Report) (next : ℕ) (exit : List ℕ) → WritesBytes form bytes place r (Ok next) exit
       → read_bytes_on form link exit place ≡ received_on link (outcome_of (W.Accepted r) place (next - 1) place)
 
 -- "and, of those the writer takes, a record written and read gives the same record": a report where it was written (there); and a record with its
@@ -191,8 +187,8 @@ pub record ReadAgain : Type 0 where
   pub runs_taken : reports.TakesWhatFits
   pub there : (form : AltitudeForm) → Sound form → (link : ℕ) → link ≤ last_link → ReadThere form link
   pub fields : (r : Record) (l : List ℤ) (t b : List ℕ) (n : ℕ) (exit : List ℕ) → length l ≡ 30 → Bytes t → Bytes b
-      → WritesField r l t b (F.Bits n) exit
-      → (read_field (take ((n + 7) / 8) exit) n (way_in r) ≡ record { answer = Accepted r; list = l })
+      → WritesField r l t b (Ok n) exit
+      → (read_field (take ((n + 7) / 8) exit) n (way_in r) ≡ record { answer = Ok r; list = l })
       × (text_of (take ((n + 7) / 8) exit) n (way_in r) ≡ t)
 
 -- ---- demand 3

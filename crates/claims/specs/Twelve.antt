@@ -1,7 +1,7 @@
 -- Document 01, "Twelve to prove": C1 to C12 as one table, in document 01's form of the altitude. A row has what is given and all that is answered,
 -- and Twelve, the claim at the end, says that the written definitions answer every row so. Beside it stands a table of cases in the new form
 -- (document 02, Ticket 5), with its own claim. Definitions only; proofs/Twelve.antt proves the claims by computing them.
-use Rattle.std.specs.Prelude.{ℕ, ◌*◌, ◌/◌, ◌≡◌, true, false, List, [], ◌∷◌, ◌++◌, map, ℤ, pos, neg_ℤ, replicate}
+use Rattle.std.specs.Prelude.{ℕ, ◌*◌, ◌/◌, ◌≡◌, true, false, List, [], ◌∷◌, ◌++◌, map, ℤ, pos, neg_ℤ, replicate, Err, Ok, Result}
 use Rattle.refusals.specs.declared.LineRefusal.TheVariants.{ValueTooLarge}
 use Rattle.refusals.specs.Numbers.{line_number, field_number}
 use Rattle.reports.specs.declared.Report.{Report}
@@ -14,8 +14,6 @@ use Rattle.reports.specs.declared.altitude.Form.{Form}
 use Rattle.reports.specs.declared.altitude.Form.TheVariants as F
 use Rattle.reports.specs.Altitude.{form_of}
 use Rattle.reports.specs.Kinds.{kind_of}
-use Rattle.reports.specs.declared.Written.{Written}
-use Rattle.reports.specs.declared.Written.TheVariants as M
 use Rattle.reports.specs.Layouts.{as_written, written}
 use Rattle.reports.specs.Runs.{read_run}
 use Rattle.reports.specs.Values.{Counted, counts, counted_of}
@@ -28,9 +26,10 @@ use Rattle.fields.specs.declared.Direction.TheVariants.{ToSensor}
 use Rattle.fields.specs.declared.Field.TheVariants.{TacticalUplink, AltimeterCorrection}
 use Rattle.fields.specs.declared.Record.{Record}
 use Rattle.fields.specs.declared.Record.TheVariants.{Single}
-use Rattle.fields.specs.declared.Answer.{Answer}
-use Rattle.fields.specs.declared.Answer.TheVariants as A
 use Rattle.fields.specs.Reading.{read_field, text_of}
+use Rattle.refusals.specs.declared.FieldRefusal.{FieldRefusal}
+use Rattle.refusals.specs.declared.LineRefusal.{LineRefusal}
+use Rattle.reports.specs.declared.Words.{Words}
 
 -- ---- what a row says
 
@@ -77,9 +76,9 @@ said W.End = end
 abbrev call_of : Outcome → Call
 call_of o = call (said o.what) o.first o.after o.named
 
-abbrev message_of : Answer → List ℤ → List ℕ → Reply
-message_of (A.Accepted r) l t = message r l t
-message_of (A.Refused q) l t = refusal (field_number q) l t
+abbrev message_of : Result Record FieldRefusal → List ℤ → List ℕ → Reply
+message_of (Ok r) l t = message r l t
+message_of (Err q) l t = refusal (field_number q) l t
 
 abbrev answer_to : Form → Input → Reply
 answer_to form (line ws) = calls (map call_of (outcomes (read_run (form_of form)) ws))
@@ -194,7 +193,7 @@ new_table =
     ∷ []
 
 -- the words of C2 with this altitude, as the writer hands them out in the new form, or its refusal
-abbrev c2_written : ℤ → Written
+abbrev c2_written : ℤ → Result Words LineRefusal
 c2_written z = written (form_of F.TwosComplement) (dabs (Altitude z))
 
 -- ---- the claims
@@ -214,5 +213,5 @@ pub record WrittenInTheNewForm : Type 0 where
   pub highest : c2_written (pos 2047) ≡ as_written (c2 3973 4094)
   pub minus_one : c2_written (neg_ℤ (pos 1)) ≡ as_written (c2 3973 8191)
   pub sea_level : c2_written (pos 0) ≡ as_written (c2 3973 1)
-  pub too_low : c2_written (neg_ℤ (pos 2049)) ≡ M.Refused ValueTooLarge
-  pub too_high : c2_written (pos 2048) ≡ M.Refused ValueTooLarge
+  pub too_low : c2_written (neg_ℤ (pos 2049)) ≡ Err ValueTooLarge
+  pub too_high : c2_written (pos 2048) ≡ Err ValueTooLarge

@@ -1,6 +1,6 @@
 -- Document 02, Ticket 5, "The other negative altitude": what the new form of the altitude answers, by what document 01's answers, in reading and in
 -- writing, and that nothing else differs between the two. Definitions and statements; proofs/TwoForms.antt proves them.
-use Rattle.std.specs.Prelude.{ℕ, ◌≡◌, Bool, true, false, not, cond, List, [], ◌∷◌, eqb, ℤ, pos, neg_ℤ, nat_abs, ◌-ℤ◌, drop}
+use Rattle.std.specs.Prelude.{ℕ, ◌≡◌, Bool, true, false, not, cond, List, [], ◌∷◌, eqb, ℤ, pos, neg_ℤ, nat_abs, ◌-ℤ◌, drop, Err, Ok, Result}
 use Rattle.refusals.specs.declared.LineRefusal.{LineRefusal}
 use Rattle.refusals.specs.declared.LineRefusal.TheVariants.{MinusZero, ValueTooLarge}
 use Rattle.refusals.specs.Numbers.{line_number}
@@ -12,9 +12,6 @@ use Rattle.reports.specs.declared.Dabs.{Dabs}
 use Rattle.reports.specs.declared.Atcrbs.{Atcrbs}
 use Rattle.reports.specs.declared.Report.{Report}
 use Rattle.reports.specs.declared.Report.TheVariants as R
-use Rattle.reports.specs.declared.RunAnswer.{RunAnswer}
-use Rattle.reports.specs.declared.RunAnswer.TheVariants as A
-use Rattle.reports.specs.declared.Written.TheVariants as M
 use Rattle.reports.specs.declared.altitude.Form.{Form}
 use Rattle.reports.specs.Altitude.{AltitudeForm, negative, sign_magnitude, twos_complement, form_of}
 use Rattle.reports.specs.Claims.{InRange}
@@ -29,10 +26,12 @@ use Rattle.lines.specs.declared.What.TheVariants as W
 use Rattle.lines.specs.declared.Outcome.{Outcome}
 use Rattle.lines.specs.Line.{run_in, outcome_of, read_at}
 use Rattle.lines.specs.Bytes.{words_in, read_bytes}
-use Rattle.lines.specs.declared.Wrote.{Wrote}
 use Rattle.lines.specs.Writing.{Writes}
 use Rattle.lines.specs.ByteWriting.{WritesBytes}
 use Rattle.index.specs.Entries.{file_of, entry_of}
+use Rattle.reports.specs.declared.RunRefusal.{RunRefusal}
+use Rattle.lines.specs.declared.NotWritten.{NotWritten}
+use Rattle.reports.specs.Runs.{refused_at}
 
 -- ---- a report with another altitude
 
@@ -132,9 +131,9 @@ abbrev pub is_minus_zero : LineRefusal → Bool
 is_minus_zero q = eqb (line_number q) (line_number MinusZero)
 
 -- the answer to a run in the new form, from the one in document 01's
-abbrev pub answer_anew : List ℕ → RunAnswer → RunAnswer
-answer_anew ws (A.Accepted r) = A.Accepted (turned r)
-answer_anew ws (A.Refused q o) = cond (is_minus_zero q) (A.Accepted (lowest (report_of sign_magnitude ws))) (A.Refused q o)
+abbrev pub answer_anew : List ℕ → Result Report RunRefusal → Result Report RunRefusal
+answer_anew ws (Ok r) = Ok (turned r)
+answer_anew ws (Err refusal) = cond (is_minus_zero refusal.why) (Ok (lowest (report_of sign_magnitude ws))) (Err refusal)
 
 abbrev pub NewReading : Type 0
 NewReading = (ws : List ℕ) → read_run twos_complement ws ≡ answer_anew ws (read_run sign_magnitude ws)
@@ -142,8 +141,8 @@ NewReading = (ws : List ℕ) → read_run twos_complement ws ≡ answer_anew ws 
 -- so minus zero is -2048: where document 01's form gives 9, the new one reads a report with that altitude
 abbrev pub MinusZeroIsLowest : Type 0
 MinusZeroIsLowest =
-    (ws : List ℕ) (o : ℕ) → read_run sign_magnitude ws ≡ A.Refused MinusZero o
-    → (r : Report) × (read_run twos_complement ws ≡ A.Accepted r) × (of_altitude (λ z. all (negative z ∷ eqb (nat_abs z) 2048 ∷ [])) r ≡ true)
+    (ws : List ℕ) (o : ℕ) → read_run sign_magnitude ws ≡ refused_at MinusZero o
+    → (r : Report) × (read_run twos_complement ws ≡ Ok r) × (of_altitude (λ z. all (negative z ∷ eqb (nat_abs z) 2048 ∷ [])) r ≡ true)
 
 -- bits 79-90 are an altitude whose first bit is one: seven words, bit 12 zero, bit 6 one and bit 79 one
 abbrev pub low_altitude : List ℕ → Bool
@@ -206,7 +205,7 @@ SameEntry =
 -- forms alike
 pub record ElevenFollows : Type 0 where
   pub outside : (form : Form) (r : Report) (z : ℤ) → of_altitude (λ v. true) r ≡ true → (InRange form z → ⊥)
-      → written (form_of form) (altitude_by (λ v. z) r) ≡ M.Refused ValueTooLarge
+      → written (form_of form) (altitude_by (λ v. z) r) ≡ Err ValueTooLarge
   pub inside : (form : Form) (r : Report) (z : ℤ) → InRange form z
       → takes (form_of form) (altitude_by (λ v. z) r) ≡ takes sign_magnitude (altitude_by (λ v. pos 0) r)
 
@@ -220,8 +219,8 @@ TurnedWords = (r : Report) → Fits sign_magnitude r → Fits twos_complement (t
 
 -- two calls of a writer answer and leave the same, on a line of words and on bytes
 pub record WriteAlike (f : AltitudeForm) (r : Report) (g : AltitudeForm) (s : Report) : Type 0 where
-  pub words : (line : List ℕ) (place : ℕ) (answer : Wrote) (exit : List ℕ) → Writes f line place r answer exit → Writes g line place s answer exit
-  pub bytes : (bytes : List ℕ) (place : ℕ) (answer : Wrote) (exit : List ℕ)
+  pub words : (line : List ℕ) (place : ℕ) (answer : Result ℕ NotWritten) (exit : List ℕ) → Writes f line place r answer exit → Writes g line place s answer exit
+  pub bytes : (bytes : List ℕ) (place : ℕ) (answer : Result ℕ NotWritten) (exit : List ℕ)
       → WritesBytes f bytes place r answer exit → WritesBytes g bytes place s answer exit
 
 pub record SameCalls : Type 0 where

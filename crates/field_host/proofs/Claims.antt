@@ -1,12 +1,11 @@
 -- The claims of specs/Claims.antt: a field that is read has the bits of its record, and they tell how many entries it has. Assumes nothing.
+use Rattle.std.specs.Prelude.{Ok, Result}
 use Prim.Native.Nat.{ℕ}
 use mathlib.Core.Path.{◌≡◌, refl, ap}
 use native.Mathlib.Omega.{arith}
 use Rattle.fields.specs.declared.Field.{Field}
 use Rattle.fields.specs.declared.Field.TheVariants as F
 use Rattle.fields.specs.declared.Record.TheVariants.{Single}
-use Rattle.fields.specs.declared.Answer.{Answer}
-use Rattle.fields.specs.declared.Answer.TheVariants.{Accepted}
 use Rattle.fields.specs.Table.{table, rows, row_at, place_from, place_of, by_place, count_in, size_in}
 use Rattle.fields.specs.Reading.{read_field, listed, listed_as, text_of}
 use Rattle.fields.specs.Writing.{numbers_in, bits_in}
@@ -14,6 +13,8 @@ use Rattle.fields.proofs.Claims.{fields_mean}
 use Rattle.field_items.specs.Items.{inner_of}
 use Rattle.field_host.specs.Reading.{entries_of}
 use Rattle.field_host.specs.Claims.{EntriesListed}
+use Rattle.fields.specs.declared.Record.{Record}
+use Rattle.refusals.specs.declared.FieldRefusal.{FieldRefusal}
 
 module _ (n : ℕ) where
   -- of a record with so many bits
@@ -44,5 +45,5 @@ module _ (n : ℕ) where
 pub entries_listed : EntriesListed
 unfolding read_field
 entries_listed s n w f b e =
-    let r : read_field s n w ≡ record { answer = Accepted (Single f); list = (read_field s n w).list } = ap (λ (a : Answer). record { answer = a; list = (read_field s n w).list }) e in
+    let r : read_field s n w ≡ record { answer = Ok (Single f); list = (read_field s n w).list } = ap (λ (a : Result Record FieldRefusal). record { answer = a; list = (read_field s n w).list }) e in
     counted n f ((fields_mean s n w (Single f) (read_field s n w).list (text_of s n w) b).0 (r, refl)).1

@@ -1,14 +1,11 @@
 -- What each call that reads a link data field answers, from what the reader of fields answers. Definitions only.
-use Rattle.std.specs.Prelude.{ℕ, ◌-◌, ◌/◌, cond, ◌||◌, eqb}
-use Rattle.pairs.specs.declared.Found.{Found}
-use Rattle.pairs.specs.declared.Found.TheVariants as F
+use Rattle.std.specs.Prelude.{ℕ, ◌-◌, ◌/◌, cond, ◌||◌, eqb, Err, None, Ok, Option, Result, Some}
 use Rattle.fields.specs.declared.Direction.{Direction}
 use Rattle.fields.specs.declared.Direction.TheVariants.{ToSensor, FromSensor}
 use Rattle.fields.specs.declared.Record.{Record}
 use Rattle.fields.specs.declared.Record.TheVariants.{Single, Relay}
-use Rattle.fields.specs.declared.Answer.{Answer}
-use Rattle.fields.specs.declared.Answer.TheVariants.{Accepted, Refused}
 use Rattle.field_items.specs.Items.{item_of, inner_of}
+use Rattle.refusals.specs.declared.FieldRefusal.{FieldRefusal}
 
 -- 0 to the sensor, any other number from it
 abbrev pub way_of : ℕ → Direction
@@ -20,23 +17,23 @@ abbrev pub outer_of : Record → ℕ
 outer_of (Single f) = inner_of (Single f)
 outer_of (Relay x f) = 0x03
 
-abbrev pub inner_type : Answer → ℕ
-inner_type (Accepted r) = inner_of r
-inner_type (Refused q) = 0
+abbrev pub inner_type : Result Record FieldRefusal → ℕ
+inner_type (Ok r) = inner_of r
+inner_type (Err q) = 0
 
-abbrev pub type_of : Answer → ℕ
-type_of (Accepted r) = outer_of r
-type_of (Refused q) = 0
+abbrev pub type_of : Result Record FieldRefusal → ℕ
+type_of (Ok r) = outer_of r
+type_of (Err q) = 0
 
 -- ---- items
 
-abbrev pub item_in : Answer → ℕ → Found
-item_in (Accepted r) k = item_of r k
-item_in (Refused q) k = F.Missing
+abbrev pub item_in : Result Record FieldRefusal → ℕ → Option ℕ
+item_in (Ok r) k = item_of r k
+item_in (Err q) k = None
 
-abbrev pub is_there : Found → ℕ
-is_there (F.Value x) = 1
-is_there F.Missing = 0
+abbrev pub is_there : Option ℕ → ℕ
+is_there (Some x) = 1
+is_there None = 0
 
 -- ---- lists
 

@@ -1,9 +1,8 @@
 -- What a call that writes a link data field answers. Definitions only.
-use Rattle.std.specs.Prelude.{ℕ}
-use Rattle.fields.specs.declared.Written.{Written}
-use Rattle.fields.specs.declared.Written.TheVariants.{Bits, Refused}
+use Rattle.std.specs.Prelude.{ℕ, Err, Ok, Result}
+use Rattle.refusals.specs.declared.FieldRefusal.{FieldRefusal}
 
 -- the bits that were written, 0 where the field is refused
-abbrev pub bits_of : Written → ℕ
-bits_of (Bits n) = n
-bits_of (Refused q) = 0
+abbrev pub bits_of : Result ℕ FieldRefusal → ℕ
+bits_of (Ok n) = n
+bits_of (Err q) = 0

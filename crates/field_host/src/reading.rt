@@ -7,8 +7,8 @@ ghost use Rattle.fields.specs.Reading.{answer_of, answer_number, read_field, tex
 ghost use Rattle.field_host.specs.Reading.{way_of, outer_of, inner_type, type_of, item_in, is_there, entries_of};
 
 use field_items::items;
-use fields::{Answer, Direction, Record};
-use pairs::Found;
+use fields::{Direction, Record};
+use refusals::FieldRefusal;
 
 fn way(from_sensor: u32) -> Direction
     ensures { result ≡ way_of from_sensor }
@@ -20,7 +20,7 @@ fn way(from_sensor: u32) -> Direction
     }
 }
 
-fn answer(bytes: &[u8], count: usize, from_sensor: u32) -> Answer
+fn answer(bytes: &[u8], count: usize, from_sensor: u32) -> Result<Record, FieldRefusal>
     ensures { result ≡ answer_of bytes.now count (way_of from_sensor) }
 {
     field_reader::reading::judge(bytes, count, way(from_sensor))
@@ -47,21 +47,21 @@ fn outer(r: Record) -> u32
     }
 }
 
-fn outer_type(a: Answer) -> u32
+fn outer_type(a: Result<Record, FieldRefusal>) -> u32
     ensures { result ≡ type_of a }
 {
     match a {
-        Answer::Accepted(r) => outer(r),
-        Answer::Refused(_) => 0,
+        Ok(r) => outer(r),
+        Err(_) => 0,
     }
 }
 
-fn inner_type(a: Answer) -> u32
+fn inner_type(a: Result<Record, FieldRefusal>) -> u32
     ensures { result ≡ inner_type a }
 {
     match a {
-        Answer::Accepted(r) => items::inner(r),
-        Answer::Refused(_) => 0,
+        Ok(r) => items::inner(r),
+        Err(_) => 0,
     }
 }
 
@@ -83,12 +83,12 @@ pub extern "C" fn siamrung_field_inner_type(bytes: &[u8], count: usize, from_sen
 
 // ---- its items
 
-fn item_in(a: Answer, item: u32) -> Found
+fn item_in(a: Result<Record, FieldRefusal>, item: u32) -> Option<u64>
     ensures { result ≡ item_in a item }
 {
     match a {
-        Answer::Accepted(r) => items::item_of(r, item as u64),
-        Answer::Refused(_) => Found::Missing,
+        Ok(r) => items::item_of(r, item as u64),
+        Err(_) => None,
     }
 }
 
@@ -98,8 +98,8 @@ pub extern "C" fn siamrung_field_has(bytes: &[u8], count: usize, from_sensor: u3
 {
     let found = item_in(answer(bytes, count, from_sensor), item);
     match found {
-        Found::Value(_) => 1,
-        Found::Missing => 0,
+        Some(_) => 1,
+        None => 0,
     }
 }
 

@@ -7,14 +7,14 @@ ghost use Rattle.field_items.specs.Given.{given, list_given};
 ghost use Rattle.field_host.specs.Writing.{bits_of};
 
 use field_items::given;
-use fields::Written;
+use refusals::FieldRefusal;
 
-fn bits_of(w: Written) -> usize
+fn bits_of(w: Result<usize, FieldRefusal>) -> usize
     ensures { result ≡ bits_of w }
 {
     match w {
-        Written::Bits(n) => n,
-        Written::Refused(_) => 0,
+        Ok(n) => n,
+        Err(_) => 0,
     }
 }
 

@@ -1,4 +1,5 @@
 -- The claims of specs/Claims.antt. Assumes nothing.
+use Rattle.std.specs.Prelude.{None, Option, Some}
 use Prim.Native.Nat.{ℕ, ◌%◌}
 use mathlib.Core.Path.{◌≡◌, refl, sym, ap, ◌∙◌}
 use mathlib.Core.Bool.{Bool, true, false, cond, ◌&&◌}
@@ -8,10 +9,7 @@ use native.Mathlib.Omega.{arith}
 use lib.Dec.{eqb}
 use lib.ListN.{length}
 use borrow.Author.Tests.{eq-eqb, ne_eqb, eqb-true}
-use Rattle.pairs.specs.declared.Found.{Found}
 use Rattle.pairs.specs.Pairs.{Pair, pairs_in, find_in, gathered_from}
-use Rattle.fields.specs.declared.Place.{Place}
-use Rattle.fields.specs.declared.Place.TheVariants.{At, Nowhere}
 use Rattle.fields.specs.declared.Field.{Field}
 use Rattle.fields.specs.declared.Record.{Record}
 use Rattle.fields.specs.declared.Record.TheVariants.{Single, Relay}
@@ -39,9 +37,9 @@ told_sensor ps = found_of ps 237 (omega arith) (omega arith)
 -- what is made of them
 made_of : (r : Record) (ps : List Pair) → ((n : ℕ) → find_in n ps ≡ find_in n (items_of r)) → record_given (gathered_from 201 ps) (place_no (field_in r)) ≡ r
 unfolding find_in
-made_of (Single f) ps h = ap (λ (x : Found). relay_by x (field_given (gathered_from 201 ps) (place_no f))) (told_sensor ps ∙ h 237 ∙ no_sensor f) ∙ ap Single (made f ps (λ n z. h n))
+made_of (Single f) ps h = ap (λ (x : Option ℕ). relay_by x (field_given (gathered_from 201 ps) (place_no f))) (told_sensor ps ∙ h 237 ∙ no_sensor f) ∙ ap Single (made f ps (λ n z. h n))
 made_of (Relay x f) ps h =
-    ap (λ (y : Found). relay_by y (field_given (gathered_from 201 ps) (place_no f))) (told_sensor ps ∙ h 237) ∙ ap (Relay x) (made f ps (λ n z. h n ∙ inside x f n z))
+    ap (λ (y : Option ℕ). relay_by y (field_given (gathered_from 201 ps) (place_no f))) (told_sensor ps ∙ h 237) ∙ ap (Relay x) (made f ps (λ n z. h n ∙ inside x f n z))
 
 pub own_items : OwnItems
 unfolding given checked_at fits
@@ -72,10 +70,10 @@ module _ (t : ℕ) (s l : List ℕ) where
   chosen r true e w m = let h = held t s r w e in inr (h.0, h.1, m)
   chosen r false e w m = inl refl
 
-  placed : (p : Place) → length s % 16 ≡ 0 → length l ≡ 240 → Wanted (by_place unfit (checked_at t (pairs_in s)) p)
+  placed : (p : Option ℕ) → length s % 16 ≡ 0 → length l ≡ 240 → Wanted (by_place unfit (checked_at t (pairs_in s)) p)
   unfolding checked_at
-  placed Nowhere w m = inl refl
-  placed (At i) w m =
+  placed None w m = inl refl
+  placed (Some i) w m =
       let r = record_given (gathered_from 201 (pairs_in s)) i in
       chosen r (fits t (length (pairs_in s)) (gathered_from 201 (pairs_in s)) r) refl w m
 

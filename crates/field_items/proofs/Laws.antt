@@ -1,4 +1,5 @@
 -- Laws of a record's items: how a search among the parts goes from one to the next, and how many of them are items. Assumes nothing.
+use Rattle.std.specs.Prelude.{None, Some}
 use Prim.Native.Nat.{ℕ, zero, suc, ◌+◌, ◌-◌, ◌<◌}
 use mathlib.Core.Path.{◌≡◌, refl, sym, ◌∙◌}
 use mathlib.Core.Bool.{Bool, true, false, cond, ◌&&◌}
@@ -10,7 +11,6 @@ use lib.ListN.{length, get_or, drop}
 use lib.Seq.{drop-cons}
 use borrow.Author.Tests.{eq-eqb, ne_eqb}
 use Rattle.bits.specs.Bits.{bits_of}
-use Rattle.pairs.specs.declared.Found.TheVariants.{Value, Missing}
 use Rattle.pairs.specs.declared.Gathered.{Gathered}
 use Rattle.pairs.specs.Pairs.{find_in}
 use Rattle.fields.specs.declared.Field.{Field}
@@ -29,7 +29,7 @@ module _ (ks vs : List ℕ) (i : ℕ) (h : i < length ks) (l : i < length vs) wh
   step = rw (drop-cons ks i 0 h, drop-cons vs i 0 l, add-one) refl
 
   -- it is the one that is looked for
-  pub hit : (n : ℕ) → (n ≡ 0 → ⊥) → get_or ks i 0 ≡ n → find_in n (pairs_by (drop i ks) (drop i vs)) ≡ Value (get_or vs i 0)
+  pub hit : (n : ℕ) → (n ≡ 0 → ⊥) → get_or ks i 0 ≡ n → find_in n (pairs_by (drop i ks) (drop i vs)) ≡ Some (get_or vs i 0)
   unfolding find_in
   hit n z e = rw (step, ne_eqb (get_or ks i 0) 0 (λ q. z (sym e ∙ q)), eq-eqb (get_or ks i 0) n e) refl
 
@@ -45,24 +45,24 @@ module _ (ks vs : List ℕ) (i : ℕ) (h : i < length ks) (l : i < length vs) wh
   -- what is gathered covers the parts from i on
   pub covers_step : (t : Gathered) →
       covers t (pairs_by (drop i ks) (drop i vs))
-      ≡ (cond (eqb (get_or ks i 0) 0) true (same_found (found_in t (get_or ks i 0)) (Value (get_or vs i 0))) && covers t (pairs_by (drop (i + 1) ks) (drop (i + 1) vs)))
+      ≡ (cond (eqb (get_or ks i 0) 0) true (same_found (found_in t (get_or ks i 0)) (Some (get_or vs i 0))) && covers t (pairs_by (drop (i + 1) ks) (drop (i + 1) vs)))
   unfolding covers
   covers_step t = rw step (go (eqb (get_or ks i 0) 0))
     where
       go : (b : Bool) →
           covers t (cond b (pairs_by (drop (i + 1) ks) (drop (i + 1) vs)) ((get_or ks i 0, get_or vs i 0) ∷ pairs_by (drop (i + 1) ks) (drop (i + 1) vs)))
-          ≡ (cond b true (same_found (found_in t (get_or ks i 0)) (Value (get_or vs i 0))) && covers t (pairs_by (drop (i + 1) ks) (drop (i + 1) vs)))
+          ≡ (cond b true (same_found (found_in t (get_or ks i 0)) (Some (get_or vs i 0))) && covers t (pairs_by (drop (i + 1) ks) (drop (i + 1) vs)))
       go true = refl
       go false = refl
 
 -- no item has the number 0
-pub no_zero : (ks vs : List ℕ) → find_in 0 (pairs_by ks vs) ≡ Missing
+pub no_zero : (ks vs : List ℕ) → find_in 0 (pairs_by ks vs) ≡ None
 unfolding find_in pairs_by
 no_zero [] vs = refl
 no_zero (k ∷ ks) [] = refl
 no_zero (k ∷ ks) (v ∷ vs) = go (eqb k 0) refl (no_zero ks vs)
   where
-    go : (b : Bool) → eqb k 0 ≡ b → find_in 0 (pairs_by ks vs) ≡ Missing → find_in 0 (cond b (pairs_by ks vs) ((k, v) ∷ pairs_by ks vs)) ≡ Missing
+    go : (b : Bool) → eqb k 0 ≡ b → find_in 0 (pairs_by ks vs) ≡ None → find_in 0 (cond b (pairs_by ks vs) ((k, v) ∷ pairs_by ks vs)) ≡ None
     go true e h = h
     go false e h = rw e h
 

@@ -1,5 +1,6 @@
 -- What a record's own items say of each record: which place its type has, and that what is made of the items is the record. By cases of the
 -- record, each of which antt computes. Assumes nothing.
+use Rattle.std.specs.Prelude.{None, Option, Some}
 use Prim.Native.Nat.{ℕ, ◌+◌, ◌-◌, ◌≤◌}
 use mathlib.Core.Path.{◌≡◌, refl, ◌∙◌}
 use mathlib.Core.List.{List}
@@ -8,11 +9,8 @@ use native.Mathlib.Omega.{arith}
 use lib.Dec.{T, leb, leb→le}
 use lib.ListN.{get_or}
 use borrow.Author.Tests.{le-leb}
-use Rattle.pairs.specs.declared.Found.{Found}
-use Rattle.pairs.specs.declared.Found.TheVariants.{Value, Missing}
 use Rattle.pairs.specs.Pairs.{Pair, find_in, is_found, value_of, gathered_from}
 use Rattle.pairs.proofs.Laws.{each_at}
-use Rattle.fields.specs.declared.Place.TheVariants.{At}
 use Rattle.fields.specs.declared.Field.{Field}
 use Rattle.fields.specs.declared.Field.TheVariants as F
 use Rattle.fields.specs.Table.{table, rows, place_from, place_of}
@@ -46,7 +44,7 @@ place_no (F.IdCode a c) = 18
 place_no (F.TestResponse a) = 19
 place_no (F.ControllerAlert a b c d e f g h i j) = 20
 
-pub place-of : (f : Field) → place_of (get_or (numbers_of f) 0 0) ≡ At (place_no f)
+pub place-of : (f : Field) → place_of (get_or (numbers_of f) 0 0) ≡ Some (place_no f)
 unfolding place_from rows table
 place-of (F.TacticalUplink a b c d e) = refl
 place-of (F.ElmUplink a b c d f) = refl
@@ -71,7 +69,7 @@ place-of (F.TestResponse a) = refl
 place-of (F.ControllerAlert a b c d e f g h i j) = refl
 
 -- a field has no sensor
-pub no_sensor : (f : Field) → find_in 237 (items_of_field f) ≡ Missing
+pub no_sensor : (f : Field) → find_in 237 (items_of_field f) ≡ None
 unfolding find_in pairs_by items_of_field place_from rows table item_table items_at
 no_sensor (F.TacticalUplink a b c d e) = refl
 no_sensor (F.ElmUplink a b c d f) = refl
@@ -102,9 +100,9 @@ found_of ps n l h =
     let e : 201 + (n - 201) ≡ n = omega arith in
     rw (le-leb 201 n l, each_at is_found 201 37 (n - 201) false ps (omega arith), each_at value_of 201 37 (n - 201) 0 ps (omega arith), e) (whole (find_in n ps))
   where
-    whole : (x : Found) → cond (is_found x) (Value (value_of x)) Missing ≡ x
-    whole (Value v) = refl
-    whole Missing = refl
+    whole : (x : Option ℕ) → cond (is_found x) (Some (value_of x)) None ≡ x
+    whole (Some v) = refl
+    whole None = refl
 
 -- such an item, where it is not the sensor
 says : (f : Field) (ps : List Pair) → ((n : ℕ) → (n ≡ 237 → ⊥) → find_in n ps ≡ find_in n (items_of_field f)) → (n : ℕ) → T (leb 201 n && leb n 236)

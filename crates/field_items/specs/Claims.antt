@@ -1,11 +1,10 @@
 -- What is claimed of the items of link data fields. Statements only; proofs/Claims.antt proves them.
-use Rattle.std.specs.Prelude.{ℕ, ◌%◌, ◌≡◌, List, [], ◌∷◌, ◌⊎◌, ℤ, length}
+use Rattle.std.specs.Prelude.{ℕ, ◌%◌, ◌≡◌, List, [], ◌∷◌, ◌⊎◌, ℤ, length, Err}
 use Rattle.pairs.specs.Pairs.{Pair, pairs_in, find_in}
 use Rattle.refusals.specs.declared.FieldRefusal.TheVariants.{NotWritable}
 use Rattle.fields.specs.declared.Field.{Field}
 use Rattle.fields.specs.declared.Field.TheVariants as F
 use Rattle.fields.specs.declared.Record.{Record}
-use Rattle.fields.specs.declared.Written.TheVariants.{Refused}
 use Rattle.fields.specs.Writing.{written_of}
 use Rattle.field_items.specs.Items.{items_of_field, items_of, item_of, inner_of}
 use Rattle.field_items.specs.Items as I
@@ -56,4 +55,4 @@ NothingPassedOver =
 
 -- what is no record is refused with 30, whatever list, text and bytes go with it
 abbrev pub UnfitRefused : Type 0
-UnfitRefused = (l : List ℤ) (t s : List ℕ) → written_of unfit l t s ≡ Refused NotWritable
+UnfitRefused = (l : List ℤ) (t s : List ℕ) → written_of unfit l t s ≡ Err NotWritable

@@ -1,8 +1,6 @@
 -- What is given for a link data field: the record of a type and its items, and the list. Definitions only.
-use Rattle.std.specs.Prelude.{ℕ, zero, suc, ◌+◌, ◌-◌, ◌%◌, Bool, true, false, cond, ◌&&◌, List, [], ◌∷◌, eqb, ltb, leb, ℤ, pos, negsuc, length, get_or}
+use Rattle.std.specs.Prelude.{ℕ, zero, suc, ◌+◌, ◌-◌, ◌%◌, Bool, true, false, cond, ◌&&◌, List, [], ◌∷◌, eqb, ltb, leb, ℤ, pos, negsuc, length, get_or, None, Option, Some}
 use Rattle.bits.specs.Bits as B
-use Rattle.pairs.specs.declared.Found.{Found}
-use Rattle.pairs.specs.declared.Found.TheVariants.{Value, Missing}
 use Rattle.pairs.specs.declared.Gathered.{Gathered}
 use Rattle.pairs.specs.Pairs.{Pair, pairs_in, value_of, gathered_from}
 use Rattle.fields.specs.declared.Field.{Field}
@@ -16,9 +14,9 @@ use Rattle.field_items.specs.Items.{address, sensor, items_at, items_of, inner_o
 -- ---- the record that is made of the pairs given
 
 -- what is gathered of the number n, of what is gathered from the first item on; nothing of what is no item
-unfoldable pub found_in : Gathered → ℕ → Found
+unfoldable pub found_in : Gathered → ℕ → Option ℕ
 found_in t n =
-    cond (leb address n) (cond (get_or t.there (n - address) false) (Value (get_or t.values (n - address) 0)) Missing) Missing
+    cond (leb address n) (cond (get_or t.there (n - address) false) (Some (get_or t.values (n - address) 0)) None) None
 
 -- the value of part k, of parts with these items; 0 where it is not given
 abbrev part_given : Gathered → List ℕ → ℕ → ℕ
@@ -34,24 +32,24 @@ unfoldable pub field_given : Gathered → ℕ → Field
 field_given t i = field_by t (items_at i) i
 
 -- a sensor that is given makes a relay of it
-abbrev pub relay_by : Found → Field → Record
-relay_by (Value x) f = Relay x f
-relay_by Missing f = Single f
+abbrev pub relay_by : Option ℕ → Field → Record
+relay_by (Some x) f = Relay x f
+relay_by None f = Single f
 
 abbrev pub record_given : Gathered → ℕ → Record
 record_given t i = relay_by (found_in t sensor) (field_given t i)
 
 -- ---- the pairs given are the record's items: each of those is given, with its value, and there are as many
 
-abbrev pub same_found : Found → Found → Bool
-same_found (Value x) (Value y) = eqb x y
-same_found (Value x) Missing = false
-same_found Missing (Value y) = false
-same_found Missing Missing = true
+abbrev pub same_found : Option ℕ → Option ℕ → Bool
+same_found (Some x) (Some y) = eqb x y
+same_found (Some x) None = false
+same_found None (Some y) = false
+same_found None None = true
 
 unfoldable pub covers : Gathered → List Pair → Bool
 covers t [] = true
-covers t (q ∷ qs) = same_found (found_in t q.0) (Value q.1) && covers t qs
+covers t (q ∷ qs) = same_found (found_in t q.0) (Some q.1) && covers t qs
 
 -- of a type, so many pairs and what they tell
 unfoldable pub fits : ℕ → ℕ → Gathered → Record → Bool

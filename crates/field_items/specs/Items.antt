@@ -1,7 +1,6 @@
 -- The items of a link data field by which a C program asks for a part and gives one, and the number of each. The document gives none: these
 -- are ours, and none is ever used for another item. Definitions only.
-use Rattle.std.specs.Prelude.{ℕ, ◌+◌, cond, List, [], ◌∷◌, ◌++◌, eqb, get_or, take, replicate}
-use Rattle.pairs.specs.declared.Found.{Found}
+use Rattle.std.specs.Prelude.{ℕ, ◌+◌, cond, List, [], ◌∷◌, ◌++◌, eqb, get_or, take, replicate, Option}
 use Rattle.pairs.specs.Pairs.{Pair, find_in}
 use Rattle.fields.specs.declared.Field.{Field}
 use Rattle.fields.specs.declared.Record.{Record}
@@ -203,7 +202,7 @@ items_of (Single f) = items_of_field f
 items_of (Relay x f) = (sensor, x) ∷ items_of_field f
 
 -- the value of an item, where the record has it
-abbrev pub item_of : Record → ℕ → Found
+abbrev pub item_of : Record → ℕ → Option ℕ
 item_of r k = find_in k (items_of r)
 
 -- the type that the items speak of: of a relay that of the field inside

@@ -9,8 +9,8 @@ ghost use Rattle.field_items.specs.Items.{pairs_by, items_of_field, items_of};
 ghost use Rattle.field_items.specs.Given.{found_in, field_given, record_given, same_found, covers, fits, unfit, checked_by, checked_at, given, signed_of, list_given};
 
 use crate::items;
-use fields::{Field, Place, Record, records, table};
-use pairs::{Found, Gathered};
+use fields::{Field, Record, records, table};
+use pairs::Gathered;
 
 // The first item's number: there are thirty-seven.
 const FIRST: u64 = 201;
@@ -18,22 +18,22 @@ const FIRST: u64 = 201;
 // ---- the record
 
 // What is gathered of an item; nothing of a number that is none.
-fn found(gathered: Gathered, item: u64) -> Found
+fn found(gathered: Gathered, item: u64) -> Option<u64>
     ensures { result ≡ found_in gathered item }
 {
     let there = gathered.there;
     let values = gathered.values;
     if item < FIRST {
-        return Found::Missing;
+        return None;
     }
     let k = item - FIRST;
     if 37 <= k {
-        return Found::Missing;
+        return None;
     }
     if there[k as usize] {
-        Found::Value(values[k as usize])
+        Some(values[k as usize])
     } else {
-        Found::Missing
+        None
     }
 }
 
@@ -72,11 +72,11 @@ fn record_given(gathered: Gathered, i: usize) -> Record
     let f = field_given(gathered, i);
     let s = found(gathered, items::SENSOR);
     match s {
-        Found::Value(x) => Record::Relay {
+        Some(x) => Record::Relay {
             sensor: x,
             inner: f,
         },
-        Found::Missing => Record::Single(f),
+        None => Record::Single(f),
     }
 }
 
@@ -84,18 +84,18 @@ fn record_given(gathered: Gathered, i: usize) -> Record
 
 // An item is gathered, with this value.
 fn tells(gathered: Gathered, item: u64, value: u64) -> bool
-    ensures { result ≡ same_found (found_in gathered item) (Found.Value value) }
+    ensures { result ≡ same_found (found_in gathered item) (Some value) }
 {
     let f = found(gathered, item);
     match f {
-        Found::Value(x) => x == value,
-        Found::Missing => false,
+        Some(x) => x == value,
+        None => false,
     }
 }
 
 // A part is no item, or is gathered with this value.
 fn tells_part(gathered: Gathered, item: u64, value: u64) -> bool
-    ensures { result ≡ cond (eqb item 0) true (same_found (found_in gathered item) (Found.Value value)) }
+    ensures { result ≡ cond (eqb item 0) true (same_found (found_in gathered item) (Some value)) }
 {
     if item == 0 {
         true
@@ -123,7 +123,7 @@ fn tells_field(gathered: Gathered, f: Field) -> bool
     ensures { result ≡ covers gathered (items_of_field f) }
 {
     let v = records::numbers(f);
-    let Place::At(i) = table::find(v[0]) else {
+    let Some(i) = table::find(v[0]) else {
         return true;
     };
     tells_parts(gathered, items::items_at(i), v)
@@ -194,7 +194,7 @@ pub fn record_of(code: u32, gathered: &[u8], list: &[u8]) -> Record
     if !pairs::whole(gathered) {
         return unfit();
     }
-    let Place::At(i) = table::find(code as u64) else {
+    let Some(i) = table::find(code as u64) else {
         return unfit();
     };
     checked(gathered, code, i)

@@ -6,8 +6,7 @@ ghost use Rattle.pairs.specs.Pairs.{find_in, value_of};
 ghost use Rattle.fields.specs.Records.{numbers_of};
 ghost use Rattle.field_items.specs.Items.{items_at, tally_of, pairs_by, items_of_field, items_of, item_of, inner_of};
 
-use fields::{Field, Place, Record, records, table};
-use pairs::Found;
+use fields::{Field, Record, records, table};
 
 pub const SENSOR: u64 = 237;
 
@@ -65,20 +64,20 @@ pub(crate) fn items_at(i: usize) -> [u64; 11]
 }
 
 // Among parts with these items and values, the value of this one.
-fn search(items: [u64; 11], v: [u64; 11], item: u64) -> Found
+fn search(items: [u64; 11], v: [u64; 11], item: u64) -> Option<u64>
     ensures { result ≡ find_in item (pairs_by items v) }
 {
     if item == 0 {
-        return Found::Missing;
+        return None;
     }
     let mut i: usize = 0;
     while i < 11 {
         if items[i] == item {
-            return Found::Value(v[i]);
+            return Some(v[i]);
         }
         i += 1;
     }
-    Found::Missing
+    None
 }
 
 fn one(item: u64) -> usize
@@ -118,12 +117,12 @@ pub fn inner(r: Record) -> u32
     }
 }
 
-fn field_item(f: Field, item: u64) -> Found
+fn field_item(f: Field, item: u64) -> Option<u64>
     ensures { result ≡ find_in item (items_of_field f) }
 {
     let v = records::numbers(f);
-    let Place::At(i) = table::find(v[0]) else {
-        return Found::Missing;
+    let Some(i) = table::find(v[0]) else {
+        return None;
     };
     search(items_at(i), v, item)
 }
@@ -132,23 +131,23 @@ fn field_count(f: Field) -> usize
     ensures { (result ≡ length (items_of_field f)) × (result ≤ 11) }
 {
     let v = records::numbers(f);
-    let Place::At(i) = table::find(v[0]) else {
+    let Some(i) = table::find(v[0]) else {
         return 0;
     };
     tally(items_at(i))
 }
 
 // A relay's sensor stands beside the items of the field inside.
-fn relay_item(sensor: u64, inner: Field, item: u64) -> Found
+fn relay_item(sensor: u64, inner: Field, item: u64) -> Option<u64>
     ensures { result ≡ item_of (Record.Relay sensor inner) item }
 {
     if item == SENSOR {
-        return Found::Value(sensor);
+        return Some(sensor);
     }
     field_item(inner, item)
 }
 
-pub fn item_of(given: Record, item: u64) -> Found
+pub fn item_of(given: Record, item: u64) -> Option<u64>
     ensures { result ≡ item_of given item }
 {
     match given {
@@ -168,11 +167,11 @@ pub fn count_of(given: Record) -> usize
 }
 
 // The value; 0 where there is none.
-pub fn value(f: Found) -> u64
+pub fn value(f: Option<u64>) -> u64
     ensures { result ≡ value_of f }
 {
     match f {
-        Found::Value(x) => x,
-        Found::Missing => 0,
+        Some(x) => x,
+        None => 0,
     }
 }

@@ -1,4 +1,5 @@
 -- The rows as the code asks them, step by step, give what the document's rows give. Assumes nothing.
+use Rattle.std.specs.Prelude.{Err, None, Ok, Result, Some, tt, ⊤}
 use mathlib.Core.Path.{◌≡◌, refl}
 use mathlib.Core.List.{List}
 use mathlib.Core.Bool.{Bool, true, false, cond, not}
@@ -8,43 +9,37 @@ use Rattle.rows.proofs.Claims.{each_of}
 use Rattle.bits.specs.Bits.{bits}
 use Rattle.refusals.specs.declared.FieldRefusal.TheVariants.{UnknownType, TypeNotCarried}
 use Rattle.fields.specs.declared.Direction.{Direction}
-use Rattle.fields.specs.declared.Place.TheVariants.{At, Nowhere}
 use Rattle.fields.specs.declared.Field.{Field}
 use Rattle.fields.specs.declared.Record.{Record}
 use Rattle.fields.specs.declared.Record.TheVariants.{Single, Relay}
-use Rattle.fields.specs.declared.Answer.{Answer}
-use Rattle.fields.specs.declared.Answer.TheVariants.{Accepted}
 use Rattle.fields.specs.Table.{place_of}
 use Rattle.fields.specs.Reading.{type_of, type_not_carried, unknown_type, wrong_direction, wrong_bit_count, spare_bit_set, value_not_in_use, count_rows, field_rows, record_in, opens, answer_of}
 use Rattle.fields.proofs.Rows.{found_within, found_code, carried}
-use Rattle.field_reader.specs.declared.Passed.{Passed}
-use Rattle.field_reader.specs.declared.Passed.TheVariants as Q
-use Rattle.field_reader.specs.declared.Plain.{Plain}
-use Rattle.field_reader.specs.declared.Plain.TheVariants as P
 use Rattle.field_reader.specs.Steps.{passed, outer_of, unless_refused, as_plain, plain_of, unknown_of, judged_by, row_read, handed, answered, relayed, opened_of}
+use Rattle.refusals.specs.declared.FieldRefusal.{FieldRefusal}
 
 -- the count and the bytes first, then the field
 pub outer_first : (s : List ℕ) (n : ℕ) (w : Direction) → answer_of s n w ≡ unless_refused (opened_of s n w) (outer_of s n)
 unfolding answer_of outer_of opened_of
-outer_first s n w = each_of Passed Answer (unless_refused (opened_of s n w)) (each passed (count_rows s n)) Q.Clear
+outer_first s n w = each_of (Result ⊤ FieldRefusal) (Result Record FieldRefusal) (unless_refused (opened_of s n w)) (each passed (count_rows s n)) (Ok tt)
 
 module _ (s : List ℕ) (n a : ℕ) (w : Direction) where
   -- the field before its record is made
-  field_first : (k : Field → Record) → first_of (field_rows s n a w) (Accepted (k (record_in s a))) ≡ handed k (plain_of s n a w)
+  field_first : (k : Field → Record) → first_of (field_rows s n a w) (Ok (k (record_in s a))) ≡ handed k (plain_of s n a w)
   unfolding plain_of
-  field_first k = each_of Plain Answer (handed k) (each as_plain (field_rows s n a w)) (P.Read (record_in s a))
+  field_first k = each_of (Result Field FieldRefusal) (Result Record FieldRefusal) (handed k) (each as_plain (field_rows s n a w)) (Ok (record_in s a))
 
   -- a type with no row is 23 or 24
-  pub unplaced : place_of (type_of s a) ≡ Nowhere → plain_of s n a w ≡ P.Refused (unknown_of (type_of s a))
+  pub unplaced : place_of (type_of s a) ≡ None → plain_of s n a w ≡ Err (unknown_of (type_of s a))
   unfolding plain_of unknown_type
   unplaced e = rw e (go (type_not_carried (type_of s a)) _)
     where
-      go : (u : Bool) (rest : Plain) → cond (not u) (P.Refused UnknownType) (cond u (P.Refused TypeNotCarried) rest) ≡ P.Refused (cond u TypeNotCarried UnknownType)
+      go : (u : Bool) (rest : Result Field FieldRefusal) → cond (not u) (Err UnknownType) (cond u (Err TypeNotCarried) rest) ≡ Err (cond u TypeNotCarried UnknownType)
       go true rest = refl
       go false rest = refl
 
   -- one with a row is neither
-  pub placed : (i : ℕ) → place_of (type_of s a) ≡ At i → plain_of s n a w ≡ row_read s n a w i
+  pub placed : (i : ℕ) → place_of (type_of s a) ≡ Some i → plain_of s n a w ≡ row_read s n a w i
   unfolding plain_of unknown_type wrong_direction wrong_bit_count spare_bit_set value_not_in_use row_read judged_by
   placed i e =
       let c = found_code (type_of s a) i e in

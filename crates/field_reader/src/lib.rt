@@ -6,20 +6,3 @@
 mod parts; // the values of a field's parts
 mod lists; // the entries of a list: altimeter blocks, addresses, identifiers
 pub mod reading; // the calls that read
-
-use fields::Field;
-use refusals::FieldRefusal;
-
-// Nothing is said against the bytes, or why they are refused.
-#[derive(Clone, Copy)]
-pub enum Passed {
-    Clear,
-    Refused(FieldRefusal),
-}
-
-// A field that is no relay, or why there is none.
-#[derive(Clone, Copy)]
-pub enum Plain {
-    Read(Field),
-    Refused(FieldRefusal),
-}

@@ -8,8 +8,8 @@ ghost use Rattle.fields.specs.Table.{place_of, rules_at, Quiet, RowSmall};
 ghost use Rattle.fields.specs.Reading.{from_sensor, same_way_as, type_of, type_not_carried, not_relayed, sized_by, block_count, answer_of, list_in, list_of, read_field, text_in, text_place, text_of, answer_number};
 ghost use Rattle.field_reader.specs.Steps.{unknown_of, judged_by, row_read, plain_of, answered, relayed, opened_of, outer_of};
 
-use crate::{Passed, Plain, lists, parts};
-use fields::{Answer, Direction, Found, Place, Record, Row, records, table};
+use crate::{lists, parts};
+use fields::{Direction, Field, Found, Record, Row, records, table};
 use refusals::FieldRefusal;
 
 fn same_way(a: Direction, b: Direction) -> bool
@@ -90,45 +90,59 @@ fn block_count(row: Row, v: [u64; 11]) -> usize
 }
 
 // A field of the row's type: 27 and 28, or its record.
-fn judged(b: &[u8], before: usize, i: usize, row: Row, widths: &[u8; 11], v: [u64; 11]) -> Plain
+fn judged(
+    b: &[u8],
+    before: usize,
+    i: usize,
+    row: Row,
+    widths: &[u8; 11],
+    v: [u64; 11],
+) -> Result<Field, FieldRefusal>
     requires { RowSmall row v × (before ≤ 16) × (i < 22) × Quiet widths.now (rules_at i) v }
     ensures { result ≡ judged_by b.now before i row v }
 {
     let rules = table::rules_at(i);
     let found = fields::parts::faults(widths, &rules, &v);
     if found.spare {
-        return Plain::Refused(FieldRefusal::SpareBitSet);
+        return Err(FieldRefusal::SpareBitSet);
     }
     if found.unused {
-        return Plain::Refused(FieldRefusal::ValueNotInUse);
+        return Err(FieldRefusal::ValueNotInUse);
     }
     if lists::any_unused(b, before + row.base, block_count(row, v)) {
-        return Plain::Refused(FieldRefusal::ValueNotInUse);
+        return Err(FieldRefusal::ValueNotInUse);
     }
-    Plain::Read(records::field_at(
+    Ok(records::field_at(
         i, v[1], v[2], v[3], v[4], v[5], v[6], v[7], v[8], v[9], v[10],
     ))
 }
 
 // A field whose type is `code` and stands at place i: 25 to 28, or its record.
-fn row_read(b: &[u8], count: usize, before: usize, way: Direction, code: u64, i: usize) -> Plain
+fn row_read(
+    b: &[u8],
+    count: usize,
+    before: usize,
+    way: Direction,
+    code: u64,
+    i: usize,
+) -> Result<Field, FieldRefusal>
     requires { (before ≤ 16) × (i < 22) × (code ≡ type_of b.now before) }
     ensures { result ≡ row_read b.now count before way i }
 {
     let row = table::row_at(i);
     let its = row.way;
     if !same_way(its, way) {
-        return Plain::Refused(FieldRefusal::WrongDirection);
+        return Err(FieldRefusal::WrongDirection);
     }
     let widths = table::widths_at(i);
     let v = parts::values(b, before, code, widths);
     let relayed = not_relayed(row.code, before);
     let sized = is_sized(count, before, row, v);
     if relayed {
-        return Plain::Refused(FieldRefusal::NotRelayed);
+        return Err(FieldRefusal::NotRelayed);
     }
     if !sized {
-        return Plain::Refused(FieldRefusal::WrongBitCount);
+        return Err(FieldRefusal::WrongBitCount);
     }
     judged(b, before, i, row, &widths, v)
 }
@@ -141,41 +155,47 @@ fn type_at(b: &[u8], before: usize) -> u64
 }
 
 // Where it stands in the table.
-fn place_at(b: &[u8], before: usize) -> Place
+fn place_at(b: &[u8], before: usize) -> Option<usize>
     ensures { result ≡ place_of (type_of b.now before) }
 {
     table::find(type_at(b, before))
 }
 
 // A field of the type `code` that is no relay and begins behind the first `before` bits: 23 to 28, or its record.
-fn plain(b: &[u8], count: usize, before: usize, way: Direction, code: u64) -> Plain
+fn plain(
+    b: &[u8],
+    count: usize,
+    before: usize,
+    way: Direction,
+    code: u64,
+) -> Result<Field, FieldRefusal>
     requires { (before ≤ 16) × (code ≡ type_of b.now before) }
     ensures { result ≡ plain_of b.now count before way }
 {
-    let Place::At(i) = table::find(code) else {
-        return Plain::Refused(unknown(code));
+    let Some(i) = table::find(code) else {
+        return Err(unknown(code));
     };
     row_read(b, count, before, way, code, i)
 }
 
-fn answer(p: Plain) -> Answer
+fn answer(p: Result<Field, FieldRefusal>) -> Result<Record, FieldRefusal>
     ensures { result ≡ answered p }
 {
     match p {
-        Plain::Read(f) => Answer::Accepted(Record::Single(f)),
-        Plain::Refused(r) => Answer::Refused(r),
+        Ok(f) => Ok(Record::Single(f)),
+        Err(r) => Err(r),
     }
 }
 
 // A relay: its inner field is opened first, and the refusal of that handed up.
-fn relay(b: &[u8], count: usize, way: Direction) -> Answer
+fn relay(b: &[u8], count: usize, way: Direction) -> Result<Record, FieldRefusal>
     ensures { result ≡ relayed (bits_of b.now 8 8) (plain_of b.now count 16 way) }
 {
     let inner = plain(b, count, 16, way, type_at(b, 16));
-    let Plain::Read(f) = inner else {
+    let Ok(f) = inner else {
         return answer(inner);
     };
-    Answer::Accepted(Record::Relay {
+    Ok(Record::Relay {
         sensor: bits::read(b, 8, 8),
         inner: f,
     })
@@ -195,7 +215,7 @@ fn opens(code: u64, count: usize, way: Direction) -> bool
 }
 
 // A field whose count and bytes nothing is said against.
-fn opened(b: &[u8], count: usize, way: Direction) -> Answer
+fn opened(b: &[u8], count: usize, way: Direction) -> Result<Record, FieldRefusal>
     ensures { result ≡ opened_of b.now count way }
 {
     let code = type_at(b, 0);
@@ -206,32 +226,32 @@ fn opened(b: &[u8], count: usize, way: Direction) -> Answer
 }
 
 // What the count and the bytes alone tell: 20, 21, 22, or nothing.
-fn outer(b: &[u8], count: usize) -> Passed
+fn outer(b: &[u8], count: usize) -> Result<(), FieldRefusal>
     ensures { result ≡ outer_of b.now count }
 {
     if count < 8 {
-        return Passed::Refused(FieldRefusal::CountOutOfRange);
+        return Err(FieldRefusal::CountOutOfRange);
     }
     if 2008 < count {
-        return Passed::Refused(FieldRefusal::CountOutOfRange);
+        return Err(FieldRefusal::CountOutOfRange);
     }
     if b.len() != (count + 7) / 8 {
-        return Passed::Refused(FieldRefusal::WrongByteCount);
+        return Err(FieldRefusal::WrongByteCount);
     }
     if bits::read(b, count, (8 - count % 8) % 8) != 0 {
-        return Passed::Refused(FieldRefusal::BitAfterCount);
+        return Err(FieldRefusal::BitAfterCount);
     }
-    Passed::Clear
+    Ok(())
 }
 
 // The answer alone, for callers that ask for nothing of the list.
-pub fn judge(b: &[u8], count: usize, way: Direction) -> Answer
+pub fn judge(b: &[u8], count: usize, way: Direction) -> Result<Record, FieldRefusal>
     ensures { result ≡ answer_of b.now count way }
 {
     let o = outer(b, count);
     match o {
-        Passed::Clear => opened(b, count, way),
-        Passed::Refused(r) => Answer::Refused(r),
+        Ok(()) => opened(b, count, way),
+        Err(r) => Err(r),
     }
 }
 
@@ -240,7 +260,7 @@ fn list_in(b: &[u8]) -> [i32; 30]
     ensures { result ≡ list_in b.now }
 {
     let code = type_at(b, 0);
-    let Place::At(i) = table::find(code) else {
+    let Some(i) = table::find(code) else {
         return lists::entries(b, 0, 0, 0);
     };
     let row = table::row_at(i);
@@ -253,18 +273,18 @@ fn list_in(b: &[u8]) -> [i32; 30]
     lists::entries(b, base, step, fields::parts::count_in(row, v))
 }
 
-fn list_of(b: &[u8], a: Answer) -> [i32; 30]
+fn list_of(b: &[u8], a: Result<Record, FieldRefusal>) -> [i32; 30]
     ensures { result ≡ list_of b.now a }
 {
     match a {
-        Answer::Accepted(r) => match r {
+        Ok(r) => match r {
             Record::Single(_) => list_in(b),
             Record::Relay {
                 sensor: _,
                 inner: _,
             } => lists::entries(b, 0, 0, 0),
         },
-        Answer::Refused(_) => lists::entries(b, 0, 0, 0),
+        Err(_) => lists::entries(b, 0, 0, 0),
     }
 }
 
@@ -282,7 +302,7 @@ fn text_in(b: &[u8], before: usize) -> usize
     requires { before ≤ 16 }
     ensures { result ≡ text_in b.now before }
 {
-    let Place::At(i) = place_at(b, before) else {
+    let Some(i) = place_at(b, before) else {
         return b.len();
     };
     let row = table::row_at(i);
@@ -292,18 +312,18 @@ fn text_in(b: &[u8], before: usize) -> usize
     b.len()
 }
 
-fn text_place(b: &[u8], a: Answer) -> usize
+fn text_place(b: &[u8], a: Result<Record, FieldRefusal>) -> usize
     ensures { result ≡ text_place b.now a }
 {
     match a {
-        Answer::Accepted(r) => match r {
+        Ok(r) => match r {
             Record::Single(_) => text_in(b, 0),
             Record::Relay {
                 sensor: _,
                 inner: _,
             } => text_in(b, 16),
         },
-        Answer::Refused(_) => b.len(),
+        Err(_) => b.len(),
     }
 }
 
@@ -320,11 +340,11 @@ pub fn text(b: &[u8], count: usize, way: Direction) -> &[u8]
 }
 
 // The document's number of a refusal; 0 where there is none.
-pub fn number(a: Answer) -> u8
+pub fn number(a: Result<Record, FieldRefusal>) -> u8
     ensures { result ≡ answer_number a }
 {
     match a {
-        Answer::Accepted(_) => 0,
-        Answer::Refused(r) => r.number(),
+        Ok(_) => 0,
+        Err(r) => u8::from(r),
     }
 }

@@ -8,7 +8,7 @@ ghost use Rattle.fields.specs.Writing.{field_in, numbers_in, head_bits, head_wid
 ghost use Rattle.field_writer.specs.Steps.{written_at, left_at};
 
 use crate::lists;
-use fields::{Field, Place, Record, Row, Written, parts, records, table};
+use fields::{Field, Record, Row, parts, records, table};
 use refusals::FieldRefusal;
 
 // The field inside a relay, or the field.
@@ -202,27 +202,39 @@ fn put_field(s: &mut [u8], i: usize, given: Record, list: [i32; 30], text: &[u8]
 }
 
 // What writing a record of the type at place i answers, with so many bytes of text, into so many bytes.
-fn answer_at(i: usize, given: Record, list: [i32; 30], len: usize, room: usize) -> Written
+fn answer_at(
+    i: usize,
+    given: Record,
+    list: [i32; 30],
+    len: usize,
+    room: usize,
+) -> Result<usize, FieldRefusal>
     requires { i < 22 }
     ensures { result ≡ written_at i given list len room }
 {
     if !takes(i, given, list, len) {
-        return Written::Refused(FieldRefusal::NotWritable);
+        return Err(FieldRefusal::NotWritable);
     }
     let n = bits_at(i, given);
     if room < (n + 7) / 8 {
-        return Written::Refused(FieldRefusal::NoRoom);
+        return Err(FieldRefusal::NoRoom);
     }
-    Written::Bits(n)
+    Ok(n)
 }
 
-fn write_at(s: &mut [u8], i: usize, given: Record, list: [i32; 30], text: &[u8]) -> Written
+fn write_at(
+    s: &mut [u8],
+    i: usize,
+    given: Record,
+    list: [i32; 30],
+    text: &[u8],
+) -> Result<usize, FieldRefusal>
     requires { i < 22 }
     ensures answer { result ≡ written_at i given list (length text.now) (length s.old) }
     ensures left { s.new ≡ left_at i given list text.now s.old }
 {
     let w = answer_at(i, given, list, text.len(), s.len());
-    let Written::Bits(_) = w else {
+    let Ok(_) = w else {
         return w;
     };
     put_field(s, i, given, list, text);
@@ -230,7 +242,7 @@ fn write_at(s: &mut [u8], i: usize, given: Record, list: [i32; 30], text: &[u8])
 }
 
 // Where a record's type stands in the table.
-fn place_in(given: Record) -> Place
+fn place_in(given: Record) -> Option<usize>
     ensures { result ≡ place_of (get_or (numbers_in given) 0 0) }
 {
     let v = records::numbers(field_in(given));
@@ -238,32 +250,37 @@ fn place_in(given: Record) -> Place
 }
 
 // Writes a field into lent bytes: its record, its list and its text. Answers how many bits it has, or why nothing was written.
-pub fn write(s: &mut [u8], given: Record, list: [i32; 30], text: &[u8]) -> Written
+pub fn write(
+    s: &mut [u8],
+    given: Record,
+    list: [i32; 30],
+    text: &[u8],
+) -> Result<usize, FieldRefusal>
     ensures answer { result ≡ written_of given list text.now s.old }
     ensures left { s.new ≡ left_of given list text.now s.old }
 {
-    let Place::At(i) = place_in(given) else {
-        return Written::Refused(FieldRefusal::NotWritable);
+    let Some(i) = place_in(given) else {
+        return Err(FieldRefusal::NotWritable);
     };
     write_at(s, i, given, list, text)
 }
 
 // What `write` answers, without writing.
-pub fn answer(s: &[u8], given: Record, list: [i32; 30], text: &[u8]) -> Written
+pub fn answer(s: &[u8], given: Record, list: [i32; 30], text: &[u8]) -> Result<usize, FieldRefusal>
     ensures { result ≡ written_of given list text.now s.now }
 {
-    let Place::At(i) = place_in(given) else {
-        return Written::Refused(FieldRefusal::NotWritable);
+    let Some(i) = place_in(given) else {
+        return Err(FieldRefusal::NotWritable);
     };
     answer_at(i, given, list, text.len(), s.len())
 }
 
 // The document's number of a refusal; 0 where there is none.
-pub fn number(w: Written) -> u8
+pub fn number(w: Result<usize, FieldRefusal>) -> u8
     ensures { result ≡ written_number w }
 {
     match w {
-        Written::Bits(_) => 0,
-        Written::Refused(r) => r.number(),
+        Ok(_) => 0,
+        Err(r) => u8::from(r),
     }
 }

@@ -1,11 +1,10 @@
 -- What is written is read, and what is read is written: for parts of any widths, and for the records of all types.
 -- Assumes nothing.
-use Rattle.std.proofs.Common.{◌≡◌, ℕ, zero, suc, ◌+◌, ◌*◌, ◌/◌, ◌%◌, ◌<◌, ◌≤◌, Bool, true, false, cond, ◌&&◌, eqb, List, [], ◌∷◌, length, get_or, replicate, sym, refl, ap, ◌∙◌, inl, inr, arith, lit<, eqb-true}
+use Rattle.std.proofs.Common.{◌≡◌, ℕ, zero, suc, ◌+◌, ◌*◌, ◌/◌, ◌%◌, ◌<◌, ◌≤◌, Bool, true, false, cond, ◌&&◌, eqb, List, [], ◌∷◌, length, get_or, replicate, sym, refl, ap, ◌∙◌, inl, inr, arith, lit<, eqb-true, Some}
 use native.Mathlib.Decide.{dec_lt, ℕ_discrete}
 use lib.ListN.{length-replicate}
 use Rattle.bits.specs.Bits.{bit_at, bits_of, put_bit, put_bits, Bytes}
 use Rattle.bits.proofs.Laws.{bit_at_lt, bits_of-put_bits, bits_of-put_bits_other, length-put_bit, length-put_bits, put_bit_same, put_bits_other, put_bits_bytes, bits_tell_bytes}
-use Rattle.fields.specs.declared.Place.TheVariants.{At}
 use Rattle.fields.specs.declared.Field.{Field}
 use Rattle.fields.specs.declared.Field.TheVariants as F
 use Rattle.fields.specs.Table.{table, rows, row_at, place_from, place_of, widths, widths_at, rules, rules_at, values_of, fault_of, has_fault}
@@ -133,7 +132,7 @@ spares_zero (r ∷ rs) [] = true
 spares_zero (r ∷ rs) (v ∷ vs) = cond (eqb r 1) (eqb v 0) true && spares_zero rs vs
 
 -- what holds of every record, case by case
-own : (f : Field) → (field_of (place_in f) (numbers_of f) ≡ f) × (place_of (get_or (numbers_of f) 0 0) ≡ At (place_in f)) × (place_in f < 21) × (spares_zero (rules_at (place_in f)) (numbers_of f) ≡ true)
+own : (f : Field) → (field_of (place_in f) (numbers_of f) ≡ f) × (place_of (get_or (numbers_of f) 0 0) ≡ Some (place_in f)) × (place_in f < 21) × (spares_zero (rules_at (place_in f)) (numbers_of f) ≡ true)
 unfolding field_at table rows place_from rules rules_at
 own (F.TacticalUplink a b c d e) = (refl, refl, lit< tt, refl)
 own (F.ElmUplink a b c d f) = (refl, refl, lit< tt, refl)
@@ -162,7 +161,7 @@ pub record_back : (f : Field) → field_of (place_in f) (numbers_of f) ≡ f
 record_back f = (own f).0
 
 -- its type has its place, which is no relay's
-pub place_back : (f : Field) → place_of (get_or (numbers_of f) 0 0) ≡ At (place_in f)
+pub place_back : (f : Field) → place_of (get_or (numbers_of f) 0 0) ≡ Some (place_in f)
 place_back f = (own f).1
 
 pub place_low : (f : Field) → place_in f < 21

@@ -1,6 +1,6 @@
 -- A field that is accepted is the one that its record, list and text write.
 -- Assumes nothing.
-use Rattle.std.proofs.Common.{◌≡◌, ℕ, zero, suc, ◌+◌, ◌*◌, ◌/◌, ◌%◌, ◌^◌, ◌<◌, ◌≤◌, Bool, true, false, cond, not, ◌&&◌, eqb, ltb, leb, List, [], ◌∷◌, ◌++◌, length, get_or, drop, replicate, ℤ, pos, neg_ℤ, nat_abs, sym, refl, ap, ◌∙◌, subst, inl, inr, zero-le, add-zero, mul-zero, div-add-mod', zero-add, arith, length-drop, take_all, ltb-false, lt-ltb, eq-eqb, ne_eqb, eqb-true}
+use Rattle.std.proofs.Common.{◌≡◌, ℕ, zero, suc, ◌+◌, ◌*◌, ◌/◌, ◌%◌, ◌^◌, ◌<◌, ◌≤◌, Bool, true, false, cond, not, ◌&&◌, eqb, ltb, leb, List, [], ◌∷◌, ◌++◌, length, get_or, drop, replicate, ℤ, pos, neg_ℤ, nat_abs, sym, refl, ap, ◌∙◌, subst, inl, inr, zero-le, add-zero, mul-zero, div-add-mod', zero-add, arith, length-drop, take_all, ltb-false, lt-ltb, eq-eqb, ne_eqb, eqb-true, None, Ok, Option, Some}
 use native.Mathlib.Decide.{ℕ_discrete}
 use lib.ListN.{length-replicate}
 use lib.Seq.{drop-length}
@@ -10,12 +10,9 @@ use Rattle.bits.specs.Bits.{bits_of, put_bits, Bytes}
 use Rattle.fields.specs.Lists.{negative, block_of, block_bits, block_unused, entry_of, entry_bits, entry_fits, any_unused, entries_in, list_fits, entries_bits}
 use Rattle.fields.specs.declared.Direction.{Direction}
 use Rattle.fields.specs.declared.Direction.TheVariants.{ToSensor, FromSensor}
-use Rattle.fields.specs.declared.Place.{Place}
-use Rattle.fields.specs.declared.Place.TheVariants.{At, Nowhere}
 use Rattle.fields.specs.Table.{place_of, row_at, rules_at, widths_at, values_of, has_fault, count_in, size_in}
 use Rattle.fields.specs.Reading.{from_sensor, same_way_as, type_of, values_at, opens, start_of, record_of, not_relayed, listed, listed_as, list_in, list_of, text_in, block_count, blocks_in, wrong_byte_count, bit_after_count, unknown_type, type_not_carried, wrong_direction, wrong_bit_count, spare_bit_set, value_not_in_use, sized_by, field_rows, read_rows}
 use Rattle.fields.specs.declared.Record.{Record}
-use Rattle.fields.specs.declared.Answer.TheVariants.{Accepted}
 use Rattle.fields.specs.Records.{field_of, numbers_of}
 use Rattle.fields.proofs.Puts.{both_true, both_false, put_all_join}
 use Rattle.fields.proofs.Back.{values_back, first_eight, parts_write}
@@ -177,15 +174,15 @@ module _ (s : List ℕ) (n : ℕ) (w : Direction) (bytes : Bytes s) (none : None
   field = none.1.1.1
 
   -- the type has a row
-  pub place : (i : ℕ) × (place_of (type_of s a) ≡ At i)
+  pub place : (i : ℕ) × (place_of (type_of s a) ≡ Some i)
   unfolding unknown_type
   place = go (place_of (type_of s a)) refl
     where
-      go : (p : Place) → place_of (type_of s a) ≡ p → (i : ℕ) × (place_of (type_of s a) ≡ At i)
-      go (At i) e = (i, e)
-      go Nowhere e = absurd (let q : not (type_not_carried (type_of s a)) ≡ false = rw e at field.0 in let y = field.1.0 in let g = not-false (type_not_carried (type_of s a)) q in let z : ◌≡◌ {A = ℕ} 0 1 = cc in omega arith)
+      go : (p : Option ℕ) → place_of (type_of s a) ≡ p → (i : ℕ) × (place_of (type_of s a) ≡ Some i)
+      go (Some i) e = (i, e)
+      go None e = absurd (let q : not (type_not_carried (type_of s a)) ≡ false = rw e at field.0 in let y = field.1.0 in let g = not-false (type_not_carried (type_of s a)) q in let z : ◌≡◌ {A = ℕ} 0 1 = cc in omega arith)
 
-  module _ (i : ℕ) (here : place_of (type_of s a) ≡ At i) where
+  module _ (i : ℕ) (here : place_of (type_of s a) ≡ Some i) where
     abbrev vals : List ℕ
     vals = values_at s a i
 
@@ -224,13 +221,13 @@ module _ (s : List ℕ) (n : ℕ) (w : Direction) (bytes : Bytes s) (none : None
     back = values_back s a i low (sym code_is) spare_is
 
     -- what stands before the field
-    pub head_is : (field_in r ≡ field_of i vals) × (head_bits r ≡ a) × (head_fits i r ≡ true) × (values_of s 0 (head_widths r) ≡ head_values r) × (list_of s (Accepted r) ≡ entries_in (row_at i).step 30 (values_of s (a + (row_at i).base) (replicate (listed i vals) (row_at i).step)))
+    pub head_is : (field_in r ≡ field_of i vals) × (head_bits r ≡ a) × (head_fits i r ≡ true) × (values_of s 0 (head_widths r) ≡ head_values r) × (list_of s (Ok r) ≡ entries_in (row_at i).step 30 (values_of s (a + (row_at i).base) (replicate (listed i vals) (row_at i).step)))
     unfolding head_fits values_of entries_in list_in
     head_is = go (opens s n w) refl
       where
-        go : (b : Bool) → opens s n w ≡ b → (field_in r ≡ field_of i vals) × (head_bits r ≡ a) × (head_fits i r ≡ true) × (values_of s 0 (head_widths r) ≡ head_values r) × (list_of s (Accepted r) ≡ entries_in (row_at i).step 30 (values_of s (a + (row_at i).base) (replicate (listed i vals) (row_at i).step)))
+        go : (b : Bool) → opens s n w ≡ b → (field_in r ≡ field_of i vals) × (head_bits r ≡ a) × (head_fits i r ≡ true) × (values_of s 0 (head_widths r) ≡ head_values r) × (list_of s (Ok r) ≡ entries_in (row_at i).step 30 (values_of s (a + (row_at i).base) (replicate (listed i vals) (row_at i).step)))
         go true e =
-            let h : place_of (type_of s 16) ≡ At i = rw e at here in
+            let h : place_of (type_of s 16) ≡ Some i = rw e at here in
             let o = opens_told s n w e in
             let f = way_from (row_at i).way w way-is o.1 in
             let g : not_relayed (type_of s 16) 16 ≡ false = rw e at field.1.1.1.0 in
@@ -239,13 +236,13 @@ module _ (s : List ℕ) (n : ℕ) (w : Direction) (bytes : Bytes s) (none : None
             let z = none_listed i (values_at s 16 i) in22 (values_of-length s 16 (widths_at i) ∙ widths_length i in22) f in
             rw e (rw h refl, refl, k, rw o.0 refl, rw z refl)
         go false e =
-            let h : place_of (type_of s 0) ≡ At i = rw e at here in
+            let h : place_of (type_of s 0) ≡ Some i = rw e at here in
             rw e (rw h refl, refl, refl, refl, rw (h, zero-add) refl)
 
     numbers : numbers_in r ≡ vals
     numbers = ap numbers_of head_is.0 ∙ back
 
-    pub place_is : place_of (get_or (numbers_in r) 0 0) ≡ At i
+    pub place_is : place_of (get_or (numbers_in r) 0 0) ≡ Some i
     place_is = ap (λ (x : List ℕ). place_of (get_or x 0 0)) numbers ∙ ap place_of (first_eight s a i low) ∙ here
 
     abbrev row : ℕ
@@ -261,7 +258,7 @@ module _ (s : List ℕ) (n : ℕ) (w : Direction) (bytes : Bytes s) (none : None
     t = drop (text_in s a) s
 
     abbrev l : List ℤ
-    l = list_of s (Accepted r)
+    l = list_of s (Ok r)
 
     fits : Fit (widths_at i) vals
     fits = values_fit s a (widths_at i)

@@ -1,18 +1,15 @@
 -- A record that the writer takes, written over zeros, is read as that record, its list and its text.
 -- Assumes nothing.
-use Rattle.std.proofs.Common.{◌≡◌, ℕ, ◌+◌, ◌*◌, ◌/◌, ◌%◌, ◌<◌, ◌≤◌, Bool, true, false, cond, not, ◌&&◌, eqb, ltb, leb, List, [], ◌∷◌, ◌++◌, length, get_or, drop, replicate, ℤ, sym, refl, ap, ◌∙◌, subst, add-zero, mul-zero, zero-add, arith, length-drop, take_all, pow_pos, ltb-true, le-ltb, eq-eqb, ne_eqb, le-leb}
+use Rattle.std.proofs.Common.{◌≡◌, ℕ, ◌+◌, ◌*◌, ◌/◌, ◌%◌, ◌<◌, ◌≤◌, Bool, true, false, cond, not, ◌&&◌, eqb, ltb, leb, List, [], ◌∷◌, ◌++◌, length, get_or, drop, replicate, ℤ, sym, refl, ap, ◌∙◌, subst, add-zero, mul-zero, zero-add, arith, length-drop, take_all, pow_pos, ltb-true, le-ltb, eq-eqb, ne_eqb, le-leb, Ok, Result, Some}
 use lib.ListN.{length-replicate}
 use lib.Seq.{drop-length}
 use borrow.Author.Tests.{not-true}
 use native.Mathlib.Decide.{ℕ_discrete}
-use Rattle.fields.specs.declared.Answer.{Answer}
-use Rattle.fields.specs.declared.Answer.TheVariants.{Accepted}
 use Rattle.rows.specs.Claims.{NoneHolds}
 use Rattle.bits.specs.Bits.{bits_of, Bytes}
 use Rattle.bits.proofs.Laws.{bits_of-put_bits, length-put_bits, put_bits_bytes}
 use Rattle.fields.specs.declared.Direction.{Direction}
 use Rattle.fields.specs.declared.Direction.TheVariants.{ToSensor, FromSensor}
-use Rattle.fields.specs.declared.Place.TheVariants.{At}
 use Rattle.fields.specs.declared.Field.{Field}
 use Rattle.fields.specs.declared.Record.{Record}
 use Rattle.fields.specs.declared.Record.TheVariants.{Single, Relay}
@@ -28,6 +25,7 @@ use Rattle.fields.proofs.Back.{parts_read, place_in, record_back, place_back, sp
 use Rattle.fields.proofs.Facts.{no_relay, base_least, entry_listed, none_listed, size_most, text_whole}
 use Rattle.fields.proofs.Exactly.{accepted_exactly}
 use Rattle.fields.proofs.Rounds.{append_inj, values_of_join, values_of-length, fit_join, values_stay, bytes_fit, entries_fit, list_back, used_back, values_bytes}
+use Rattle.refusals.specs.declared.FieldRefusal.{FieldRefusal}
 
 fault_one : (r v : ℕ) → cond (eqb r 1) (eqb v 0) true ≡ true → eqb (fault_of r v) 1 ≡ false
 fault_one r v h = go (eqb r 1) refl
@@ -57,10 +55,10 @@ no_spare (r ∷ rs) (v ∷ vs) h =
     let b = both_true (cond (eqb r 1) (eqb v 0) true) (spares_zero rs vs) h in
     rw (fault_one r v b.0) (no_spare rs vs b.1)
 
-spares_out : (f : Field) (i : ℕ) → place_of (get_or (numbers_of f) 0 0) ≡ At i → has_fault 1 (rules_at i) (numbers_of f) ≡ false
+spares_out : (f : Field) (i : ℕ) → place_of (get_or (numbers_of f) 0 0) ≡ Some i → has_fault 1 (rules_at i) (numbers_of f) ≡ false
 spares_out f i h = let e = place_back f in let q : place_in f ≡ i = cc in rw (← q) (no_spare (rules_at (place_in f)) (numbers_of f) (spares-zero f))
 
-record_at : (f : Field) (i : ℕ) → place_of (get_or (numbers_of f) 0 0) ≡ At i → field_of i (numbers_of f) ≡ f
+record_at : (f : Field) (i : ℕ) → place_of (get_or (numbers_of f) 0 0) ≡ Some i → field_of i (numbers_of f) ≡ f
 record_at f i h = let e = place_back f in let q : place_in f ≡ i = cc in rw (← q) (record_back f)
 
 same_way : (w : Direction) → same_way_as w w ≡ true
@@ -92,21 +90,21 @@ opened_by s n i (Relay x f) h t c k l e =
     (rw o refl, rw (o, q, e) refl, rw (t, c, g) refl)
 
 -- the list beside the record
-listed_by : (s : List ℕ) (i : ℕ) (r : Record) (l : List ℤ) → place_of (type_of s (head_bits r)) ≡ At i → values_at s (head_bits r) i ≡ numbers_in r
+listed_by : (s : List ℕ) (i : ℕ) (r : Record) (l : List ℤ) → place_of (type_of s (head_bits r)) ≡ Some i → values_at s (head_bits r) i ≡ numbers_in r
     → values_of s (head_bits r + (row_at i).base) (replicate (listed i (numbers_in r)) (row_at i).step) ≡ entries_bits (row_at i).step (listed i (numbers_in r)) l
-    → list_fits (row_at i).step (listed i (numbers_in r)) l ≡ true → length l ≡ 30 → (head_bits r ≡ 16 → listed i (numbers_in r) ≡ 0) → list_of s (Accepted r) ≡ l
+    → list_fits (row_at i).step (listed i (numbers_in r)) l ≡ true → length l ≡ 30 → (head_bits r ≡ 16 → listed i (numbers_in r) ≡ 0) → list_of s (Ok r) ≡ l
 unfolding list_in entries_in entries_bits
 listed_by s i (Single f) l p v x h n z =
     let y : values_of s (row_at i).base (replicate (listed i (numbers_of f)) (row_at i).step) ≡ entries_bits (row_at i).step (listed i (numbers_of f)) l = rw zero-add at x in
     rw (p, v, y) (list_back (row_at i).step (listed i (numbers_of f)) l 30 n h)
 listed_by s i (Relay x f) l p v y h n z = rw (z refl) at (list_back (row_at i).step (listed i (numbers_of f)) l 30 n h)
 
-pub text-place : (s : List ℕ) (r : Record) → text_place s (Accepted r) ≡ text_in s (head_bits r)
+pub text-place : (s : List ℕ) (r : Record) → text_place s (Ok r) ≡ text_in s (head_bits r)
 text-place s (Single f) = refl
 text-place s (Relay x f) = refl
 
 -- the text
-text_by : (s : List ℕ) (a i : ℕ) (t : List ℕ) (c : ℕ) → place_of (type_of s a) ≡ At i → Bytes s → i < 22 → a % 8 ≡ 0 → length s ≡ (a + ((row_at i).base + (row_at i).step * c) + 7) / 8
+text_by : (s : List ℕ) (a i : ℕ) (t : List ℕ) (c : ℕ) → place_of (type_of s a) ≡ Some i → Bytes s → i < 22 → a % 8 ≡ 0 → length s ≡ (a + ((row_at i).base + (row_at i).step * c) + 7) / 8
     → ((row_at i).step ≡ 80 → (length t ≡ 10 * c) × (values_of s (a + (row_at i).base) (replicate (length t) 8) ≡ t)) → (((row_at i).step ≡ 80 → ⊥) → length t ≡ 0)
     → drop (text_in s a) s ≡ t
 unfolding text_in
@@ -129,7 +127,7 @@ text_by s a i t c p b low w n long short = go (ℕ_discrete (row_at i).step 80)
         ∙ ap (λ (x : ℕ). values_of s x (replicate (length t) 8)) (sym at) ∙ y.1)
     go (no e) = rw (p, ne_eqb (row_at i).step 80 e) (drop-length s ∙ empty t (short e))
 
-module _ (i : ℕ) (r : Record) (l : List ℤ) (t : List ℕ) (low : i < 21) (place : place_of (get_or (numbers_in r) 0 0) ≡ At i) (k : Taken i r l (length t)) (room : length l ≡ 30) (bytes : Bytes t) where
+module _ (i : ℕ) (r : Record) (l : List ℤ) (t : List ℕ) (low : i < 21) (place : place_of (get_or (numbers_in r) 0 0) ≡ Some i) (k : Taken i r l (length t)) (room : length l ≡ 30) (bytes : Bytes t) where
   abbrev vs : List ℕ
   vs = numbers_in r
 
@@ -216,7 +214,7 @@ module _ (i : ℕ) (r : Record) (l : List ℤ) (t : List ℕ) (low : i < 21) (pl
   type_back : type_of out (head_bits r) ≡ get_or vs 0 0
   type_back = sym (first_eight out (head_bits r) i low) ∙ ap (λ (x : List ℕ). get_or x 0 0) parted.1
 
-  here : place_of (type_of out (head_bits r)) ≡ At i
+  here : place_of (type_of out (head_bits r)) ≡ Some i
   here = ap place_of type_back ∙ place
 
   code_is : type_of out (head_bits r) ≡ (row_at i).code
@@ -272,7 +270,7 @@ module _ (i : ℕ) (r : Record) (l : List ℤ) (t : List ℕ) (low : i < 21) (pl
 
   -- ---- the answer, the list and the text
 
-  accepted : answer_of out n (row_at i).way ≡ Accepted r
+  accepted : answer_of out n (row_at i).way ≡ Ok r
   accepted = (accepted_exactly out n (row_at i).way r).1 (none, told.1)
 
   -- what is relayed has no list
@@ -284,7 +282,7 @@ module _ (i : ℕ) (r : Record) (l : List ℤ) (t : List ℕ) (low : i < 21) (pl
       go (Single f) q e = absurd (omega arith)
       go (Relay y f) q e = none_listed i vs (omega arith) (numbers_length (field_in r)) (both_true (from_sensor (row_at i).way) _ (both_true (ltb y 256) _ q).1).0
 
-  list_is : list_of out (Accepted r) ≡ l
+  list_is : list_of out (Ok r) ≡ l
   list_is = listed_by out i r l here parted.1 parted.2 k.list room no_list
 
   whole_head : head_bits r % 8 ≡ 0
@@ -306,10 +304,10 @@ module _ (i : ℕ) (r : Record) (l : List ℤ) (t : List ℕ) (low : i < 21) (pl
           let z : m ≡ 0 = ap (λ (b : Bool). cond b 0 (count_in (row_at i) vs)) (eq-eqb row 80 e) in
           ap (λ (x : ℕ). values_of out x (replicate (length t) 8)) (sym (ap (λ (c : ℕ). head_bits r + (row_at i).base + row * c) z ∙ ap (λ (y : ℕ). head_bits r + (row_at i).base + y) (mul-zero row) ∙ add-zero _))
 
-  pub read_is : read_field out n (row_at i).way ≡ record { answer = Accepted r; list = l }
+  pub read_is : read_field out n (row_at i).way ≡ record { answer = Ok r; list = l }
   unfolding read_field
   read_is = rw (accepted, list_is) refl
 
   pub text_read : text_of out n (row_at i).way ≡ t
   unfolding text_of
-  text_read = ap (λ (x : Answer). drop (text_place out x) out) accepted ∙ ap (λ (x : ℕ). drop x out) (text-place out r) ∙ text_is
+  text_read = ap (λ (x : Result Record FieldRefusal). drop (text_place out x) out) accepted ∙ ap (λ (x : ℕ). drop x out) (text-place out r) ∙ text_is

@@ -1,12 +1,11 @@
 -- Laws of the table: what is looked up, row by row.
 -- Assumes nothing.
-use Rattle.std.proofs.Common.{◌≡◌, ℕ, zero, suc, ◌+◌, ◌-◌, ◌%◌, ◌^◌, ◌<◌, ◌≤◌, Bool, true, false, cond, not, ◌&&◌, ◌||◌, T, eqb, leb, List, [], ◌∷◌, length, get_or, sym, refl, zero-le, lt_of_lt_of_le, le_of_suc-le-suc, not-suc-le-zero, arith, eqb→eq, leb→le, pow_mono, eq-eqb, ne_eqb, eqb-true}
+use Rattle.std.proofs.Common.{◌≡◌, ℕ, zero, suc, ◌+◌, ◌-◌, ◌%◌, ◌^◌, ◌<◌, ◌≤◌, Bool, true, false, cond, not, ◌&&◌, ◌||◌, T, eqb, leb, List, [], ◌∷◌, length, get_or, sym, refl, zero-le, lt_of_lt_of_le, le_of_suc-le-suc, not-suc-le-zero, arith, eqb→eq, leb→le, pow_mono, eq-eqb, ne_eqb, eqb-true, None, Some}
 use native.Mathlib.Decide.{ℕ_discrete}
 use lib.ListN.{get_or-eq_default}
 use Rattle.bits.proofs.Laws.{bits_of-lt}
 use Rattle.fields.specs.declared.Row.{Row}
 use Rattle.fields.specs.declared.table.Known.{Known}
-use Rattle.fields.specs.declared.Place.TheVariants.{At, Nowhere}
 use Rattle.fields.specs.declared.Field.TheVariants.{ControllerAlert}
 use Rattle.fields.specs.Table.{table, rows, no_row, row_at, widths, widths_at, rules, rules_at, place_from, values_of, has_fault, Quiet, count_in, RowSmall}
 use Rattle.fields.specs.Records.{fields_by, field_at}
@@ -17,7 +16,7 @@ abbrev Avoids : Type 0 → ℕ → List Row → Type 0
 Avoids T c [] = T
 Avoids T c (r ∷ rs) = Avoids (T × (c ≡ r.code → ⊥)) c rs
 
-avoided : (T : Type 0) (c : ℕ) (rs : List Row) (i : ℕ) → Avoids T c rs → T × (place_from c rs i ≡ Nowhere)
+avoided : (T : Type 0) (c : ℕ) (rs : List Row) (i : ℕ) → Avoids T c rs → T × (place_from c rs i ≡ None)
 unfolding place_from
 avoided T c [] i t = (t, refl)
 avoided T c (r ∷ rs) i t =
@@ -25,7 +24,7 @@ avoided T c (r ∷ rs) i t =
     (h.0.0, rw (ne_eqb _ _ (λ e. h.0.1 (sym e))) h.1)
 
 -- what is no row's code has no place
-pub place_from_none : (c : ℕ) (rs : List Row) → Avoids (Unit {0}) c rs → place_from c rs 0 ≡ Nowhere
+pub place_from_none : (c : ℕ) (rs : List Row) → Avoids (Unit {0}) c rs → place_from c rs 0 ≡ None
 place_from_none c rs t = (avoided (Unit {0}) c rs 0 t).1
 
 -- the number i is none of the first n, as the last arm of a `match` has it
@@ -76,16 +75,16 @@ unfolding field_at
 field_at-last at a b c d e f g h i j l = get_or-eq_default (fields_by a b c d e f g h i j) (ControllerAlert a b c d e f g h i j) l
 
 -- a place that is found stands in the table, and holds the code
-found_in : (c : ℕ) (rs : List Row) (a i : ℕ) → place_from c rs a ≡ At i → i < a + length rs
+found_in : (c : ℕ) (rs : List Row) (a i : ℕ) → place_from c rs a ≡ Some i → i < a + length rs
 unfolding place_from
 found_in c [] a i e = let z : ◌≡◌ {A = ℕ} 0 1 = cc in omega arith
 found_in c (r ∷ rs) a i e = go (eqb r.code c) (found_in c rs (a + 1) i) e
   where
-    go : (t : Bool) → (place_from c rs (a + 1) ≡ At i → i < a + 1 + length rs) → cond t (At a) (place_from c rs (a + 1)) ≡ At i → i < a + suc (length rs)
+    go : (t : Bool) → (place_from c rs (a + 1) ≡ Some i → i < a + 1 + length rs) → cond t (Some a) (place_from c rs (a + 1)) ≡ Some i → i < a + suc (length rs)
     go true h q = let z : a ≡ i = cc in omega arith
     go false h q = omega (arith, h q)
 
-pub found_within : (c i : ℕ) → place_from c rows 0 ≡ At i → i < 22
+pub found_within : (c i : ℕ) → place_from c rows 0 ≡ Some i → i < 22
 unfolding rows table
 found_within c i e = found_in c rows 0 i e
 
@@ -290,13 +289,13 @@ row_step i h ne = go (eqb (row_at i).step 80) (ne_eqb _ _ ne) (below_at (λ (j :
     go false e t = leb→le _ _ t
 
 -- the row that is found holds the code
-found_code_from : (c : ℕ) (rs : List Row) (a i : ℕ) (d : Row) → place_from c rs a ≡ At i → (a ≤ i) × ((get_or rs (i - a) d).code ≡ c)
+found_code_from : (c : ℕ) (rs : List Row) (a i : ℕ) (d : Row) → place_from c rs a ≡ Some i → (a ≤ i) × ((get_or rs (i - a) d).code ≡ c)
 unfolding place_from
 found_code_from c [] a i d e = absurd (let z : ◌≡◌ {A = ℕ} 0 1 = cc in omega arith)
 found_code_from c (r ∷ rs) a i d e = go (eqb r.code c) refl (found_code_from c rs (a + 1) i d) e
   where
-    go : (t : Bool) → eqb r.code c ≡ t → (place_from c rs (a + 1) ≡ At i → (a + 1 ≤ i) × ((get_or rs (i - (a + 1)) d).code ≡ c))
-        → cond t (At a) (place_from c rs (a + 1)) ≡ At i → (a ≤ i) × ((get_or (r ∷ rs) (i - a) d).code ≡ c)
+    go : (t : Bool) → eqb r.code c ≡ t → (place_from c rs (a + 1) ≡ Some i → (a + 1 ≤ i) × ((get_or rs (i - (a + 1)) d).code ≡ c))
+        → cond t (Some a) (place_from c rs (a + 1)) ≡ Some i → (a ≤ i) × ((get_or (r ∷ rs) (i - a) d).code ≡ c)
     go true q h z =
         let e : a ≡ i = cc in
         let n : i - a ≡ 0 = omega arith in
@@ -306,7 +305,7 @@ found_code_from c (r ∷ rs) a i d e = go (eqb r.code c) refl (found_code_from c
         let n : i - a ≡ suc (i - (a + 1)) = omega arith in
         (omega arith, rw n k.1)
 
-pub found_code : (c i : ℕ) → place_from c rows 0 ≡ At i → (row_at i).code ≡ c
+pub found_code : (c i : ℕ) → place_from c rows 0 ≡ Some i → (row_at i).code ≡ c
 unfolding row_at
 found_code c i e =
     let z : i - 0 ≡ i = omega arith in

@@ -1,6 +1,6 @@
 -- What reading a field answers (document 01, "Link data fields"): each refusal's condition over the bytes, the count and the direction; the
 -- first row that holds, in the document's order, answers. Definitions only.
-use Rattle.std.specs.Prelude.{ℕ, ◌+◌, ◌-◌, ◌/◌, ◌%◌, Bool, true, false, cond, not, ◌&&◌, ◌||◌, List, [], ◌∷◌, ◌++◌, length, drop, replicate, ℤ, ◌==◌, nat_le, nat_lt}
+use Rattle.std.specs.Prelude.{ℕ, ◌+◌, ◌-◌, ◌/◌, ◌%◌, Bool, true, false, cond, not, ◌&&◌, ◌||◌, List, [], ◌∷◌, ◌++◌, length, drop, replicate, ℤ, ◌==◌, nat_le, nat_lt, Err, Ok, Result}
 use Rattle.rows.specs.Rows.{Row, row, first_of}
 use Rattle.bits.specs.Bits.{bits_of, bits}
 use Rattle.refusals.specs.declared.FieldRefusal.TheVariants.{CountOutOfRange, WrongByteCount, BitAfterCount, UnknownType, TypeNotCarried, WrongDirection, NotRelayed, WrongBitCount, SpareBitSet, ValueNotInUse}
@@ -11,12 +11,11 @@ use Rattle.fields.specs.declared.Row as table
 use Rattle.fields.specs.declared.Field.{Field}
 use Rattle.fields.specs.declared.Record.{Record}
 use Rattle.fields.specs.declared.Record.TheVariants.{Single, Relay}
-use Rattle.fields.specs.declared.Answer.{Answer}
-use Rattle.fields.specs.declared.Answer.TheVariants.{Accepted, Refused}
 use Rattle.fields.specs.declared.Found.{Found}
 use Rattle.fields.specs.Table.{place_of, by_place, row_at, widths_at, rules_at, values_of, has_fault, count_in, size_in}
 use Rattle.fields.specs.Records.{field_of}
 use Rattle.fields.specs.Lists.{any_unused, entries_in}
+use Rattle.refusals.specs.declared.FieldRefusal.{FieldRefusal}
 
 -- ---- directions
 
@@ -108,27 +107,27 @@ abbrev pub start_of : List ℕ → ℕ → Direction → ℕ
 start_of s n w = cond (opens s n w) 16 0
 
 -- the rows of the count and the bytes
-abbrev pub count_rows : List ℕ → ℕ → List (Row Answer)
+abbrev pub count_rows : List ℕ → ℕ → List (Row (Result Record FieldRefusal))
 count_rows s n =
-    row (count_out_of_range n) (Refused CountOutOfRange)
-    ∷ row (wrong_byte_count s n) (Refused WrongByteCount)
-    ∷ row (bit_after_count s n) (Refused BitAfterCount)
+    row (count_out_of_range n) (Err CountOutOfRange)
+    ∷ row (wrong_byte_count s n) (Err WrongByteCount)
+    ∷ row (bit_after_count s n) (Err BitAfterCount)
     ∷ []
 
 -- those of a field that begins behind the first a bits
-abbrev pub field_rows : List ℕ → ℕ → ℕ → Direction → List (Row Answer)
+abbrev pub field_rows : List ℕ → ℕ → ℕ → Direction → List (Row (Result Record FieldRefusal))
 field_rows s n a w =
-    row (unknown_type (type_of s a)) (Refused UnknownType)
-    ∷ row (type_not_carried (type_of s a)) (Refused TypeNotCarried)
-    ∷ row (wrong_direction (type_of s a) w) (Refused WrongDirection)
-    ∷ row (not_relayed (type_of s a) a) (Refused NotRelayed)
-    ∷ row (wrong_bit_count s n a) (Refused WrongBitCount)
-    ∷ row (spare_bit_set s a) (Refused SpareBitSet)
-    ∷ row (value_not_in_use s a) (Refused ValueNotInUse)
+    row (unknown_type (type_of s a)) (Err UnknownType)
+    ∷ row (type_not_carried (type_of s a)) (Err TypeNotCarried)
+    ∷ row (wrong_direction (type_of s a) w) (Err WrongDirection)
+    ∷ row (not_relayed (type_of s a) a) (Err NotRelayed)
+    ∷ row (wrong_bit_count s n a) (Err WrongBitCount)
+    ∷ row (spare_bit_set s a) (Err SpareBitSet)
+    ∷ row (value_not_in_use s a) (Err ValueNotInUse)
     ∷ []
 
 -- "In that order."
-abbrev pub read_rows : List ℕ → ℕ → Direction → List (Row Answer)
+abbrev pub read_rows : List ℕ → ℕ → Direction → List (Row (Result Record FieldRefusal))
 read_rows s n w = count_rows s n ++ field_rows s n (start_of s n w) w
 
 -- the record of a field that begins behind the first a bits, which has a row; where it has none, 23 or 24 answers, and this is not asked
@@ -139,8 +138,8 @@ record_in s a = by_place (field_of 0 (values_at s a 0)) (λ i. field_of i (value
 abbrev pub record_of : List ℕ → ℕ → Direction → Record
 record_of s n w = cond (opens s n w) (Relay (bits s 9 16) (record_in s 16)) (Single (record_in s 0))
 
-unfoldable pub answer_of : List ℕ → ℕ → Direction → Answer
-answer_of s n w = first_of (read_rows s n w) (Accepted (record_of s n w))
+unfoldable pub answer_of : List ℕ → ℕ → Direction → Result Record FieldRefusal
+answer_of s n w = first_of (read_rows s n w) (Ok (record_of s n w))
 
 -- ---- the list beside the record
 
@@ -158,10 +157,10 @@ list_in s =
     (place_of (type_of s 0))
 
 -- no relayed type has a list
-abbrev pub list_of : List ℕ → Answer → List ℤ
-list_of s (Accepted (Single f)) = list_in s
-list_of s (Accepted (Relay x f)) = entries_in 0 30 []
-list_of s (Refused r) = entries_in 0 30 []
+abbrev pub list_of : List ℕ → Result Record FieldRefusal → List ℤ
+list_of s (Ok (Single f)) = list_in s
+list_of s (Ok (Relay x f)) = entries_in 0 30 []
+list_of s (Err r) = entries_in 0 30 []
 
 unfoldable pub read_field : List ℕ → ℕ → Direction → Found
 read_field s n w = record { answer = answer_of s n w; list = list_of s (answer_of s n w) }
@@ -172,10 +171,10 @@ read_field s n w = record { answer = answer_of s n w; list = list_of s (answer_o
 unfoldable pub text_in : List ℕ → ℕ → ℕ
 text_in s a = by_place (length s) (λ i. cond ((row_at i).step == 80) ((a + (row_at i).base) / 8) (length s)) (place_of (type_of s a))
 
-abbrev pub text_place : List ℕ → Answer → ℕ
-text_place s (Accepted (Single f)) = text_in s 0
-text_place s (Accepted (Relay x f)) = text_in s 16
-text_place s (Refused r) = length s
+abbrev pub text_place : List ℕ → Result Record FieldRefusal → ℕ
+text_place s (Ok (Single f)) = text_in s 0
+text_place s (Ok (Relay x f)) = text_in s 16
+text_place s (Err r) = length s
 
 -- it runs to the field's end
 unfoldable pub text_of : List ℕ → ℕ → Direction → List ℕ
@@ -183,6 +182,6 @@ text_of s n w = drop (text_place s (answer_of s n w)) s
 
 -- ---- the number of an answer: 0, or the refusal's
 
-abbrev pub answer_number : Answer → ℕ
-answer_number (Accepted r) = 0
-answer_number (Refused r) = field_number r
+abbrev pub answer_number : Result Record FieldRefusal → ℕ
+answer_number (Ok r) = 0
+answer_number (Err r) = field_number r

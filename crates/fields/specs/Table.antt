@@ -1,12 +1,10 @@
 -- The known types of link data fields (document 01, "Link data fields"; document 004, Table 5-1 and Figures 5-1 and 5-2): which way each
 -- travels, how many bits it has, its parts in order, and what their values may be. Definitions only.
-use Rattle.std.specs.Prelude.{◌≡◌, ℕ, ◌+◌, ◌*◌, ◌%◌, ◌<◌, ◌≤◌, Bool, false, cond, ◌||◌, List, [], ◌∷◌, ◌++◌, get_or, take, drop, replicate, ◌==◌, nat_le, slice_index, slice_index_or}
+use Rattle.std.specs.Prelude.{◌≡◌, ℕ, ◌+◌, ◌*◌, ◌%◌, ◌<◌, ◌≤◌, Bool, false, cond, ◌||◌, List, [], ◌∷◌, ◌++◌, get_or, take, drop, replicate, ◌==◌, nat_le, slice_index, slice_index_or, None, Option, Some}
 use Rattle.bits.specs.Bits.{bits_of}
 use Rattle.fields.specs.declared.Direction.{Direction}
 use Rattle.fields.specs.declared.Direction.TheVariants.{ToSensor, FromSensor}
 use Rattle.fields.specs.declared.Row.{Row}
-use Rattle.fields.specs.declared.Place.{Place}
-use Rattle.fields.specs.declared.Place.TheVariants.{At, Nowhere}
 
 -- ---- a part, and the rule of its value
 
@@ -128,18 +126,18 @@ unfoldable pub row_at : ℕ → Row
 row_at i = slice_index_or rows i no_row
 
 -- the place of the first row with that code, counted from i
-unfoldable pub place_from : ℕ → List Row → ℕ → Place
-place_from c [] i = Nowhere
-place_from c (r ∷ rs) i = cond (r.code == c) (At i) (place_from c rs (i + 1))
+unfoldable pub place_from : ℕ → List Row → ℕ → Option ℕ
+place_from c [] i = None
+place_from c (r ∷ rs) i = cond (r.code == c) (Some i) (place_from c rs (i + 1))
 
 -- where a type stands in the table
-abbrev pub place_of : ℕ → Place
+abbrev pub place_of : ℕ → Option ℕ
 place_of c = place_from c rows 0
 
 -- x where a type has no row, else what f says of its place
-abbrev pub by_place : {X : Type 0} → X → (ℕ → X) → Place → X
-by_place x f Nowhere = x
-by_place x f (At i) = f i
+abbrev pub by_place : {X : Type 0} → X → (ℕ → X) → Option ℕ → X
+by_place x f None = x
+by_place x f (Some i) = f i
 
 -- ---- the parts of a type, the type code the first of them, and parts of no bits up to eleven
 

@@ -1,7 +1,7 @@
 -- What writing a field does (document 01, "Link data fields"): each refusal's condition over the record, its list, its text and the lent bytes,
 -- of which the first row that holds answers, else how many bits; and what the lent bytes then hold. The writer is given no direction: the type
 -- tells it. Definitions only.
-use Rattle.std.specs.Prelude.{ℕ, ◌+◌, ◌-◌, ◌*◌, ◌/◌, ◌%◌, ◌^◌, Bool, true, false, cond, not, ◌&&◌, List, [], ◌∷◌, ◌++◌, length, replicate, ℤ, ◌==◌, nat_lt, slice_index}
+use Rattle.std.specs.Prelude.{ℕ, ◌+◌, ◌-◌, ◌*◌, ◌/◌, ◌%◌, ◌^◌, Bool, true, false, cond, not, ◌&&◌, List, [], ◌∷◌, ◌++◌, length, replicate, ℤ, ◌==◌, nat_lt, slice_index, Err, Ok, Result}
 use Rattle.rows.specs.Rows.{Row, row, first_of}
 use Rattle.bits.specs.Bits.{put_bits}
 use Rattle.refusals.specs.declared.FieldRefusal.TheVariants.{NotWritable, NoRoom}
@@ -12,12 +12,11 @@ use Rattle.fields.specs.declared.Row as table
 use Rattle.fields.specs.declared.Field.{Field}
 use Rattle.fields.specs.declared.Record.{Record}
 use Rattle.fields.specs.declared.Record.TheVariants.{Single, Relay}
-use Rattle.fields.specs.declared.Written.{Written}
-use Rattle.fields.specs.declared.Written.TheVariants.{Bits, Refused}
 use Rattle.fields.specs.Table.{place_of, by_place, row_at, widths_at, rules_at, has_fault, count_in, size_in}
 use Rattle.fields.specs.Records.{numbers_of}
 use Rattle.fields.specs.Lists.{list_fits, entries_bits}
 use Rattle.fields.specs.Reading.{from_sensor, listed}
+use Rattle.refusals.specs.declared.FieldRefusal.{FieldRefusal}
 
 -- ---- a record
 
@@ -126,17 +125,17 @@ put_in r l t s = by_place s (λ i. put_field i r l t s) (place_of (slice_index (
 abbrev pub no_room : Record → List ℕ → Bool
 no_room r s = nat_lt (length s) ((bits_in r + 7) / 8)
 
-abbrev pub writer_rows : Record → List ℤ → List ℕ → List ℕ → List (Row Written)
-writer_rows r l t s = row (not (takes r l t)) (Refused NotWritable) ∷ row (no_room r s) (Refused NoRoom) ∷ []
+abbrev pub writer_rows : Record → List ℤ → List ℕ → List ℕ → List (Row (Result ℕ FieldRefusal))
+writer_rows r l t s = row (not (takes r l t)) (Err NotWritable) ∷ row (no_room r s) (Err NoRoom) ∷ []
 
 -- else the bit count
-unfoldable pub written_of : Record → List ℤ → List ℕ → List ℕ → Written
-written_of r l t s = first_of (writer_rows r l t s) (Bits (bits_in r))
+unfoldable pub written_of : Record → List ℤ → List ℕ → List ℕ → Result ℕ FieldRefusal
+written_of r l t s = first_of (writer_rows r l t s) (Ok (bits_in r))
 
 -- the lent bytes after an answer: `put`, which has the field in them, or untouched where it is refused
-abbrev pub left_as : Written → List ℕ → List ℕ → List ℕ
-left_as (Bits n) s put = put
-left_as (Refused q) s put = s
+abbrev pub left_as : Result ℕ FieldRefusal → List ℕ → List ℕ → List ℕ
+left_as (Ok n) s put = put
+left_as (Err q) s put = s
 
 unfoldable pub left_of : Record → List ℤ → List ℕ → List ℕ → List ℕ
 left_of r l t s = left_as (written_of r l t s) s (put_in r l t s)
@@ -151,6 +150,6 @@ bytes_in r l t = put_in r l t (replicate ((bits_in r + 7) / 8) 0)
 
 -- ---- the number of an answer: 0, or the refusal's
 
-abbrev pub written_number : Written → ℕ
-written_number (Bits n) = 0
-written_number (Refused r) = field_number r
+abbrev pub written_number : Result ℕ FieldRefusal → ℕ
+written_number (Ok n) = 0
+written_number (Err r) = field_number r

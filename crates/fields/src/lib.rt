@@ -30,13 +30,6 @@ pub struct Row {
     pub third: usize,
 }
 
-// Where a type stands in the table.
-#[derive(Clone, Copy)]
-pub enum Place {
-    At(usize),
-    Nowhere,
-}
-
 // What is wrong with the parts of a field: a spare bit is one; a value is not in use.
 #[derive(Clone, Copy)]
 pub struct Faults {
@@ -161,23 +154,9 @@ pub enum Record {
     Relay { sensor: u64, inner: Field },
 }
 
-// What reading answers.
-#[derive(Clone, Copy)]
-pub enum Answer {
-    Accepted(Record),
-    Refused(FieldRefusal),
-}
-
-// What reading answers, and the list of the record: zero from its count on, and where there is none.
+// What reading answers: the record, or why there is none; and the list of the record: zero from its count on, and where there is none.
 #[derive(Clone, Copy)]
 pub struct Found {
-    pub answer: Answer,
+    pub answer: Result<Record, FieldRefusal>,
     pub list: [i32; 30],
-}
-
-// What writing answers: how many bits were written, or why none was.
-#[derive(Clone, Copy)]
-pub enum Written {
-    Bits(usize),
-    Refused(FieldRefusal),
 }

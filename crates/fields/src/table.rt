@@ -7,7 +7,7 @@ ghost use Rattle.std.specs.Prelude.{◌≡◌, ◌<◌};
 ghost use Rattle.fields.specs.Table.{place_of, row_at, widths_at, rules_at, fault_of};
 ghost use Rattle.fields.specs.Reading.{from_sensor};
 
-use crate::{Direction, Place, Row};
+use crate::{Direction, Row};
 
 // No part.
 const NONE: u8 = 11;
@@ -321,33 +321,33 @@ pub fn row_at(i: usize) -> Row
 
 // Where a type stands in the table: an index, so that no row is looked at but the one that is asked for.
 #[tactic(auto, unfolding(crate::specs::Table::place_from, crate::specs::Table::rows, crate::specs::Table::table))]
-pub fn find(code: u64) -> Place
+pub fn find(code: u64) -> Option<usize>
     ensures { result ≡ place_of code }
 {
     match code {
-        0x21 => Place::At(0),
-        0x22 => Place::At(1),
-        0x23 => Place::At(2),
-        0x24 => Place::At(3),
-        0x02 => Place::At(4),
-        0x25 => Place::At(5),
-        0x61 => Place::At(6),
-        0x9B => Place::At(7),
-        0x99 => Place::At(8),
-        0x65 => Place::At(9),
-        0x9A => Place::At(10),
-        0x96 => Place::At(11),
-        0x31 => Place::At(12),
-        0x32 => Place::At(13),
-        0x41 => Place::At(14),
-        0x42 => Place::At(15),
-        0x43 => Place::At(16),
-        0x44 => Place::At(17),
-        0x45 => Place::At(18),
-        0x62 => Place::At(19),
-        0x83 => Place::At(20),
-        0x03 => Place::At(21),
-        _ => Place::Nowhere,
+        0x21 => Some(0),
+        0x22 => Some(1),
+        0x23 => Some(2),
+        0x24 => Some(3),
+        0x02 => Some(4),
+        0x25 => Some(5),
+        0x61 => Some(6),
+        0x9B => Some(7),
+        0x99 => Some(8),
+        0x65 => Some(9),
+        0x9A => Some(10),
+        0x96 => Some(11),
+        0x31 => Some(12),
+        0x32 => Some(13),
+        0x41 => Some(14),
+        0x42 => Some(15),
+        0x43 => Some(16),
+        0x44 => Some(17),
+        0x45 => Some(18),
+        0x62 => Some(19),
+        0x83 => Some(20),
+        0x03 => Some(21),
+        _ => None,
     }
 }
 

@@ -1,6 +1,6 @@
 -- What each call that reads a line answers, from the outcome at the place. (siamrung_link answers the link that was received with it.) A report's kind
 -- has its number from reports; what is no report has its number here. Definitions only.
-use Rattle.std.specs.Prelude.{ℕ}
+use Rattle.std.specs.Prelude.{ℕ, None, Option, ℤ}
 use Rattle.refusals.specs.Numbers.{line_number}
 use Rattle.measures.specs.declared.Measured.{Measured}
 use Rattle.measures.specs.Exact.{AllExact}
@@ -8,8 +8,6 @@ use Rattle.reports.specs.Kinds.{kind_of, kind_number}
 use Rattle.reports.specs.Values.{Counted, counts, none, counted_of}
 use Rattle.lines.specs.declared.What.{What}
 use Rattle.lines.specs.declared.What.TheVariants as W
-use Rattle.report_items.specs.declared.items.Item.{Item}
-use Rattle.report_items.specs.declared.items.Item.TheVariants as I
 use Rattle.report_items.specs.Items.{item_of}
 
 abbrev pub version : ℕ
@@ -35,10 +33,10 @@ refusal_of W.End = 0
 
 -- ---- the fields
 
-abbrev pub item_at : What → ℕ → Item
+abbrev pub item_at : What → ℕ → Option ℤ
 item_at (W.Accepted r) n = item_of r n
-item_at (W.Refused q) n = I.Missing
-item_at W.End n = I.Missing
+item_at (W.Refused q) n = None
+item_at W.End n = None
 
 -- ---- the values, in 1024ths of a nmi, of a degree and of a second; 0 where there are none
 

@@ -12,9 +12,7 @@ ghost use Rattle.host.specs.Line.{version, kind_number_of, refusal_of, item_at, 
 use lines::{Outcome, Received, What};
 use measures::{CoarseAzimuth, CoarseRange, Measured, Time};
 use report_items::items;
-use report_items::items::Item;
 use reports::altitude::Form;
-use reports::values::Values;
 use reports::{kinds, values};
 
 // ---- the kind of what is no report; reports::kinds has the others
@@ -42,7 +40,7 @@ pub extern "C" fn siamrung_version() -> u32
 fn received_at(bytes: &[u8], place: usize, form: u32, link: u32) -> Received
     ensures { result ≡ read_bytes_on (chosen form) link bytes.now place }
 {
-    line_reader::bytes::read(bytes, place, Form::numbered(form), link)
+    line_reader::bytes::read(bytes, place, Form::from(form), link)
 }
 
 // Its outcome.
@@ -57,7 +55,7 @@ fn kind_number(what: What) -> u32
     ensures { result ≡ kind_number_of what }
 {
     match what {
-        What::Accepted(report) => kinds::kind_of(report).number() as u32,
+        What::Accepted(report) => u8::from(kinds::kind_of(report)) as u32,
         What::Refused(_) => REFUSED,
         What::End => END,
     }
@@ -68,7 +66,7 @@ fn refusal_number(what: What) -> u32
 {
     match what {
         What::Accepted(_) => 0,
-        What::Refused(why) => why.number() as u32,
+        What::Refused(why) => u8::from(why) as u32,
         What::End => 0,
     }
 }
@@ -128,7 +126,7 @@ pub extern "C" fn siamrung_link(bytes: &[u8], place: usize, form: u32, link: u32
 
 // The outcome is taken out of what is received here and not by outcome_at: else the report is copied twice, and reading every item takes a third to a
 // half more time (docs/PERFORMANCE.md).
-fn item_at(bytes: &[u8], place: usize, form: u32, link: u32, item: u32) -> Item
+fn item_at(bytes: &[u8], place: usize, form: u32, link: u32, item: u32) -> Option<i64>
     ensures { result ≡ item_at (read_bytes_on (chosen form) link bytes.now place).outcome.what item }
 {
     let received = received_at(bytes, place, form, link);
@@ -136,8 +134,8 @@ fn item_at(bytes: &[u8], place: usize, form: u32, link: u32, item: u32) -> Item
     let what = o.what;
     match what {
         What::Accepted(report) => items::item_of(report, item as usize),
-        What::Refused(_) => Item::Missing,
-        What::End => Item::Missing,
+        What::Refused(_) => None,
+        What::End => None,
     }
 }
 
@@ -147,8 +145,8 @@ pub extern "C" fn siamrung_has(bytes: &[u8], place: usize, form: u32, link: u32,
 {
     let own = item_at(bytes, place, form, link, item);
     match own {
-        Item::Of(_) => 1,
-        Item::Missing => 0,
+        Some(_) => 1,
+        None => 0,
     }
 }
 
@@ -159,22 +157,22 @@ pub extern "C" fn siamrung_item(bytes: &[u8], place: usize, form: u32, link: u32
 {
     let own = item_at(bytes, place, form, link, item);
     match own {
-        Item::Of(z) => z,
-        Item::Missing => 0,
+        Some(z) => z,
+        None => 0,
     }
 }
 
 // ---- range, azimuth and time as floats
 
-fn values_at(bytes: &[u8], place: usize, form: u32, link: u32) -> Values
+fn values_at(bytes: &[u8], place: usize, form: u32, link: u32) -> Option<Measured>
     ensures { Yields (counted_at (read_bytes_on (chosen form) link bytes.now place).outcome.what) result }
 {
     let o = outcome_at(bytes, place, form, link);
     let what = o.what;
     match what {
         What::Accepted(report) => values::values_of(report),
-        What::Refused(_) => Values::Nothing,
-        What::End => Values::Nothing,
+        What::Refused(_) => None,
+        What::End => None,
     }
 }
 
@@ -184,8 +182,8 @@ pub extern "C" fn siamrung_has_values(bytes: &[u8], place: usize, form: u32, lin
 {
     let values = values_at(bytes, place, form, link);
     match values {
-        Values::Measured(_) => 1,
-        Values::Nothing => 0,
+        Some(_) => 1,
+        None => 0,
     }
 }
 
@@ -195,8 +193,8 @@ fn measured_at(bytes: &[u8], place: usize, form: u32, link: u32) -> Measured
 {
     let values = values_at(bytes, place, form, link);
     match values {
-        Values::Measured(m) => m,
-        Values::Nothing => Measured::coarse(CoarseRange(0), CoarseAzimuth(0), Time(0)),
+        Some(m) => m,
+        None => Measured::coarse(CoarseRange(0), CoarseAzimuth(0), Time(0)),
     }
 }
 

@@ -7,7 +7,6 @@ ghost use Rattle.reports.specs.Altitude.{chosen};
 ghost use Rattle.report_items.specs.Given.{given};
 ghost use Rattle.host.specs.Write.{write_refusal, Writes};
 
-use lines::Wrote;
 use report_items::given;
 use reports::altitude::Form;
 
@@ -23,10 +22,10 @@ pub extern "C" fn siamrung_write(
     ensures { Writes (chosen form) bytes.old place (given kind items.now) result bytes.new }
 {
     let report = given::given(kind, items);
-    let wrote = line_writer::bytes::write(bytes, place, Form::numbered(form), report);
+    let wrote = line_writer::bytes::write(bytes, place, Form::from(form), report);
     match wrote {
-        Wrote::Next(next) => next,
-        Wrote::Refused(_, _) => place,
+        Ok(next) => next,
+        Err(_) => place,
     }
 }
 
@@ -41,9 +40,12 @@ pub extern "C" fn siamrung_write_refusal(
     ensures { result ≡ write_refusal (write_bytes (chosen form) bytes.now place (given kind items.now)) }
 {
     let report = given::given(kind, items);
-    let answer = line_writer::bytes::answer(bytes, place, Form::numbered(form), report);
+    let answer = line_writer::bytes::answer(bytes, place, Form::from(form), report);
     match answer {
-        Wrote::Next(_) => 0,
-        Wrote::Refused(why, _) => why.number() as u32,
+        Ok(_) => 0,
+        Err(refusal) => {
+            let why = refusal.why;
+            u8::from(why) as u32
+        }
     }
 }

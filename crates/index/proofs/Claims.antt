@@ -1,5 +1,6 @@
 -- The claims of specs/Claims.antt: what is answered and refused by the rows, the table after calls by History.antt, what is found by Afresh.antt, and a
 -- line by the law of lines that each run gets one outcome. Assumes nothing.
+use Rattle.std.specs.Prelude.{Ok, Result}
 use Prim.Native.Nat.{ℕ, ◌≤◌}
 use mathlib.Core.Bool.{Bool, true, false, not, cond, ◌||◌}
 use mathlib.Core.List.{List, [], ◌∷◌, ◌++◌, map}
@@ -18,8 +19,6 @@ use Rattle.words.specs.Word.{bits, bit}
 use Rattle.reports.specs.declared.Height.{Height}
 use Rattle.reports.specs.declared.Report.{Report}
 use Rattle.reports.specs.declared.Report.TheVariants as R
-use Rattle.reports.specs.declared.RunAnswer.{RunAnswer}
-use Rattle.reports.specs.declared.RunAnswer.TheVariants as A
 use Rattle.reports.specs.Altitude.{AltitudeForm}
 use Rattle.reports.specs.Forms.{is_seven, is_search, is_strobe, is_status, is_map, is_dabs, is_mtd_search, is_rdas_search}
 use Rattle.reports.specs.Records.{search_of, strobe_of, status_of, map_of, rtqc_of, dabs_of, mtd_of, rdas_of, atcrbs_of, height_of, four_of, seven_of, report_of}
@@ -44,6 +43,7 @@ use Rattle.index.specs.Claims.{printed_number, NumberAsPrinted, EnteredExactly, 
 use Rattle.index.proofs.Afresh.{first_with, afresh_distinct, afresh_own, latest_first}
 use Rattle.index.proofs.Sound.{first_front, sound, used_in_front, none_broken, behind, answer_by, answered, zero_stays, found_first, front_used}
 use Rattle.index.proofs.History.{Stands, stays_sound, calls_stand, room}
+use Rattle.reports.specs.declared.RunRefusal.{RunRefusal}
 
 -- ---- what is entered
 
@@ -95,7 +95,7 @@ by_form form ws =
 -- an accepted run is the report of its words
 pub number_as_printed : NumberAsPrinted
 number_as_printed form ws r e =
-    let is = (law.accepted_exactly RunAnswer is_accepted (table_of form ws) (A.Accepted (report_of form ws)) (A.Accepted r) (refl, (refl, (refl, (refl, (refl, (refl, (refl, tt))))))) refl).0 e in
+    let is = (law.accepted_exactly (Result Report RunRefusal) is_accepted (table_of form ws) (Ok (report_of form ws)) (Ok r) (refl, (refl, (refl, (refl, (refl, (refl, (refl, tt))))))) refl).0 e in
     let same : report_of form ws ≡ r = (let k = is.1 in cc) in
     ap file_of (sym same) ∙ by_form form ws
 
@@ -372,7 +372,7 @@ unfolding after
 zero_behind table [] e z = zero_stays table e z
 zero_behind table (x ∷ es) e z = zero_behind (left_as (indexed table x.number) table x) es e z
 
-module _ (answer : List ℕ → RunAnswer) (scan : ℕ) where
+module _ (answer : List ℕ → Result Report RunRefusal) (scan : ℕ) where
   abbrev brings : Outcome → Entry
   brings o = entry_of o scan
 

@@ -1,8 +1,7 @@
 -- The index worked out afresh from the reports seen, without a table and its calls; and the calls one after the other (document 02, Ticket 3: "The
 -- index must equal the one worked out afresh from the reports seen"). Here a report is the entry that its outcome brings; number 0 stands for none.
 -- Definitions only.
-use Rattle.std.specs.Prelude.{ℕ, cond, List, [], ◌∷◌, ◌++◌, map, eqb, length, take, drop}
-use Rattle.reports.specs.declared.RunAnswer.{RunAnswer}
+use Rattle.std.specs.Prelude.{ℕ, cond, List, [], ◌∷◌, ◌++◌, map, eqb, length, take, drop, Result}
 use Rattle.lines.specs.Line.{what_of}
 use Rattle.lines.specs.Stretches.{Run, runs}
 use Rattle.index.specs.declared.Entry.{Entry}
@@ -12,6 +11,8 @@ use Rattle.index.specs.declared.Found.{Found}
 use Rattle.index.specs.declared.Found.TheVariants as F
 use Rattle.index.specs.Entries.{uncorrelated, number_in, kind_in}
 use Rattle.index.specs.Indexing.{indexed, left_as}
+use Rattle.reports.specs.declared.Report.{Report}
+use Rattle.reports.specs.declared.RunRefusal.{RunRefusal}
 
 -- ---- worked out afresh
 
@@ -67,11 +68,11 @@ shown (F.Refused q) table = []
 -- ---- a line
 
 -- what each run of a line brings, by its words and its place: a run that is refused brings number 0
-abbrev pub brought_by : (List ℕ → RunAnswer) → ℕ → Run → Entry
+abbrev pub brought_by : (List ℕ → Result Report RunRefusal) → ℕ → Run → Entry
 brought_by answer scan r =
     let what = what_of (answer r.words) in
     record { number = number_in what; kind = kind_in what; scan = scan; place = r.place }
 
 -- what the runs of a line bring, in order
-abbrev pub reports_of : (List ℕ → RunAnswer) → ℕ → List ℕ → List Entry
+abbrev pub reports_of : (List ℕ → Result Report RunRefusal) → ℕ → List ℕ → List Entry
 reports_of answer scan line = map (brought_by answer scan) (runs line)

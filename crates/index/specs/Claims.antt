@@ -1,10 +1,8 @@
 -- What is claimed of the index (document 02, Ticket 3). Statements only, with what they need to be said; proofs/Claims.antt proves them.
-use Rattle.std.specs.Prelude.{ℕ, ◌≤◌, ◌↔◌, ◌⊎◌, true, false, cond, List, [], ◌++◌, map, ◌≡◌, length, drop}
+use Rattle.std.specs.Prelude.{ℕ, ◌≤◌, ◌↔◌, ◌⊎◌, true, false, cond, List, [], ◌++◌, map, ◌≡◌, length, drop, Ok, Result}
 use Rattle.rows.specs.Claims.{FirstIs}
 use Rattle.words.specs.Word.{bits, bit}
 use Rattle.reports.specs.declared.Report.{Report}
-use Rattle.reports.specs.declared.RunAnswer.{RunAnswer}
-use Rattle.reports.specs.declared.RunAnswer.TheVariants as A
 use Rattle.reports.specs.Altitude.{AltitudeForm}
 use Rattle.reports.specs.Forms.{is_seven}
 use Rattle.reports.specs.Runs.{read_run}
@@ -18,6 +16,7 @@ use Rattle.index.specs.Entries.{uncorrelated, file_of, entry_of}
 use Rattle.index.specs.Table.{most, numbers_of, any_used, holds, place_of, used_in, is_broken}
 use Rattle.index.specs.Indexing.{enter_rows, indexed, left_as, find_rows, found}
 use Rattle.index.specs.Afresh.{afresh, over, latest, after, not_refused, shown, reports_of}
+use Rattle.reports.specs.declared.RunRefusal.{RunRefusal}
 
 -- ---- what is entered
 
@@ -27,7 +26,7 @@ printed_number ws = cond (is_seven ws) (cond (bit ws 4) uncorrelated (bits ws 66
 
 -- the number that an accepted run brings is that one
 abbrev pub NumberAsPrinted : Type 0
-NumberAsPrinted = (form : AltitudeForm) (ws : List ℕ) (r : Report) → read_run form ws ≡ A.Accepted r → file_of r ≡ printed_number ws
+NumberAsPrinted = (form : AltitudeForm) (ws : List ℕ) (r : Report) → read_run form ws ≡ Ok r → file_of r ≡ printed_number ws
 
 -- "Used entries stand first, and a new number takes the first unused one": entered at i exactly where the table is not broken, the number is neither 0
 -- nor in it, and i is the first unused entry
@@ -148,7 +147,7 @@ FoundIsLatest =
 -- So it goes on line after line, from a table of unused entries (Begins)
 abbrev pub OverALine : Type 0
 OverALine =
-    (answer : List ℕ → RunAnswer) (line : List ℕ) (scan : ℕ) (seen first now : List Entry) → length line ≤ most_words → length first ≤ most →
+    (answer : List ℕ → Result Report RunRefusal) (line : List ℕ) (scan : ℕ) (seen first now : List Entry) → length line ≤ most_words → length first ≤ most →
     HoldsIndex seen first now →
     HoldsIndex
     (seen ++ not_refused now (reports_of answer scan line))

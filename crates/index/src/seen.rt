@@ -37,7 +37,7 @@ fn kind_in(what: What) -> u16
     ensures { result ≡ kind_in what }
 {
     match what {
-        What::Accepted(report) => kinds::kind_of(report).number() as u16,
+        What::Accepted(report) => u8::from(kinds::kind_of(report)) as u16,
         What::Refused(_) => 0,
         What::End => 0,
     }

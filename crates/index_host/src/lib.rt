@@ -52,7 +52,7 @@ fn found_number(answer: Found) -> u32
 fn brought(bytes: &[u8], place: usize, form: u32, link: u32, scan: u32) -> Entry
     ensures { result ≡ entry_at (chosen form) link bytes.now place scan }
 {
-    let received = line_reader::bytes::read(bytes, place, Form::numbered(form), link);
+    let received = line_reader::bytes::read(bytes, place, Form::from(form), link);
     let o = received.outcome;
     seen::entry_of(o, scan)
 }

@@ -1,4 +1,5 @@
 -- The run that four searches find, and that the answer which the readers make of its places is the definition's. Assumes nothing.
+use Rattle.std.specs.Prelude.{Result}
 use Prim.Native.Nat.{ℕ, suc, ◌+◌, ◌-◌, ◌≤◌, ◌<◌, min}
 use mathlib.Core.Path.{◌≡◌, refl, ap, sym, ◌∙◌}
 use mathlib.Core.Bool.{Bool, true, not, cond}
@@ -12,7 +13,6 @@ use Rattle.words.specs.Word.{idle, wider_than_a_word, even, first}
 use Rattle.words.proofs.Claims.{idle_is_even}
 use Rattle.words.proofs.Faults.{NoneHas, first_none}
 use Rattle.words.proofs.Tests.{picked, passed, by_test}
-use Rattle.reports.specs.declared.RunAnswer.{RunAnswer}
 use Rattle.reports.specs.Altitude.{AltitudeForm}
 use Rattle.reports.specs.Forms.{word_count}
 use Rattle.reports.specs.Conditions.{unknown_form, unassigned, spare_set, minus_zero}
@@ -27,6 +27,8 @@ use Rattle.line_reader.specs.declared.run.Places.{Places}
 use Rattle.line_reader.specs.declared.run.Stop.TheVariants.{NotIdle, Fault, Idle, TooWide}
 use Rattle.line_reader.specs.Places.{stops_at, RunPlaces, run_words, answer_at, answered}
 use Rattle.line_reader.proofs.Searches.{to_end, next_through}
+use Rattle.reports.specs.declared.Report.{Report}
+use Rattle.reports.specs.declared.RunRefusal.{RunRefusal}
 
 -- ---- what the searches stop at, and the run
 
@@ -76,7 +78,7 @@ offset_within form ws n w e =
     (λ h. by_cond Within (spare_set ws) front
     (λ h. by_cond Within (minus_zero form ws) front front))))))
   where
-    Within : RunAnswer → Type 0
+    Within : Result Report RunRefusal → Type 0
     Within a = answer_offset a ≤ n
 
     front : {b c : Bool} → b ≡ c → 0 ≤ n
@@ -169,7 +171,7 @@ module _ {line : List ℕ} {place : ℕ} {run : Places} (r : RunPlaces line plac
       let n = run.after - run.first in
       answer_law form (first_seven (run_words line run)) o refl
       (f
-      ∙ ap (λ (a : RunAnswer). cond (eqb n 0) (end_of run.first) (placed run.first n a))
+      ∙ ap (λ (a : Result Report RunRefusal). cond (eqb n 0) (end_of run.first) (placed run.first n a))
       (judged_any form ws (first_seven (run_words line run)) n (run.too_wide - run.first) (run.fault - run.first) (omega arith)))
 
 -- ---- a word of the run

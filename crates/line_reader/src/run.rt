@@ -11,8 +11,8 @@ ghost use Rattle.line_reader.specs.Places.{stops_at, answered};
 
 use lines::{Outcome, Received, What};
 use refusals::LineRefusal;
-use reports::RunAnswer;
 use reports::altitude::Form;
+use reports::{Report, RunRefusal};
 
 // What a search along the words of a line stops at. A fault is a word that is too wide or an even one. An idle word is even, so a search for a
 // fault needs no test of its own to stop at the end of the run.
@@ -69,16 +69,14 @@ pub fn no_such_link(place: usize) -> Received
 }
 
 // The answer to a run of n words, at its place in the line.
-fn set_at(first: usize, n: usize, answer: RunAnswer) -> Outcome
+fn set_at(first: usize, n: usize, answer: Result<Report, RunRefusal>) -> Outcome
     requires { (first + n < 2 ^ 64) × (answer_offset answer ≤ n) }
     ensures { result ≡ placed first n answer }
 {
     match answer {
-        RunAnswer::Accepted(report) => {
-            Outcome::new(What::Accepted(report), first, first + n, first)
-        }
-        RunAnswer::Refused(why, k) => {
-            Outcome::new(What::Refused(why), first, first + n, first + k)
+        Ok(report) => { Outcome::new(What::Accepted(report), first, first + n, first) }
+        Err(RunRefusal { why, offset }) => {
+            Outcome::new(What::Refused(why), first, first + n, first + offset)
         }
     }
 }

@@ -1,4 +1,5 @@
 -- The writers' leaves, one word after the other, in a line of words and in a line of bytes; and the two leaves of a call. Assumes nothing.
+use Rattle.std.specs.Prelude.{Ok}
 use Prim.Native.Nat.{ℕ, suc, ◌+◌, ◌*◌, ◌-◌, ◌/◌, ◌%◌, ◌≤◌, ◌<◌}
 use mathlib.Core.Path.{◌≡◌, refl, ap, sym, ◌∙◌}
 use mathlib.Core.List.{List, [], ◌∷◌, ◌++◌, append-nil, append_assoc}
@@ -7,7 +8,6 @@ use native.Mathlib.Numerals.{add-one}
 use lib.ListN.{length, get_or, take, drop, set, length-append, length-drop, drop_of_length-le}
 use lib.Seq.{take_all, drop-cons, take-suc, set_at, append_snoc, length-take-le}
 use Rattle.words.specs.Word.{idle}
-use Rattle.lines.specs.declared.Wrote.TheVariants as W
 use Rattle.lines.specs.Bytes.{bytes_of}
 use Rattle.lines.specs.Claims.{put}
 use Rattle.lines.proofs.ByteWords.{bytes_length}
@@ -85,23 +85,23 @@ pair_more part ws i h k =
 
 pub puts_words : (line : List ℕ) (place n : ℕ) (ws exit : List ℕ) → length ws ≡ n → place ≤ length line
     → exit ≡ put (put line place ws) (place + n) (idle ∷ [])
-    → Puts line place ws (W.Next (place + n + 1)) exit
+    → Puts line place ws (Ok (place + n + 1)) exit
 puts_words line place n ws exit e h f =
     record {
-      answers = ap (λ (k : ℕ). W.Next (place + k + 1)) (sym e);
+      answers = ap (λ (k : ℕ). Ok (place + k + 1)) (sym e);
       leaves = f ∙ ap (λ (k : ℕ). put (put line place ws) (place + k) (idle ∷ [])) (sym e) ∙ put_put line place ws (idle ∷ []) h;
     }
 
 pub puts_bytes : (bytes : List ℕ) (place n : ℕ) (ws exit : List ℕ) → length ws ≡ n → place * 2 ≤ length bytes
     → exit ≡ put (put bytes (place * 2) (bytes_of ws)) ((place + n) * 2) (bytes_of (idle ∷ []))
-    → PutsBytes bytes place ws (W.Next (place + n + 1)) exit
+    → PutsBytes bytes place ws (Ok (place + n + 1)) exit
 unfolding bytes_of
 puts_bytes bytes place n ws exit e h f =
     let m = bytes_length ws in
     let at : (place + n) * 2 ≡ place * 2 + length (bytes_of ws) = omega arith in
     let next : place * 2 + length (bytes_of ws) + 2 ≡ (place + length ws + 1) * 2 = omega arith in
     record {
-      answers = ap (λ (k : ℕ). W.Next (place + k + 1)) (sym e);
+      answers = ap (λ (k : ℕ). Ok (place + k + 1)) (sym e);
       leaves =
           f
           ∙ ap (λ (k : ℕ). put (put bytes (place * 2) (bytes_of ws)) k (bytes_of (idle ∷ []))) at

@@ -8,10 +8,10 @@ ghost use Rattle.lines.specs.ByteWriting.{write_bytes, WritesBytes};
 ghost use Rattle.line_writer.specs.Deciding.{byte_answer, PutsBytes};
 
 use crate::deciding;
-use lines::{MOST_BYTES, Wrote};
+use lines::{MOST_BYTES, NotWritten};
 use refusals::LineRefusal;
 use reports::altitude::Form;
-use reports::{Report, Written};
+use reports::{Report, Words};
 use words::IDLE;
 
 // ---- the leaves
@@ -48,7 +48,7 @@ fn put_idles(part: &mut [u8], n: usize)
 // ---- a report
 
 // The first n of these words and one idle word, from a place on that has room for them.
-fn put(bytes: &mut [u8], place: usize, ws: [u16; 7], n: usize) -> Wrote
+fn put(bytes: &mut [u8], place: usize, ws: [u16; 7], n: usize) -> Result<usize, NotWritten>
     requires { (place + n < length bytes.old / 2) × (n ≤ 7) }
     ensures { PutsBytes bytes.old place (take n ws) result bytes.new }
 {
@@ -57,24 +57,34 @@ fn put(bytes: &mut [u8], place: usize, ws: [u16; 7], n: usize) -> Wrote
     let next = place + n + 1;
     put_words(&mut bytes[at..], ws, n);
     put_idles(&mut bytes[behind..], 1);
-    Wrote::Next(next)
+    Ok(next)
 }
 
 // The answer to so many bytes, a place and what a report was made into: rows 2 and 14, then those of every form.
-fn answer_to(size: usize, place: usize, made: Written) -> Wrote
+fn answer_to(
+    size: usize,
+    place: usize,
+    made: Result<Words, LineRefusal>,
+) -> Result<usize, NotWritten>
     ensures { result ≡ byte_answer size place made }
 {
     if MOST_BYTES < size {
-        return Wrote::Refused(LineRefusal::LineTooLong, place);
+        return Err(NotWritten {
+            why: LineRefusal::LineTooLong,
+            place,
+        });
     }
     if size % 2 == 1 {
-        return Wrote::Refused(LineRefusal::OddByteCount, place);
+        return Err(NotWritten {
+            why: LineRefusal::OddByteCount,
+            place,
+        });
     }
     deciding::decide(size / 2, place, made)
 }
 
 // What `write` answers to the same arguments; nothing is written.
-pub fn answer(bytes: &[u8], place: usize, form: Form, report: Report) -> Wrote
+pub fn answer(bytes: &[u8], place: usize, form: Form, report: Report) -> Result<usize, NotWritten>
     ensures { result ≡ write_bytes (form_of form) bytes.now place report }
 {
     let made = report_writer::words_of(report, form);
@@ -82,17 +92,20 @@ pub fn answer(bytes: &[u8], place: usize, form: Form, report: Report) -> Wrote
 }
 
 // A report's words, its altitude in the form, and one idle word, from a place on.
-pub fn write(bytes: &mut [u8], place: usize, form: Form, report: Report) -> Wrote
+pub fn write(
+    bytes: &mut [u8],
+    place: usize,
+    form: Form,
+    report: Report,
+) -> Result<usize, NotWritten>
     ensures { WritesBytes (form_of form) bytes.old place report result bytes.new }
 {
     let made = report_writer::words_of(report, form);
     let answer = answer_to(bytes.len(), place, made);
-    if let Wrote::Refused(why, at) = answer {
-        return Wrote::Refused(why, at);
-    }
+    answer?;
     match made {
-        Written::Four(a, b, c, d) => put(bytes, place, [a, b, c, d, 0, 0, 0], 4),
-        Written::Seven(a, b, c, d, e, f, g) => put(bytes, place, [a, b, c, d, e, f, g], 7),
-        Written::Refused(why) => Wrote::Refused(why, place),
+        Ok(Words::Four([a, b, c, d])) => put(bytes, place, [a, b, c, d, 0, 0, 0], 4),
+        Ok(Words::Seven(ws)) => put(bytes, place, ws, 7),
+        Err(why) => Err(NotWritten { why, place }),
     }
 }

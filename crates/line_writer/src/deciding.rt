@@ -3,31 +3,41 @@
 ghost use Rattle.std.specs.Prelude.{◌≡◌, ◌≤◌, ◌<◌};
 ghost use Rattle.line_writer.specs.Deciding.{room, decided};
 
-use lines::Wrote;
+use lines::NotWritten;
 use refusals::LineRefusal;
-use reports::Written;
+use reports::Words;
 
 // The place behind n words and an idle word, or number 10.
-fn room_for(size: usize, place: usize, n: usize) -> Wrote
+fn room_for(size: usize, place: usize, n: usize) -> Result<usize, NotWritten>
     requires { (place ≤ size) × (n < 8) }
     ensures { result ≡ room size place n }
 {
     if size - place <= n {
-        return Wrote::Refused(LineRefusal::NoRoom, place);
+        return Err(NotWritten {
+            why: LineRefusal::NoRoom,
+            place,
+        });
     }
-    Wrote::Next(place + n + 1)
+    Ok(place + n + 1)
 }
 
 // The answer on a line of so many words, to a place and what a report was made into.
-pub fn decide(size: usize, place: usize, made: Written) -> Wrote
+pub fn decide(
+    size: usize,
+    place: usize,
+    made: Result<Words, LineRefusal>,
+) -> Result<usize, NotWritten>
     ensures { result ≡ decided size place made }
 {
     if size < place {
-        return Wrote::Refused(LineRefusal::PlaceBeyondLine, place);
+        return Err(NotWritten {
+            why: LineRefusal::PlaceBeyondLine,
+            place,
+        });
     }
     match made {
-        Written::Four(_, _, _, _) => room_for(size, place, 4),
-        Written::Seven(_, _, _, _, _, _, _) => room_for(size, place, 7),
-        Written::Refused(why) => Wrote::Refused(why, place),
+        Ok(Words::Four(_)) => room_for(size, place, 4),
+        Ok(Words::Seven(_)) => room_for(size, place, 7),
+        Err(why) => Err(NotWritten { why, place }),
     }
 }

@@ -7,10 +7,10 @@ ghost use Rattle.lines.specs.Writing.{Writes};
 ghost use Rattle.line_writer.specs.Deciding.{wide_answer, Puts};
 
 use crate::deciding;
-use lines::{MOST, Wrote};
+use lines::{MOST, NotWritten};
 use refusals::LineRefusal;
 use reports::altitude::Form;
-use reports::{Report, Written};
+use reports::{Report, Words};
 use words::IDLE;
 
 // ---- the leaves
@@ -42,7 +42,7 @@ fn put_idles(part: &mut [u16], n: usize)
 // ---- a report
 
 // The first n of these words and one idle word, from a place on that has room for them.
-fn put(line: &mut [u16], place: usize, ws: [u16; 7], n: usize) -> Wrote
+fn put(line: &mut [u16], place: usize, ws: [u16; 7], n: usize) -> Result<usize, NotWritten>
     requires { (place + n < length line.old) × (n ≤ 7) }
     ensures { Puts line.old place (take n ws) result line.new }
 {
@@ -50,31 +50,41 @@ fn put(line: &mut [u16], place: usize, ws: [u16; 7], n: usize) -> Wrote
     let next = behind + 1;
     put_words(&mut line[place..], ws, n);
     put_idles(&mut line[behind..], 1);
-    Wrote::Next(next)
+    Ok(next)
 }
 
 // The answer to so many words, a place and what a report was made into: row 2, then those of every form.
-fn answer_to(size: usize, place: usize, made: Written) -> Wrote
+fn answer_to(
+    size: usize,
+    place: usize,
+    made: Result<Words, LineRefusal>,
+) -> Result<usize, NotWritten>
     ensures { result ≡ wide_answer size place made }
 {
     if MOST < size {
-        return Wrote::Refused(LineRefusal::LineTooLong, place);
+        return Err(NotWritten {
+            why: LineRefusal::LineTooLong,
+            place,
+        });
     }
     deciding::decide(size, place, made)
 }
 
 // A report's words, its altitude in the form, and one idle word, from a place on.
-pub fn write(line: &mut [u16], place: usize, form: Form, report: Report) -> Wrote
+pub fn write(
+    line: &mut [u16],
+    place: usize,
+    form: Form,
+    report: Report,
+) -> Result<usize, NotWritten>
     ensures { Writes (form_of form) line.old place report result line.new }
 {
     let made = report_writer::words_of(report, form);
     let answer = answer_to(line.len(), place, made);
-    if let Wrote::Refused(why, at) = answer {
-        return Wrote::Refused(why, at);
-    }
+    answer?;
     match made {
-        Written::Four(a, b, c, d) => put(line, place, [a, b, c, d, 0, 0, 0], 4),
-        Written::Seven(a, b, c, d, e, f, g) => put(line, place, [a, b, c, d, e, f, g], 7),
-        Written::Refused(why) => Wrote::Refused(why, place),
+        Ok(Words::Four([a, b, c, d])) => put(line, place, [a, b, c, d, 0, 0, 0], 4),
+        Ok(Words::Seven(ws)) => put(line, place, ws, 7),
+        Err(why) => Err(NotWritten { why, place }),
     }
 }

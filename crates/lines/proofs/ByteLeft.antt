@@ -1,4 +1,5 @@
 -- The bytes that the byte writer leaves hold the words that the writer leaves: the claim SameWords. Assumes nothing.
+use Rattle.std.specs.Prelude.{Ok, Result}
 use Prim.Native.Nat.{ℕ, zero, suc, ◌+◌, ◌*◌, ◌-◌, ◌/◌, ◌%◌, ◌≤◌, ◌<◌}
 use mathlib.Core.Path.{◌≡◌, refl, ap, sym, ◌∙◌}
 use mathlib.Core.Logic.{⊎_elim}
@@ -10,14 +11,14 @@ use Rattle.reports.specs.declared.Report.{Report}
 use Rattle.reports.specs.Altitude.{AltitudeForm}
 use Rattle.reports.specs.Layouts.{words_of}
 use Rattle.reports.proofs.Demand2.{words_good}
-use Rattle.lines.specs.declared.Wrote.{Wrote}
-use Rattle.lines.specs.declared.Wrote.TheVariants as W
 use Rattle.lines.specs.Bytes.{words_in, bytes_of}
 use Rattle.lines.specs.Writing.{left_as}
 use Rattle.lines.specs.ByteWriting.{write_bytes, bytes_left}
 use Rattle.lines.specs.Claims.{SameWords}
 use Rattle.lines.proofs.ByteWords.{words_length}
 use Rattle.lines.proofs.Puts.{byte_cases}
+use Rattle.lines.specs.declared.NotWritten.{NotWritten}
+use Rattle.lines.specs.Writing.{not_written}
 
 -- ---- the words of bytes in parts
 
@@ -51,8 +52,8 @@ idle_back (w ∷ ws) bs g =
 -- ---- an accepted call
 
 left_words : (form : AltitudeForm) (bytes : List ℕ) (place : ℕ) (r : Report) → AllGood (words_of form r) → length (words_of form r) < length (words_in bytes) - place
-    → words_in (bytes_left (W.Next (place + length (words_of form r) + 1)) bytes place (words_of form r))
-    ≡ left_as (W.Next (place + length (words_of form r) + 1)) (words_in bytes) place (words_of form r)
+    → words_in (bytes_left (Ok (place + length (words_of form r) + 1)) bytes place (words_of form r))
+    ≡ left_as (Ok (place + length (words_of form r) + 1)) (words_in bytes) place (words_of form r)
 left_words form bytes place r g h =
     let ws = words_of form r in
     let next = place + length ws + 1 in
@@ -62,14 +63,14 @@ left_words form bytes place r g h =
     (idle_back ws (drop (next * 2) bytes) g ∙ ap (λ (l : List ℕ). ws ++ (idle ∷ l)) (words_drop next bytes (omega arith)))
 
 -- a refused one leaves the bytes
-same : (form : AltitudeForm) (bytes : List ℕ) (place : ℕ) (r : Report) (w : Wrote) → write_bytes form bytes place r ≡ w
+same : (form : AltitudeForm) (bytes : List ℕ) (place : ℕ) (r : Report) (w : Result ℕ NotWritten) → write_bytes form bytes place r ≡ w
     → words_in (bytes_left w bytes place (words_of form r)) ≡ left_as w (words_in bytes) place (words_of form r)
     → words_in (bytes_left (write_bytes form bytes place r) bytes place (words_of form r)) ≡ left_as (write_bytes form bytes place r) (words_in bytes) place (words_of form r)
 same form bytes place r w e h =
-    ap (λ (x : Wrote). words_in (bytes_left x bytes place (words_of form r))) e ∙ h ∙ ap (λ (x : Wrote). left_as x (words_in bytes) place (words_of form r)) (sym e)
+    ap (λ (x : Result ℕ NotWritten). words_in (bytes_left x bytes place (words_of form r))) e ∙ h ∙ ap (λ (x : Result ℕ NotWritten). left_as x (words_in bytes) place (words_of form r)) (sym e)
 
 pub same_words : SameWords
 same_words form bytes place r =
-    ⊎_elim (λ h. same form bytes place r (W.Refused h.0 place) h.1 refl)
-    (λ h. same form bytes place r (W.Next (place + length (words_of form r) + 1)) h.3 (left_words form bytes place r (words_good form r h.0) h.2))
+    ⊎_elim (λ h. same form bytes place r (not_written h.0 place) h.1 refl)
+    (λ h. same form bytes place r (Ok (place + length (words_of form r) + 1)) h.3 (left_words form bytes place r (words_good form r h.0) h.2))
     (byte_cases form bytes place r)

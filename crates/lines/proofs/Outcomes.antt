@@ -1,5 +1,6 @@
 -- One outcome for each run, the number of calls, and reading from a place: the claims OneEach, CallsEnough and FromThere, for any answer to a
 -- run. Assumes nothing.
+use Rattle.std.specs.Prelude.{Result}
 use Prim.Native.Nat.{ℕ, zero, suc, ◌+◌, ◌≤◌, ◌<◌}
 use native.Mathlib.Nat.{add-zero, zero-add, add_assoc}
 use mathlib.Core.Path.{◌≡◌, refl, ap, sym, ◌∙◌}
@@ -10,7 +11,6 @@ use lib.Dec.{eqb}
 use lib.ListN.{length, drop, length-drop}
 use borrow.Author.Tests.{ne_eqb}
 use Rattle.words.specs.Word.{idle}
-use Rattle.reports.specs.declared.RunAnswer.{RunAnswer}
 use Rattle.reports.specs.Runs.{answer_offset}
 use Rattle.lines.specs.declared.Outcome.{Outcome}
 use Rattle.lines.specs.Line.{most, outcome_of, end_of, what_of, is_end, gap, stretch, run_in, placed, outcome_at, read_by, calls}
@@ -19,10 +19,12 @@ use Rattle.lines.specs.Claims.{Answer, moved, alone, Solid, outcome_of_run, Meet
 use Rattle.words.proofs.Tests.{picked, passed, by_test}
 use Rattle.lines.proofs.Runs.{Free, free_gap, free_stretch}
 use Rattle.lines.proofs.Walked.{read_there, goes_on, along_the_walk}
+use Rattle.reports.specs.declared.Report.{Report}
+use Rattle.reports.specs.declared.RunRefusal.{RunRefusal}
 
 -- ---- a run alone and in the line
 
-moved_placed : (f n : ℕ) (a : RunAnswer) → moved f (placed 0 n a) ≡ placed f n a
+moved_placed : (f n : ℕ) (a : Result Report RunRefusal) → moved f (placed 0 n a) ≡ placed f n a
 moved_placed f n a = λ i. outcome_of (what_of a) (add-zero f i) (f + zero-add n i) (f + zero-add (answer_offset a) i)
 
 -- words without an idle one get alone what they get in the line

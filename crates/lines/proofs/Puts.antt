@@ -1,4 +1,5 @@
 -- What a call of the writer answers, by its rows, and words put behind words. Assumes nothing.
+use Rattle.std.specs.Prelude.{Result}
 use Prim.Native.Nat.{ℕ, ◌+◌, ◌-◌, ◌%◌, ◌≤◌, ◌<◌}
 use mathlib.Core.Path.{◌≡◌, refl, ap, sym, ◌∙◌}
 use mathlib.Core.Bool.{Bool, true, false, not, cond}
@@ -15,14 +16,14 @@ use Rattle.refusals.specs.declared.LineRefusal.TheVariants.{LineTooLong, OddByte
 use Rattle.reports.specs.declared.Report.{Report}
 use Rattle.reports.specs.Altitude.{AltitudeForm}
 use Rattle.reports.specs.Layouts.{words_of, takes, Takes}
-use Rattle.lines.specs.declared.Wrote.{Wrote}
-use Rattle.lines.specs.declared.Wrote.TheVariants as W
 use Rattle.lines.specs.Line.{most}
 use Rattle.lines.specs.Bytes.{most_bytes, words_in}
 use Rattle.lines.specs.Writing.{place_rows, wrote_after, write_at}
 use Rattle.lines.specs.ByteWriting.{write_bytes}
 use Rattle.lines.specs.Claims.{put}
 use Rattle.words.proofs.Tests.{picked, passed, by_test, holds}
+use Rattle.lines.specs.declared.NotWritten.{NotWritten}
+use Rattle.lines.specs.Writing.{not_written}
 
 -- ---- words and then others right behind them
 
@@ -45,9 +46,9 @@ put_put line place ws vs h =
 -- ---- what a call answers
 
 -- a call is refused, and gives the place back; or the report is taken and has room on a line of n words
-abbrev Cases : AltitudeForm → ℕ → ℕ → Report → Wrote → Type 0
+abbrev Cases : AltitudeForm → ℕ → ℕ → Report → Result ℕ NotWritten → Type 0
 Cases form n place r w =
-    ((q : LineRefusal) × (w ≡ W.Refused q place))
+    ((q : LineRefusal) × (w ≡ not_written q place))
     ⊎ (Takes form r × (place ≤ n) × (length (words_of form r) < n - place) × (w ≡ wrote_after form place r))
 
 place_cases : (form : AltitudeForm) (n place : ℕ) (r : Report) → Cases form n place r (first_of (place_rows form n place r) (wrote_after form place r))
@@ -64,7 +65,7 @@ place_cases form n place r =
     ))))
 
 -- one row more, with a refusal that gives the place back
-one_more : (form : AltitudeForm) (n place : ℕ) (r : Report) (b : Bool) (q : LineRefusal) (w : Wrote) → Cases form n place r w → Cases form n place r (cond b (W.Refused q place) w)
+one_more : (form : AltitudeForm) (n place : ℕ) (r : Report) (b : Bool) (q : LineRefusal) (w : Result ℕ NotWritten) → Cases form n place r w → Cases form n place r (cond b (not_written q place) w)
 one_more form n place r true q w h = inl (q, refl)
 one_more form n place r false q w h = h
 

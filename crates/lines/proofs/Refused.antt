@@ -1,5 +1,6 @@
 -- Each refusal exactly under its condition, with the places that it gives: the claims ReaderRefuses, ByteReaderRefuses, WriterRefuses and
 -- ByteWriterRefuses, by the law of rows. Assumes nothing.
+use Rattle.std.specs.Prelude.{Ok, Result, Err}
 use Prim.Native.Nat.{ℕ, ◌+◌}
 use mathlib.Core.Path.{◌≡◌, refl, ap, sym, ◌∙◌}
 use mathlib.Core.Bool.{Bool, true, false, not, cond}
@@ -10,15 +11,11 @@ use lib.ListN.{length, drop}
 use Rattle.rows.specs.Rows.{Row, first_of, each}
 use Rattle.rows.specs.Claims.{FirstIs}
 use Rattle.rows.proofs.Claims as law
-use Rattle.reports.specs.declared.RunAnswer.{RunAnswer}
-use Rattle.reports.specs.declared.RunAnswer.TheVariants as A
 use Rattle.reports.specs.Altitude.{AltitudeForm}
 use Rattle.reports.specs.Records.{report_of}
 use Rattle.reports.specs.Runs.{table_of, read_run}
 use Rattle.lines.specs.declared.Outcome.{Outcome}
 use Rattle.lines.specs.declared.Received.{Received}
-use Rattle.lines.specs.declared.Wrote.{Wrote}
-use Rattle.lines.specs.declared.Wrote.TheVariants as P
 use Rattle.lines.specs.Line.{is_refusal, placed, gap, run_in, outcome_at, line_rows, read_by}
 use Rattle.lines.specs.Bytes.{words_in, byte_rows, read_bytes}
 use Rattle.lines.specs.Links.{last_link, received_on, above_last, on_link}
@@ -26,6 +23,10 @@ use Rattle.lines.specs.Writing.{writer_rows, wrote_after, write_at}
 use Rattle.lines.specs.ByteWriting.{byte_writer_rows, write_bytes}
 use Rattle.lines.specs.Rows.{run_rows}
 use Rattle.lines.specs.Claims.{ReaderRefuses, ByteReaderRefuses, PlacesGiven, WriterRefuses, ByteWriterRefuses}
+use Rattle.reports.specs.declared.Report.{Report}
+use Rattle.reports.specs.declared.RunRefusal.{RunRefusal}
+use Rattle.lines.specs.declared.NotWritten.{NotWritten}
+use Rattle.lines.specs.Writing.{not_written}
 
 -- ---- the readers: the link's row, their own rows, and behind them those of the run
 
@@ -34,7 +35,7 @@ accepts r = not (is_refusal r.outcome.what)
 
 -- where no row of a run holds: its report, or the end
 abbrev pub other : AltitudeForm → ℕ → ℕ → List ℕ → Outcome
-other form = outcome_at (λ ws. A.Accepted (report_of form ws))
+other form = outcome_at (λ ws. Ok (report_of form ws))
 
 accepted : (form : AltitudeForm) (n f : ℕ) (run : List ℕ) → not (is_refusal (other form n f run).what) ≡ true
 accepted form n f [] = refl
@@ -42,7 +43,7 @@ accepted form n f (w ∷ ws) = refl
 
 pub by_run : (form : AltitudeForm) (n f : ℕ) (run : List ℕ) → first_of (run_rows form f run) (other form n f run) ≡ outcome_at (read_run form) n f run
 by_run form n f [] = refl
-by_run form n f (w ∷ ws) = law.each_of RunAnswer Outcome (placed f (length (w ∷ ws))) (table_of form (w ∷ ws)) (A.Accepted (report_of form (w ∷ ws)))
+by_run form n f (w ∷ ws) = law.each_of (Result Report RunRefusal) Outcome (placed f (length (w ∷ ws))) (table_of form (w ∷ ws)) (Ok (report_of form (w ∷ ws)))
 
 -- one row in front, and the link of every other one
 linked : (link place : ℕ) (rows : List (Row Outcome)) (o : Outcome)
@@ -74,15 +75,15 @@ places_given = record { refused_run = λ first n o q. refl; report = λ first n 
 
 -- ---- the writers
 
-abbrev wrote : Wrote → Bool
-wrote (P.Next p) = true
-wrote (P.Refused q p) = false
+abbrev wrote : Result ℕ NotWritten → Bool
+wrote (Ok p) = true
+wrote (Err refusal) = false
 
 pub writer_refuses : WriterRefuses
 unfolding write_at
-writer_refuses form line place r q p = law.refused_exactly Wrote wrote (writer_rows form line place r) (wrote_after form place r) (P.Refused q p) refl refl
+writer_refuses form line place r q p = law.refused_exactly (Result ℕ NotWritten) wrote (writer_rows form line place r) (wrote_after form place r) (not_written q p) refl refl
 
 pub byte_writer_refuses : ByteWriterRefuses
 unfolding write_bytes
 byte_writer_refuses form bytes place r q p =
-    law.refused_exactly Wrote wrote (byte_writer_rows form bytes place r) (wrote_after form place r) (P.Refused q p) refl refl
+    law.refused_exactly (Result ℕ NotWritten) wrote (byte_writer_rows form bytes place r) (wrote_after form place r) (not_written q p) refl refl

@@ -1,5 +1,6 @@
 -- How many words are idle, in reports and in refused runs: the claims TotalsAdd and TotalsCounted, for any answer to a run.
 -- Assumes nothing.
+use Rattle.std.specs.Prelude.{Ok, Result, Err}
 use Prim.Native.Nat.{ℕ, suc, ◌+◌, ◌-◌, ◌≤◌}
 use native.Mathlib.Nat.{add-zero}
 use mathlib.Core.Path.{◌≡◌, refl, ap, ◌∙◌}
@@ -9,8 +10,6 @@ use native.Mathlib.Omega.{arith}
 use lib.Dec.{eqb}
 use lib.ListN.{length, length-append}
 use Rattle.words.specs.Word.{idle}
-use Rattle.reports.specs.declared.RunAnswer.{RunAnswer}
-use Rattle.reports.specs.declared.RunAnswer.TheVariants as A
 use Rattle.lines.specs.declared.What.{What}
 use Rattle.lines.specs.declared.What.TheVariants as W
 use Rattle.lines.specs.declared.Outcome.{Outcome}
@@ -21,6 +20,9 @@ use Rattle.lines.specs.Claims.{Answer, alone, spanned, TotalsAdd, TotalsCounted}
 use Rattle.words.proofs.Tests.{picked, passed, by_test}
 use Rattle.lines.proofs.Runs.{All, all_runs}
 use Rattle.lines.proofs.Outcomes.{alone_free, one_each}
+use Rattle.reports.specs.declared.Report.{Report}
+use Rattle.reports.specs.declared.RunRefusal.{RunRefusal}
+use Rattle.reports.specs.Runs.{refused_at}
 
 -- ---- they add up
 
@@ -69,11 +71,11 @@ totals_add answer line = let h = every_word answer 0 [] line in omega arith
 -- ---- they are counted by the outcomes
 
 -- a test on outcomes that is one on answers, and passes no end
-pub record Same (test : What → Bool) (on : RunAnswer → Bool) : Type 0 where
-  pub answers : (a : RunAnswer) → test (what_of a) ≡ on a
+pub record Same (test : What → Bool) (on : Result Report RunRefusal → Bool) : Type 0 where
+  pub answers : (a : Result Report RunRefusal) → test (what_of a) ≡ on a
   pub none : test W.End ≡ false
 
-module _ (answer : Answer) (test : What → Bool) (on : RunAnswer → Bool) (same : Same test on) where
+module _ (answer : Answer) (test : What → Bool) (on : Result Report RunRefusal → Bool) (same : Same test on) where
   Counted : Run → Type 0
   Counted r = cond (test (alone answer r).what) ((alone answer r).after - (alone answer r).first) 0 ≡ cond (on (answer r.words)) (length r.words) 0
 
@@ -99,16 +101,16 @@ module _ (answer : Answer) (test : What → Bool) (on : RunAnswer → Bool) (sam
 report_same : Same is_report is_accepted
 report_same = record { answers = told; none = refl }
   where
-    told : (a : RunAnswer) → is_report (what_of a) ≡ is_accepted a
-    told (A.Accepted r) = refl
-    told (A.Refused q o) = refl
+    told : (a : Result Report RunRefusal) → is_report (what_of a) ≡ is_accepted a
+    told (Ok r) = refl
+    told (Err refusal) = refl
 
 refusal_same : Same is_refusal (λ a. not (is_accepted a))
 refusal_same = record { answers = told; none = refl }
   where
-    told : (a : RunAnswer) → is_refusal (what_of a) ≡ not (is_accepted a)
-    told (A.Accepted r) = refl
-    told (A.Refused q o) = refl
+    told : (a : Result Report RunRefusal) → is_refusal (what_of a) ≡ not (is_accepted a)
+    told (Ok r) = refl
+    told (Err refusal) = refl
 
 pub totals_counted : TotalsCounted
 totals_counted answer line m = (

@@ -1,4 +1,5 @@
 -- The walk from outcome to outcome, for any answer to a run: the claims AlongTheWalk, StepByStep and Onward. Assumes nothing.
+use Rattle.std.specs.Prelude.{Ok, Result, Err}
 use Prim.Native.Nat.{ℕ, zero, suc, ◌+◌, ◌-◌, ◌≤◌, ◌<◌}
 use native.Mathlib.Nat.{add-zero}
 use mathlib.Core.Path.{◌≡◌, refl, ap, sym, ◌∙◌, subst}
@@ -11,14 +12,15 @@ use lib.ListN.{length, take, drop, replicate, length-drop}
 use lib.Seq.{drop-drop, drop-length}
 use borrow.Author.Tests.{le-ltb, eqb-true, eqb-false}
 use Rattle.words.specs.Word.{idle}
-use Rattle.reports.specs.declared.RunAnswer.{RunAnswer}
-use Rattle.reports.specs.declared.RunAnswer.TheVariants as A
 use Rattle.lines.specs.declared.Outcome.{Outcome}
 use Rattle.lines.specs.Line.{most, end_of, what_of, is_end, gap, stretch, run_in, outcome_at, read_by}
 use Rattle.lines.specs.Stretches.{Run, closed, runs_from, runs_at, gathered}
 use Rattle.lines.specs.Claims.{Answer, Solid, Meets, AlongTheWalk, StepByStep, Onward}
 use Rattle.words.proofs.Tests.{picked, passed, by_test}
 use Rattle.lines.proofs.Runs.{runs_next, gap_all}
+use Rattle.reports.specs.declared.Report.{Report}
+use Rattle.reports.specs.declared.RunRefusal.{RunRefusal}
+use Rattle.reports.specs.Runs.{refused_at}
 
 -- ---- what runs bring
 
@@ -36,9 +38,9 @@ pub read_there : (answer : Answer) (line : List ℕ) (p : ℕ) → length line �
 unfolding read_by
 read_there answer line p m h = passed _ _ (le-ltb most (length line) m) ∙ passed _ _ (le-ltb (length line) p h)
 
-pub goes_on : (a : RunAnswer) → is_end (what_of a) ≡ false
-goes_on (A.Accepted r) = refl
-goes_on (A.Refused q o) = refl
+pub goes_on : (a : Result Report RunRefusal) → is_end (what_of a) ≡ false
+goes_on (Ok r) = refl
+goes_on (Err refusal) = refl
 
 -- ---- the run behind the idle words
 

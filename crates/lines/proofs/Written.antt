@@ -1,5 +1,6 @@
 -- Calls of the writer one after the other, and what one call leaves: the claims WrittenSo, Composed, OnlyItsWords and RefusedLeaves.
 -- Assumes nothing.
+use Rattle.std.specs.Prelude.{Ok, Result}
 use Prim.Native.Nat.{ℕ, zero, suc, ◌+◌, ◌-◌, ◌<◌}
 use native.Mathlib.Nat.{zero-add}
 use mathlib.Core.Path.{◌≡◌, refl, ap, sym, ◌∙◌}
@@ -13,12 +14,11 @@ use Rattle.reports.specs.declared.Report.{Report}
 use Rattle.reports.specs.Altitude.{AltitudeForm}
 use Rattle.reports.specs.Layouts.{words_of}
 use Rattle.reports.proofs.Demand2.{takes_fits}
-use Rattle.lines.specs.declared.Wrote.{Wrote}
-use Rattle.lines.specs.declared.Wrote.TheVariants as W
 use Rattle.lines.specs.Writing.{write_at, left_as, next, puts, among, taken}
 use Rattle.lines.specs.Spaced.{Spaced, line_of, reports_of, AllFit, Parted, Apart}
 use Rattle.lines.specs.Claims.{WrittenSo, Composed, OnlyItsWords, RefusedLeaves}
 use Rattle.lines.proofs.Puts.{put_put, write_cases}
+use Rattle.lines.specs.declared.NotWritten.{NotWritten}
 
 -- ---- one call
 
@@ -27,7 +27,7 @@ pub record Accepts (form : AltitudeForm) (line : List ℕ) (place next : ℕ) (r
   pub room : length (words_of form r) < length line - place
   pub there : next ≡ place + length (words_of form r) + 1
 
-accepts : (form : AltitudeForm) (line : List ℕ) (place p : ℕ) (r : Report) → write_at form line place r ≡ W.Next p → Accepts form line place p r
+accepts : (form : AltitudeForm) (line : List ℕ) (place p : ℕ) (r : Report) → write_at form line place r ≡ Ok p → Accepts form line place p r
 accepts form line place p r e =
     ⊎_elim
     (λ h. let f = h.1 in let z : ◌≡◌ {A = ℕ} 0 1 = cc in absurd (omega arith))
@@ -38,7 +38,7 @@ pub composed : Composed
 composed form line place p r e =
     let a = accepts form line place p r e in
     let n = a.room in
-    ap (λ (k : ℕ). left_as (W.Next k) line place (words_of form r)) a.there
+    ap (λ (k : ℕ). left_as (Ok k) line place (words_of form r)) a.there
     ∙ sym (put_put line place (words_of form r) (idle ∷ []) (omega arith))
 
 pub only_its_words : OnlyItsWords
@@ -66,7 +66,7 @@ only_its_words form line place p r e =
 pub refused_leaves : RefusedLeaves
 refused_leaves form line place p r q e = (
   ⊎_elim (λ h. let f = h.1 in cc) (λ h. let f = h.3 in let z : ◌≡◌ {A = ℕ} 0 1 = cc in absurd (omega arith)) (write_cases form line place r),
-  ap (λ (w : Wrote). left_as w line place (words_of form r)) e,
+  ap (λ (w : Result ℕ NotWritten). left_as w line place (words_of form r)) e,
 )
 
 -- ---- calls one after the other on idle words
@@ -84,7 +84,7 @@ abbrev spread : List ℕ → ℕ → ℕ → List ℕ
 spread pre g m = pre ++ (idles g ++ idles m)
 
 line_after : (form : AltitudeForm) (pre : List ℕ) (g m : ℕ) (r : Report)
-    → left_as (W.Next (length pre + g + length (words_of form r) + 1)) (spread pre g m) (length pre + g) (words_of form r)
+    → left_as (Ok (length pre + g + length (words_of form r) + 1)) (spread pre g m) (length pre + g) (words_of form r)
     ≡ spread (pre ++ (idles g ++ words_of form r)) 1 (m - (length (words_of form r) + 1))
 line_after form pre g m r =
     let ws = words_of form r in
@@ -137,8 +137,8 @@ put_all form (r ∷ rs) pre g m =
       k.1,
       k.2,
       k.3,
-      k.4 ∙ sym (ap (λ (w : Wrote). among w r (taken form (left_as w line place (words_of form r)) (next w) rs)) h.1),
-      ap (λ (w : Wrote). puts form (left_as w line place (words_of form r)) (next w) rs) h.1 ∙ k.5,
+      k.4 ∙ sym (ap (λ (w : Result ℕ NotWritten). among w r (taken form (left_as w line place (words_of form r)) (next w) rs)) h.1),
+      ap (λ (w : Result ℕ NotWritten). puts form (left_as w line place (words_of form r)) (next w) rs) h.1 ∙ k.5,
     ))
     (λ h.
     let pre' = pre ++ (idles g ++ ws) in
@@ -146,15 +146,15 @@ put_all form (r ∷ rs) pre g m =
     let k = put_all form rs pre' 1 m' in
     let there : place + length ws + 1 ≡ length pre' + 1 =
     (let a = length-append pre (idles g ++ ws) in let b = length-append (idles g) ws in let c = length-replicate g idle in omega arith) in
-    let e : left_as (W.Next (place + length ws + 1)) line place (words_of form r) ≡ spread pre' 1 m' = line_after form pre g m r in (
+    let e : left_as (Ok (place + length ws + 1)) line place (words_of form r) ≡ spread pre' 1 m' = line_after form pre g m r in (
       record { ahead = g; report = r } ∷ k.0,
       k.1,
       (takes_fits form r h.0, k.2),
       (refl, ahead_one k.0 k.3),
       ap (λ (l : List Report). r ∷ l)
           (k.4 ∙ sym (ap (λ (l : List ℕ). taken form l (place + length ws + 1) rs) e ∙ ap (λ (p : ℕ). taken form (spread pre' 1 m') p rs) there))
-          ∙ sym (ap (λ (w : Wrote). among w r (taken form (left_as w line place (words_of form r)) (next w) rs)) h.3),
-      ap (λ (w : Wrote). puts form (left_as w line place (words_of form r)) (next w) rs) h.3
+          ∙ sym (ap (λ (w : Result ℕ NotWritten). among w r (taken form (left_as w line place (words_of form r)) (next w) rs)) h.3),
+      ap (λ (w : Result ℕ NotWritten). puts form (left_as w line place (words_of form r)) (next w) rs) h.3
           ∙ ap (λ (l : List ℕ). puts form l (place + length ws + 1) rs) e
           ∙ ap (λ (p : ℕ). puts form (spread pre' 1 m') p rs) there
           ∙ k.5

@@ -1,13 +1,11 @@
 -- What is claimed of lines: demands 1 and 3. Statements only, with what they need to be said; the laws on whole lines hold for any answer
 -- to a run. Proved in proofs/: the file is named at each.
-use Rattle.std.specs.Prelude.{ℕ, ◌+◌, ◌-◌, ◌/◌, ◌%◌, ◌≤◌, ◌<◌, ◌↔◌, ◌⊎◌, Bool, true, false, cond, ◌≡◌, List, [], ◌∷◌, ◌++◌, map, ltb, length, take, drop, replicate}
+use Rattle.std.specs.Prelude.{ℕ, ◌+◌, ◌-◌, ◌/◌, ◌%◌, ◌≤◌, ◌<◌, ◌↔◌, ◌⊎◌, Bool, true, false, cond, ◌≡◌, List, [], ◌∷◌, ◌++◌, map, ltb, length, take, drop, replicate, Ok, Result}
 use Rattle.rows.specs.Claims.{FirstIs}
 use Rattle.refusals.specs.declared.LineRefusal.{LineRefusal}
 use Rattle.refusals.specs.declared.LineRefusal.TheVariants.{NoSuchLink, WrongLength}
 use Rattle.words.specs.Word.{idle, flipped}
 use Rattle.reports.specs.declared.Report.{Report}
-use Rattle.reports.specs.declared.RunAnswer.{RunAnswer}
-use Rattle.reports.specs.declared.RunAnswer.TheVariants as A
 use Rattle.reports.specs.declared.kinds.Kind.TheVariants as K
 use Rattle.reports.specs.Kinds.{kind_of}
 use Rattle.reports.specs.Altitude.{AltitudeForm, Sound, sign_magnitude}
@@ -18,7 +16,6 @@ use Rattle.lines.specs.declared.What.{What}
 use Rattle.lines.specs.declared.What.TheVariants as W
 use Rattle.lines.specs.declared.Outcome.{Outcome}
 use Rattle.lines.specs.declared.Received.{Received}
-use Rattle.lines.specs.declared.Wrote.TheVariants as P
 use Rattle.lines.specs.Line.{most, outcome_of, end_of, not_taken_at, placed, is_report, is_refusal, is_end, read_by, read_at, calls, outcomes}
 use Rattle.lines.specs.Bytes.{most_bytes, words_in, read_bytes}
 use Rattle.lines.specs.Links.{last_link, received_on, read_by_on, read_on, read_bytes_on, calls_on, outcomes_on}
@@ -27,10 +24,13 @@ use Rattle.lines.specs.Stretches.{Run, runs, runs_at, gathered, idle_words, repo
 use Rattle.lines.specs.Spaced.{Spaced, line_of, reports_of, AllFit, Apart, back}
 use Rattle.lines.specs.Rows.{rows_on, byte_rows_on}
 use Rattle.lines.specs.Writing.{writer_rows, write_at, left_as, puts, taken}
+use Rattle.reports.specs.declared.RunRefusal.{RunRefusal}
+use Rattle.reports.specs.Runs.{refused_at}
+use Rattle.lines.specs.Writing.{not_written}
 
 -- what looks at the words of a run
 abbrev pub Answer : Type 0
-Answer = List ℕ → RunAnswer
+Answer = List ℕ → Result Report RunRefusal
 
 -- ---- demand 1: each refusal exactly under its condition (proofs/Refused.antt)
 
@@ -48,18 +48,18 @@ ByteReaderRefuses =
 abbrev pub WriterRefuses : Type 0
 WriterRefuses =
     (form : AltitudeForm) (line : List ℕ) (place : ℕ) (r : Report) (q : LineRefusal) (p : ℕ)
-    → (write_at form line place r ≡ P.Refused q p) ↔ FirstIs (writer_rows form line place r) (P.Refused q p)
+    → (write_at form line place r ≡ not_written q p) ↔ FirstIs (writer_rows form line place r) (not_written q p)
 
 abbrev pub ByteWriterRefuses : Type 0
 ByteWriterRefuses =
     (form : AltitudeForm) (bytes : List ℕ) (place : ℕ) (r : Report) (q : LineRefusal) (p : ℕ)
-    → (write_bytes form bytes place r ≡ P.Refused q p) ↔ FirstIs (byte_writer_rows form bytes place r) (P.Refused q p)
+    → (write_bytes form bytes place r ≡ not_written q p) ↔ FirstIs (byte_writer_rows form bytes place r) (not_written q p)
 
 -- and these are the places: of a run the place of its first word, the place after its last, and the word that is named, at the refusal's
 -- offset or, of a report, its first; of a link number, a line or a place that is not taken the caller's place three times
 pub record PlacesGiven : Type 0 where
-  pub refused_run : (first n o : ℕ) (q : LineRefusal) → placed first n (A.Refused q o) ≡ outcome_of (W.Refused q) first (first + n) (first + o)
-  pub report : (first n : ℕ) (r : Report) → placed first n (A.Accepted r) ≡ outcome_of (W.Accepted r) first (first + n) (first + 0)
+  pub refused_run : (first n o : ℕ) (q : LineRefusal) → placed first n (refused_at q o) ≡ outcome_of (W.Refused q) first (first + n) (first + o)
+  pub report : (first n : ℕ) (r : Report) → placed first n (Ok r) ≡ outcome_of (W.Accepted r) first (first + n) (first + 0)
   pub not_taken : (q : LineRefusal) (place : ℕ) → not_taken_at q place ≡ outcome_of (W.Refused q) place place place
 
 -- ---- the link (document 02, Ticket 7; proofs/Linked.antt)
@@ -275,7 +275,7 @@ TotalsCounted =
 
 -- an answer that gives each report that fits for its words
 abbrev pub Returns : Answer → AltitudeForm → Type 0
-Returns answer form = (r : Report) → Fits form r → answer (words_of form r) ≡ A.Accepted r
+Returns answer form = (r : Report) → Fits form r → answer (words_of form r) ≡ Ok r
 
 -- a list of reports that fit, written with at least one idle word between neighbours and any number at the ends, reads back with its places
 abbrev pub ReadsBack : Type 0
@@ -317,21 +317,21 @@ put line place ws = take place line ++ (ws ++ drop (length ws) (drop place line)
 -- an accepted call is its two leaves: the words, and then one idle word right behind them
 abbrev pub Composed : Type 0
 Composed =
-    (form : AltitudeForm) (line : List ℕ) (place next : ℕ) (r : Report) → write_at form line place r ≡ P.Next next →
-    left_as (P.Next next) line place (words_of form r)
+    (form : AltitudeForm) (line : List ℕ) (place next : ℕ) (r : Report) → write_at form line place r ≡ Ok next →
+    left_as (Ok next) line place (words_of form r)
     ≡ put (put line place (words_of form r)) (place + length (words_of form r)) (replicate 1 idle)
 
 -- an accepted call changes nothing outside its words, from the place up to the one that it gives; a refused one changes nothing
 abbrev pub OnlyItsWords : Type 0
 OnlyItsWords =
-    (form : AltitudeForm) (line : List ℕ) (place next : ℕ) (r : Report) → write_at form line place r ≡ P.Next next →
-    (length (left_as (P.Next next) line place (words_of form r)) ≡ length line)
-    × (take place (left_as (P.Next next) line place (words_of form r)) ≡ take place line)
-    × (drop next (left_as (P.Next next) line place (words_of form r)) ≡ drop next line)
+    (form : AltitudeForm) (line : List ℕ) (place next : ℕ) (r : Report) → write_at form line place r ≡ Ok next →
+    (length (left_as (Ok next) line place (words_of form r)) ≡ length line)
+    × (take place (left_as (Ok next) line place (words_of form r)) ≡ take place line)
+    × (drop next (left_as (Ok next) line place (words_of form r)) ≡ drop next line)
 
 abbrev pub RefusedLeaves : Type 0
 RefusedLeaves =
-    (form : AltitudeForm) (line : List ℕ) (place p : ℕ) (r : Report) (q : LineRefusal) → write_at form line place r ≡ P.Refused q p →
+    (form : AltitudeForm) (line : List ℕ) (place p : ℕ) (r : Report) (q : LineRefusal) → write_at form line place r ≡ not_written q p →
     (p ≡ place) × (left_as (write_at form line place r) line place (words_of form r) ≡ line)
 
 -- ---- bytes

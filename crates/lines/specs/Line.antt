@@ -1,17 +1,18 @@
 -- The line (document 01, "The line"): what is found at a place, and the calls one after the other. The reader answers it with the number of a link
 -- (Links.antt). Whatever looks at a run's words is a parameter, an answer to a run; document 01's is `read_run` of an altitude form. Definitions only.
-use Rattle.std.specs.Prelude.{ℕ, zero, suc, ◌+◌, Bool, true, false, cond, List, [], ◌∷◌, eqb, ltb, length, drop}
+use Rattle.std.specs.Prelude.{ℕ, zero, suc, ◌+◌, Bool, true, false, cond, List, [], ◌∷◌, eqb, ltb, length, drop, Ok, Result, Err}
 use Rattle.rows.specs.Rows.{Row, row, first_of}
 use Rattle.refusals.specs.declared.LineRefusal.{LineRefusal}
 use Rattle.refusals.specs.declared.LineRefusal.TheVariants.{LineTooLong, PlaceBeyondLine}
 use Rattle.words.specs.Word.{idle}
-use Rattle.reports.specs.declared.RunAnswer.{RunAnswer}
-use Rattle.reports.specs.declared.RunAnswer.TheVariants as A
 use Rattle.reports.specs.Altitude.{AltitudeForm}
 use Rattle.reports.specs.Runs.{read_run, answer_offset}
 use Rattle.lines.specs.declared.What.{What}
 use Rattle.lines.specs.declared.What.TheVariants as W
 use Rattle.lines.specs.declared.Outcome.{Outcome}
+use Rattle.reports.specs.declared.Report.{Report}
+use Rattle.reports.specs.declared.RunRefusal.{RunRefusal}
+use Rattle.reports.specs.Runs.{refused_at}
 
 -- the most words of a line
 abbrev pub most : ℕ
@@ -31,12 +32,12 @@ end_of n = outcome_of W.End n n n
 abbrev pub not_taken_at : LineRefusal → ℕ → Outcome
 not_taken_at q place = outcome_of (W.Refused q) place place place
 
-abbrev pub what_of : RunAnswer → What
-what_of (A.Accepted r) = W.Accepted r
-what_of (A.Refused q o) = W.Refused q
+abbrev pub what_of : Result Report RunRefusal → What
+what_of (Ok r) = W.Accepted r
+what_of (Err refusal) = W.Refused refusal.why
 
 -- a run of n words that got this answer, with its first word at a place: a refusal names the word at its offset, a report its first word
-abbrev pub placed : ℕ → ℕ → RunAnswer → Outcome
+abbrev pub placed : ℕ → ℕ → Result Report RunRefusal → Outcome
 placed first n a = outcome_of (what_of a) first (first + n) (first + answer_offset a)
 
 abbrev pub is_report : What → Bool
@@ -71,12 +72,12 @@ abbrev pub run_in : List ℕ → List ℕ
 run_in ws = stretch (drop (gap ws) ws)
 
 -- the outcome of a run whose first word is at a place of a line of n words; no words: the end
-abbrev pub outcome_at : (List ℕ → RunAnswer) → ℕ → ℕ → List ℕ → Outcome
+abbrev pub outcome_at : (List ℕ → Result Report RunRefusal) → ℕ → ℕ → List ℕ → Outcome
 outcome_at answer n first [] = end_of n
 outcome_at answer n first (w ∷ ws) = placed first (length (w ∷ ws)) (answer (w ∷ ws))
 
 -- the outcome of the run at a place, or behind the idle words there
-abbrev pub run_at : (List ℕ → RunAnswer) → List ℕ → ℕ → Outcome
+abbrev pub run_at : (List ℕ → Result Report RunRefusal) → List ℕ → ℕ → Outcome
 run_at answer line place = let rest = drop place line in outcome_at answer (length line) (place + gap rest) (run_in rest)
 
 -- 1: place beyond the length of a line of n words
@@ -88,7 +89,7 @@ abbrev pub line_rows : List ℕ → ℕ → List (Row Outcome)
 line_rows line place = row (ltb most (length line)) (not_taken_at LineTooLong place) ∷ beyond (length line) place ∷ []
 
 -- what is found: these rows, and where none holds, what the run gets
-unfoldable pub read_by : (List ℕ → RunAnswer) → List ℕ → ℕ → Outcome
+unfoldable pub read_by : (List ℕ → Result Report RunRefusal) → List ℕ → ℕ → Outcome
 read_by answer line place = first_of (line_rows line place) (run_at answer line place)
 
 -- what is found of document 01's reports
@@ -98,10 +99,10 @@ read_at form line place = read_by (read_run form) line place
 -- ---- the calls
 
 -- the outcomes of at most k calls, the first from a place, each other from the place after the one before it, up to the end
-unfoldable pub calls : (List ℕ → RunAnswer) → ℕ → List ℕ → ℕ → List Outcome
+unfoldable pub calls : (List ℕ → Result Report RunRefusal) → ℕ → List ℕ → ℕ → List Outcome
 calls answer zero line place = []
 calls answer (suc k) line place = let o = read_by answer line place in o ∷ cond (is_end o.what) [] (calls answer k line o.after)
 
 -- a line of at most `most` words read from its start: as many calls as it has words, and one, which CallsEnough (Claims.antt) shows to be enough
-abbrev pub outcomes : (List ℕ → RunAnswer) → List ℕ → List Outcome
+abbrev pub outcomes : (List ℕ → Result Report RunRefusal) → List ℕ → List Outcome
 outcomes answer line = calls answer (suc (length line)) line 0

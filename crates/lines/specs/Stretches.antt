@@ -1,9 +1,10 @@
 -- The unbroken stretches of non-idle words of a line, and how many of its words are idle, in reports and in refused runs: said without
 -- the reader. Definitions only.
-use Rattle.std.specs.Prelude.{ℕ, suc, ◌+◌, Bool, not, cond, List, [], ◌∷◌, ◌++◌, eqb, length, drop}
+use Rattle.std.specs.Prelude.{ℕ, suc, ◌+◌, Bool, not, cond, List, [], ◌∷◌, ◌++◌, eqb, length, drop, Result}
 use Rattle.words.specs.Word.{idle}
-use Rattle.reports.specs.declared.RunAnswer.{RunAnswer}
 use Rattle.reports.specs.Runs.{is_accepted}
+use Rattle.reports.specs.declared.Report.{Report}
+use Rattle.reports.specs.declared.RunRefusal.{RunRefusal}
 
 -- an unbroken stretch of words that are not idle, and the place of its first word
 pub record Run : Type 0 where
@@ -41,13 +42,13 @@ idle_words [] = 0
 idle_words (w ∷ ws) = cond (eqb w idle) (suc (idle_words ws)) (idle_words ws)
 
 -- the words of the runs whose answer passes a test
-unfoldable pub words_where : (RunAnswer → Bool) → (List ℕ → RunAnswer) → List Run → ℕ
+unfoldable pub words_where : ((Result Report RunRefusal) → Bool) → (List ℕ → Result Report RunRefusal) → List Run → ℕ
 words_where test answer [] = 0
 words_where test answer (r ∷ rs) = cond (test (answer r.words)) (length r.words) 0 + words_where test answer rs
 
 -- the words in reports, and in refused runs
-abbrev pub reported_words : (List ℕ → RunAnswer) → List ℕ → ℕ
+abbrev pub reported_words : (List ℕ → Result Report RunRefusal) → List ℕ → ℕ
 reported_words answer line = words_where is_accepted answer (runs line)
 
-abbrev pub refused_words : (List ℕ → RunAnswer) → List ℕ → ℕ
+abbrev pub refused_words : (List ℕ → Result Report RunRefusal) → List ℕ → ℕ
 refused_words answer line = words_where (λ a. not (is_accepted a)) answer (runs line)

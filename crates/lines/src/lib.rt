@@ -68,9 +68,9 @@ impl Received {
     }
 }
 
-// What the writer answers: the place after what it wrote; or why it wrote nothing, and the place that it was given.
+// Why the writer wrote nothing, and the place that it was given.
 #[derive(Clone, Copy)]
-pub enum Wrote {
-    Next(usize),
-    Refused(LineRefusal, usize),
+pub struct NotWritten {
+    pub why: LineRefusal,
+    pub place: usize,
 }

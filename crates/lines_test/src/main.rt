@@ -196,8 +196,8 @@ fn one_case(out: Stdout, case: [u8; 142]) -> io::Result<()> {
     let n = number(case, 1) as usize;
     let k = number(case, 2) as usize;
     let place = place_of(number(case, 3));
-    let form = Form::numbered(number(case, 4) as u32);
-    let to = Form::numbered(number(case, 5) as u32);
+    let form = Form::from(number(case, 4) as u32);
+    let to = Form::from(number(case, 5) as u32);
     let link = link_of(number(case, 6));
     let words = repeated(case);
     let mut line = [0u16; ROOM];

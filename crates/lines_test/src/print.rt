@@ -1,5 +1,5 @@
 // What the program prints.
-use lines::{Received, What, Wrote};
+use lines::{NotWritten, Received, What};
 use std::io;
 use std::io::Stdout;
 
@@ -16,7 +16,7 @@ fn name(out: Stdout, what: What) -> io::Result<()> {
         What::Accepted(_) => print!(out; "REPORT"),
         What::Refused(q) => {
             print!(out; "REFUSED")?;
-            number(out, q.number() as u64)
+            number(out, u8::from(q) as u64)
         }
         What::End => print!(out; "END"),
     }
@@ -35,16 +35,17 @@ pub fn outcome(out: Stdout, r: Received) -> io::Result<()> {
     line(out, "")
 }
 
-pub fn answer(out: Stdout, w: Wrote) -> io::Result<()> {
+pub fn answer(out: Stdout, w: Result<usize, NotWritten>) -> io::Result<()> {
     match w {
-        Wrote::Next(place) => {
+        Ok(place) => {
             print!(out; "NEXT")?;
             number(out, place as u64)?;
         }
-        Wrote::Refused(q, place) => {
+        Err(refusal) => {
+            let q = refusal.why;
             print!(out; "REFUSED")?;
-            number(out, q.number() as u64)?;
-            number(out, place as u64)?;
+            number(out, u8::from(q) as u64)?;
+            number(out, refusal.place as u64)?;
         }
     }
     line(out, "")

@@ -37,8 +37,8 @@ fn span(o: Outcome) -> u64 {
 // What tells two findings apart: a kind, a refusal or the end.
 fn told(what: What) -> u8 {
     match what {
-        What::Accepted(report) => reports::kinds::kind_of(report).number(),
-        What::Refused(q) => q.number(),
+        What::Accepted(report) => u8::from(reports::kinds::kind_of(report)),
+        What::Refused(q) => u8::from(q),
         What::End => 0,
     }
 }

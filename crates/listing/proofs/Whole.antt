@@ -1,5 +1,6 @@
 -- Successive fills are the whole listing: the claim Whole. The walk over a line from outcome to outcome is a law of lines; here is what is said of
 -- a run, and at the end. Assumes nothing.
+use Rattle.std.specs.Prelude.{Ok, Result, Err}
 use Prim.Native.Nat.{ℕ, zero, suc, ◌+◌, ◌-◌, ◌/◌, ◌%◌, ◌≤◌, ◌<◌}
 use native.Mathlib.Nat.{add-zero, zero-add, add_assoc}
 use mathlib.Core.Path.{◌≡◌, refl, ap, sym, ◌∙◌}
@@ -10,8 +11,6 @@ use lib.Dec.{eqb, ltb}
 use lib.ListN.{length}
 use borrow.Author.Tests.{ltb-true, ltb-false, eqb-true, eqb-false}
 use Rattle.refusals.specs.Numbers.{line_number}
-use Rattle.reports.specs.declared.RunAnswer.{RunAnswer}
-use Rattle.reports.specs.declared.RunAnswer.TheVariants as A
 use Rattle.reports.specs.Kinds.{kind_of}
 use Rattle.lines.specs.declared.Outcome.{Outcome}
 use Rattle.lines.specs.Bytes.{most_bytes, words_in}
@@ -31,6 +30,9 @@ use Rattle.listing.specs.Walking.{at, start, closed, Step, Says, Ended, step_on,
 use Rattle.listing.specs.Claims.{Whole}
 use Rattle.listing.proofs.Bounded.{by_words}
 use Rattle.listing.proofs.Telling.{roomy, is_long, is_odd, is_read}
+use Rattle.reports.specs.declared.Report.{Report}
+use Rattle.reports.specs.declared.RunRefusal.{RunRefusal}
+use Rattle.reports.specs.Runs.{refused_at}
 
 -- ---- calls and fills
 
@@ -69,15 +71,15 @@ abbrev totals : ℕ → ℕ → ℕ → List ℕ
 totals n r q = totals_line (n - r - q) r q n
 
 -- the walk behind a run of c words at f that got this answer
-abbrev behind : Walk → ℕ → ℕ → RunAnswer → Walk
+abbrev behind : Walk → ℕ → ℕ → Result Report RunRefusal → Walk
 behind w f c a = at (f + c) (w.reported + cond (is_accepted a) c 0) (w.refused + cond (not (is_accepted a)) c 0)
 
-run_said : (n : ℕ) (w : Walk) (f c : ℕ) (a : RunAnswer) → step_on n w (placed f c a) ≡ Says (line_for f c a) (behind w f c a)
-run_said n w f c (A.Accepted report) =
+run_said : (n : ℕ) (w : Walk) (f c : ℕ) (a : Result Report RunRefusal) → step_on n w (placed f c a) ≡ Says (line_for f c a) (behind w f c a)
+run_said n w f c (Ok report) =
     let z : f + c - f ≡ c = omega arith in
     ap (λ (k : ℕ). Says (report_line f (kind_of report) k) (at (f + c) (w.reported + k) w.refused)) z
     ∙ ap (λ (k : ℕ). Says (report_line f (kind_of report) c) (at (f + c) (w.reported + c) k)) (sym (add-zero w.refused))
-run_said n w f c (A.Refused why o) =
+run_said n w f c (Err refusal) =
     let z : f + c - f ≡ c = omega arith in
     ap (λ (k : ℕ). Says (refused_line f (line_number why) k (f + o)) (at (f + c) w.reported (w.refused + k))) z
     ∙ ap (λ (k : ℕ). Says (refused_line f (line_number why) c (f + o)) (at (f + c) k (w.refused + c))) (sym (add-zero w.reported))

@@ -2,13 +2,13 @@
 use Rattle.std.specs.Prelude.{ℕ, ◌+◌, ◌/◌, ◌≤◌, ◌≡◌, true, List, [], ◌∷◌, length}
 use Rattle.lines.specs.Bytes.{words_in}
 use Rattle.refusals.specs.declared.LineRefusal.TheVariants.{MinusZero}
-use Rattle.reports.specs.declared.RunAnswer.TheVariants.{Refused}
 use Rattle.listing.specs.Listing.{lister_link, answer, listing}
 use Rattle.listing.specs.Walking.{start, fills, reached}
+use Rattle.reports.specs.Runs.{refused_at}
 
 -- the lister reads altitudes in document 01's form: C3, the run of its example, gets 9 (proofs/Document.antt)
 abbrev pub DocumentForm : Type 0
-DocumentForm = answer (3973 ∷ 1281 ∷ 256 ∷ 7 ∷ 5175 ∷ 1414 ∷ 4096 ∷ []) ≡ Refused MinusZero 0
+DocumentForm = answer (3973 ∷ 1281 ∷ 256 ∷ 7 ∷ 5175 ∷ 1414 ∷ 4096 ∷ []) ≡ refused_at MinusZero 0
 
 -- it reads with link 0 (document 02, Ticket 7): a listing has no link number (proofs/Document.antt)
 abbrev pub LinkZero : Type 0

@@ -1,16 +1,17 @@
 -- The whole listing of a recording, over the words of its line (document 01, "The C host and the lister"): said without the reader.
 -- Definitions only.
-use Rattle.std.specs.Prelude.{ℕ, ◌+◌, ◌%◌, List, [], ◌∷◌, ◌++◌, eqb, ltb, length}
+use Rattle.std.specs.Prelude.{ℕ, ◌+◌, ◌%◌, List, [], ◌∷◌, ◌++◌, eqb, ltb, length, Ok, Result, Err}
 use Rattle.rows.specs.Rows.{row, first_of}
 use Rattle.refusals.specs.Numbers.{line_number}
-use Rattle.reports.specs.declared.RunAnswer.{RunAnswer}
-use Rattle.reports.specs.declared.RunAnswer.TheVariants as A
 use Rattle.reports.specs.Altitude.{AltitudeForm, sign_magnitude}
 use Rattle.reports.specs.Kinds.{kind_of}
 use Rattle.reports.specs.Runs.{read_run}
 use Rattle.lines.specs.Bytes.{most_bytes, words_in}
 use Rattle.lines.specs.Stretches.{Run, runs, idle_words, reported_words, refused_words}
 use Rattle.listing.specs.Letters.{text, report_line, refused_line, totals_line}
+use Rattle.reports.specs.declared.Report.{Report}
+use Rattle.reports.specs.declared.RunRefusal.{RunRefusal}
+use Rattle.reports.specs.Runs.{refused_at}
 
 -- the lister reads altitudes in document 01's form: a recording does not tell its own
 abbrev pub lister_form : AltitudeForm
@@ -21,13 +22,13 @@ abbrev pub lister_link : ℕ
 lister_link = 0
 
 -- the answer to the words of a run
-abbrev pub answer : List ℕ → RunAnswer
+abbrev pub answer : List ℕ → Result Report RunRefusal
 answer ws = read_run lister_form ws
 
 -- the line of a run of n words at a place that got this answer
-abbrev pub line_for : ℕ → ℕ → RunAnswer → List ℕ
-line_for place n (A.Accepted r) = report_line place (kind_of r) n
-line_for place n (A.Refused q offset) = refused_line place (line_number q) n (place + offset)
+abbrev pub line_for : ℕ → ℕ → Result Report RunRefusal → List ℕ
+line_for place n (Ok r) = report_line place (kind_of r) n
+line_for place n (Err refusal) = refused_line place (line_number refusal.why) n (place + refusal.offset)
 
 -- a line for each run, in order
 unfoldable pub run_lines : List Run → List ℕ

@@ -105,7 +105,7 @@ fn say(walk: Walk, n: usize, o: Outcome, out: &mut [u8]) -> Piece
             )
         }
         What::Refused(why) => {
-            let k = said::refused(out, first, why.number(), count, o.named);
+            let k = said::refused(out, first, u8::from(why), count, o.named);
             Piece::Text(
                 k,
                 Walk {

@@ -1,5 +1,6 @@
 -- The rules over the words and over the record: the claims SameOfRecord, AtMostOne, AtMostOneOfRecord and FoundExactly; that a number names one rule; and what a run's outcome brings
 -- to the list. Assumes nothing.
+use Rattle.std.specs.Prelude.{Ok, Result, Err}
 use Prim.Native.Nat.{ℕ, ◌-◌, ◌<◌}
 use mathlib.Core.Path.{◌≡◌, refl, ap, sym, ◌∙◌, subst}
 use mathlib.Core.Bool.{Bool, true, false, not, cond}
@@ -25,8 +26,6 @@ use Rattle.reports.specs.declared.Dabs.{Dabs}
 use Rattle.reports.specs.declared.Atcrbs.{Atcrbs}
 use Rattle.reports.specs.declared.Report.{Report}
 use Rattle.reports.specs.declared.Report.TheVariants as T
-use Rattle.reports.specs.declared.RunAnswer.{RunAnswer}
-use Rattle.reports.specs.declared.RunAnswer.TheVariants as A
 use Rattle.reports.specs.Altitude.{AltitudeForm, Sound, form_of}
 use Rattle.reports.specs.Forms.{four_words, seven_words, search_pattern, strobe_pattern, status_pattern, map_pattern, cd_code, mtd_code, rdas_code, mtd_search_code, rdas_search_code, no_radar, is_four, is_seven, is_search, is_strobe, is_status, is_map, radar_code, is_dabs, is_cd, is_mtd, is_rdas, is_mtd_search, is_rdas_search}
 use Rattle.reports.specs.Layouts.{mode_c_of, radar}
@@ -49,6 +48,8 @@ use Rattle.manners.specs.Rules.{is_substitution, broken, is_zero, is_sea_level, 
 use Rattle.manners.specs.Breaches.{breach, rules, passing, broken_by, breaches_of, rule_rows, found_of, list_of, brought_by}
 use Rattle.manners.specs.Steps.{atcrbs_found}
 use Rattle.manners.specs.Claims.{SameOfRecord, AtMostOne, AtMostOneOfRecord, FoundExactly}
+use Rattle.reports.specs.declared.RunRefusal.{RunRefusal}
+use Rattle.reports.specs.Runs.{refused_at}
 
 only : (b : Bool) → b ≡ cond b true false
 only true = refl
@@ -281,7 +282,7 @@ module _ (form : AltitudeForm) (sound : Sound form) (zero : form.bits_of (pos 0)
   same_report a z =
       by_cond (Same ws) (is_seven ws) (λ s. same_seven (eqb-true (bits ws 2 3) seven_words s) a z) (λ s. same_four ws s)
 
-  same_accepted : (r : Report) → read_run form ws ≡ A.Accepted r → Same ws r
+  same_accepted : (r : Report) → read_run form ws ≡ Ok r → Same ws r
   same_accepted r e =
       let l = accepted_layout form ws r e in
       subst (Same ws) l.1 (same_report l.0.assigned l.0.altitude)
@@ -454,8 +455,8 @@ found_exactly f ws r e rule = (
 pub brought : (f : Form) (r : Run) → brought_by (outcome_of_run (read_run (form_of f)) r) ≡ breaches_of (form_of f) r
 brought f r = by_answer (read_run (form_of f) r.words) refl
   where
-    by_answer : (a : RunAnswer) → read_run (form_of f) r.words ≡ a
+    by_answer : (a : Result Report RunRefusal) → read_run (form_of f) r.words ≡ a
         → brought_by (placed r.place (length r.words) a) ≡ cond (is_accepted a) (map (breach r.place) (broken_by r.words)) []
-    by_answer (A.Accepted report) e =
+    by_answer (Ok report) e =
         sym (ap (map (breach r.place)) (λ i. passing (λ rule. same_of_record f r.words report e rule i) rules) ∙ record_listed r.place report)
-    by_answer (A.Refused q o) e = refl
+    by_answer (Err refusal) e = refl

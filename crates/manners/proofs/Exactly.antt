@@ -1,5 +1,6 @@
 -- The list of a line's breaches: the claims RulesNumbered, ExactlyTheBreaches, ByPlace, ReadThere, FromTheOutcomes, SameInBothForms, NoMore,
 -- NumbersInBytes, Splits and Replaced. Assumes nothing.
+use Rattle.std.specs.Prelude.{Ok, Result, Err}
 use Prim.Native.Nat.{ℕ, zero, suc, ◌+◌, ◌*◌, ◌/◌, ◌%◌, ◌≤◌, ◌<◌}
 use native.Mathlib.Nat.{add-zero}
 use mathlib.Core.Path.{◌≡◌, refl, ap, sym, ◌∙◌, subst}
@@ -18,8 +19,6 @@ use Rattle.words.specs.Word.{idle, bits, bit}
 use Rattle.words.proofs.Tests.{picked, passed, by_test, holds}
 use Rattle.reports.specs.declared.altitude.Form.{Form}
 use Rattle.reports.specs.declared.Report.{Report}
-use Rattle.reports.specs.declared.RunAnswer.{RunAnswer}
-use Rattle.reports.specs.declared.RunAnswer.TheVariants as A
 use Rattle.reports.specs.Altitude.{AltitudeForm, sign_magnitude, twos_complement, form_of}
 use Rattle.reports.specs.Forms.{four_words, seven_words, is_four, is_seven, word_count, is_map, is_dabs}
 use Rattle.reports.specs.Records.{report_of}
@@ -55,6 +54,8 @@ use Rattle.manners.specs.Listing.{most_in}
 use Rattle.manners.specs.Claims.{Among, ExactlyTheBreaches, RisingFrom, ByPlace, RulesNumbered, ReadThere, FromTheOutcomes, SameInBothForms, NoMore, along, Splits, outside, Replaced, NumbersInBytes}
 use Rattle.manners.proofs.Broken.{splits, is_false, substitution_told, could, told, rules_differ, same_of_record, brought}
 use Rattle.manners.proofs.Answered as answered
+use Rattle.reports.specs.declared.RunRefusal.{RunRefusal}
+use Rattle.reports.specs.Runs.{refused_at}
 
 -- ---- a run has one breach at most
 
@@ -108,12 +109,12 @@ accepted_long form ws = by_answer (read_run form ws) refl
     counts true = omega arith
     counts false = omega arith
 
-    by_answer : (a : RunAnswer) → read_run form ws ≡ a → is_accepted a ≡ true → 4 ≤ length ws
-    by_answer (A.Accepted r) e t =
+    by_answer : (a : Result Report RunRefusal) → read_run form ws ≡ a → is_accepted a ≡ true → 4 ≤ length ws
+    by_answer (Ok r) e t =
         let l : length ws ≡ word_count ws = eqb-true (length ws) (word_count ws) (holds (eqb (length ws) (word_count ws)) (accepted_layout form ws r e).0.whole) in
         let c = counts (is_seven ws) in
         omega arith
-    by_answer (A.Refused q o) e t = differ (sym t)
+    by_answer (Err refusal) e t = differ (sym t)
 
 few : (form : AltitudeForm) (r : Run) → Few r (breaches_of form r)
 few form r =
@@ -351,13 +352,13 @@ read_there f line place rule m h =
     let o = read_each (read_run (form_of f)) line m (record { place = place; words = k.0 }) k.1 in
     by_answer k.0 (read_run (form_of f) k.0) refl o k.2 k.3
   where
-    by_answer : (ws : List ℕ) (a : RunAnswer) → read_run (form_of f) ws ≡ a → read_by (read_run (form_of f)) line place ≡ placed place (length ws) (read_run (form_of f) ws)
+    by_answer : (ws : List ℕ) (a : Result Report RunRefusal) → read_run (form_of f) ws ≡ a → read_by (read_run (form_of f)) line place ≡ placed place (length ws) (read_run (form_of f) ws)
         → is_accepted (read_run (form_of f) ws) ≡ true → broken rule ws ≡ true
         → (r : Report)
         × (after : ℕ)
         × ((link : ℕ) → link ≤ last_link → read_on (form_of f) link line place ≡ received_on link (outcome_of (W.Accepted r) place after place))
         × (breaks r rule ≡ true)
-    by_answer ws (A.Accepted r) e o t b = (
+    by_answer ws (Ok r) e o t b = (
       r,
       place + length ws,
       λ link l.
@@ -365,7 +366,7 @@ read_there f line place rule m h =
           ∙ ap (received_on link) (o ∙ ap (placed place (length ws)) e ∙ ap (outcome_of (W.Accepted r) place (place + length ws)) (add-zero place)),
       sym (same_of_record f ws r e rule) ∙ b,
     )
-    by_answer ws (A.Refused q n) e o t b = differ (sym t ∙ ap is_accepted e)
+    by_answer ws (Err refusal) e o t b = differ (sym t ∙ ap is_accepted e)
 
 -- ---- the two forms of the altitude
 
@@ -411,7 +412,7 @@ passes nine ws =
     true
 
 accepted_by : (form : AltitudeForm) (ws : List ℕ) → is_accepted (read_run form ws) ≡ passes (minus_zero form ws) ws
-accepted_by form ws = sym (law.each_of RunAnswer Bool is_accepted (table_of form ws) (A.Accepted (report_of form ws)))
+accepted_by form ws = sym (law.each_of (Result Report RunRefusal) Bool is_accepted (table_of form ws) (Ok (report_of form ws)))
 
 same_run : (form other : AltitudeForm) → form.refused 0 ≡ false → other.refused 0 ≡ false → (r : Run) → breaches_of form r ≡ breaches_of other r
 same_run form other z y r =

@@ -1,9 +1,8 @@
 -- What is claimed of manners (document 02, Ticket 6). Statements only, with what they need to be said. Proved in proofs/: the file is named at each.
-use Rattle.std.specs.Prelude.{ℕ, ◌+◌, ◌*◌, ◌/◌, ◌%◌, ◌≤◌, Bool, true, false, cond, List, [], ◌∷◌, ◌++◌, map, ◌↔◌, ◌⊎◌, ◌≡◌, ltb, length, take, drop}
+use Rattle.std.specs.Prelude.{ℕ, ◌+◌, ◌*◌, ◌/◌, ◌%◌, ◌≤◌, Bool, true, false, cond, List, [], ◌∷◌, ◌++◌, map, ◌↔◌, ◌⊎◌, ◌≡◌, ltb, length, take, drop, Ok}
 use Rattle.rows.specs.Claims.{FirstIs}
 use Rattle.words.specs.Word.{idle}
 use Rattle.reports.specs.declared.Report.{Report}
-use Rattle.reports.specs.declared.RunAnswer.TheVariants as A
 use Rattle.reports.specs.declared.altitude.Form.{Form}
 use Rattle.reports.specs.Altitude.{AltitudeForm, sign_magnitude, twos_complement, form_of}
 use Rattle.reports.specs.Runs.{read_run, is_accepted}
@@ -27,7 +26,7 @@ use Rattle.manners.specs.Listing.{most_in, most_breaches, list_rows, listed, Lis
 
 -- a rule is the same over the words and over the record, for every accepted run
 abbrev pub SameOfRecord : Type 0
-SameOfRecord = (f : Form) (ws : List ℕ) (r : Report) → read_run (form_of f) ws ≡ A.Accepted r → (rule : Rule) → broken rule ws ≡ breaks r rule
+SameOfRecord = (f : Form) (ws : List ℕ) (r : Report) → read_run (form_of f) ws ≡ Ok r → (rule : Rule) → broken rule ws ≡ breaks r rule
 
 -- no run can have two of the four, accepted or not; nor can a record
 abbrev pub AtMostOne : Type 0
@@ -39,7 +38,7 @@ AtMostOneOfRecord = (r : Report) (a b : Rule) → breaks r a ≡ true → breaks
 -- so what the code finds in an accepted run's record is the one rule that its words break
 abbrev pub FoundExactly : Type 0
 FoundExactly =
-    (f : Form) (ws : List ℕ) (r : Report) → read_run (form_of f) ws ≡ A.Accepted r → (rule : Rule) →
+    (f : Form) (ws : List ℕ) (r : Report) → read_run (form_of f) ws ≡ Ok r → (rule : Rule) →
     (found_of r ≡ F.Breach rule) ↔ (broken rule ws ≡ true)
 
 -- ---- the list (proofs/Exactly.antt)

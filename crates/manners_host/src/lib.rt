@@ -30,7 +30,7 @@ fn answer_number(answer: Listed) -> u32
 {
     match answer {
         Listed::Breaches(n) => done_with(LISTED, n),
-        Listed::LineRefused(why) => why.number() as u32,
+        Listed::LineRefused(why) => u8::from(why) as u32,
         Listed::Refused(why, n) => done_with(why.number() as u32, n),
     }
 }
@@ -39,6 +39,6 @@ fn answer_number(answer: Listed) -> u32
 pub extern "C" fn siamrung_manners(bytes: &[u8], form: u32, list: &mut [u8]) -> u32
     ensures { GivesNumber (chosen form) bytes.now list.old result list.new }
 {
-    let answer = manners::bytes::list(bytes, Form::numbered(form), list);
+    let answer = manners::bytes::list(bytes, Form::from(form), list);
     answer_number(answer)
 }

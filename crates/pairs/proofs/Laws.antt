@@ -1,4 +1,5 @@
 -- Laws of pairs: how many there are, and what is found for numbers with one pair more. Assumes nothing.
+use Rattle.std.specs.Prelude.{Option, Some}
 use mathlib.Core.Path.{◌≡◌, refl, sym, ap, ◌∙◌}
 use mathlib.Core.Bool.{Bool, true, false, cond}
 use mathlib.Core.Logic.{◌⊎◌, inl, inr, ⊎_elim}
@@ -9,8 +10,6 @@ use lib.Dec.{eqb}
 use lib.ListN.{length, drop, get_or, set}
 use lib.Seq.{drop-drop}
 use borrow.Author.Tests.{eq-eqb, ne_eqb}
-use Rattle.pairs.specs.declared.Found.{Found}
-use Rattle.pairs.specs.declared.Found.TheVariants as F
 use Rattle.pairs.specs.Pairs.{Pair, eight, pairs, pairs_in, find_in, each_from, Slot, slots}
 
 length_pairs : (n : ℕ) (s : List ℕ) → length (pairs n s) ≡ n
@@ -30,37 +29,37 @@ pairs_before k at s = rw (drop-drop 8 at s, drop-drop 16 at s) refl
 -- ---- what is found for numbers, with one pair more
 
 -- a pair of another number leaves everything as it is
-each_other : {X : Type 0} (f : Found → X) (n k : ℕ) (p : Pair) (ps : List Pair) → (p.0 < n) ⊎ (n + k ≤ p.0) → each_from f n k (p ∷ ps) ≡ each_from f n k ps
+each_other : {X : Type 0} (f : Option ℕ → X) (n k : ℕ) (p : Pair) (ps : List Pair) → (p.0 < n) ⊎ (n + k ≤ p.0) → each_from f n k (p ∷ ps) ≡ each_from f n k ps
 unfolding each_from find_in
 each_other f n zero p ps h = refl
 each_other {X} f n (suc k) p ps h =
     let e : eqb p.0 n ≡ false = ne_eqb p.0 n (λ q. ⊎_elim (λ a. omega arith) (λ b. omega arith) h) in
-    ap (λ (b : Bool). f (cond b (F.Value p.1) (find_in n ps)) ∷ each_from f (suc n) k (p ∷ ps)) e
+    ap (λ (b : Bool). f (cond b (Some p.1) (find_in n ps)) ∷ each_from f (suc n) k (p ∷ ps)) e
     ∙ ap (λ (l : List X). f (find_in n ps) ∷ l) (each_other f (suc n) k p ps (⊎_elim (λ a. inl (omega arith)) (λ b. inr (omega arith)) h))
 
 -- one of these numbers has the pair's value
-each_anew : {X : Type 0} (f : Found → X) (n k i : ℕ) (p : Pair) (ps : List Pair) → i < k → n + i ≡ p.0
-    → set (each_from f n k ps) i (f (F.Value p.1)) ≡ each_from f n k (p ∷ ps)
+each_anew : {X : Type 0} (f : Option ℕ → X) (n k i : ℕ) (p : Pair) (ps : List Pair) → i < k → n + i ≡ p.0
+    → set (each_from f n k ps) i (f (Some p.1)) ≡ each_from f n k (p ∷ ps)
 unfolding each_from find_in
 each_anew f n zero i p ps h q = absurd (omega arith)
 each_anew {X} f n (suc k) zero p ps h q =
     let e : eqb p.0 n ≡ true = eq-eqb p.0 n (omega arith) in
-    ap (λ (l : List X). f (F.Value p.1) ∷ l) (sym (each_other f (suc n) k p ps (inl (omega arith))))
-    ∙ ap (λ (b : Bool). f (cond b (F.Value p.1) (find_in n ps)) ∷ each_from f (suc n) k (p ∷ ps)) (sym e)
+    ap (λ (l : List X). f (Some p.1) ∷ l) (sym (each_other f (suc n) k p ps (inl (omega arith))))
+    ∙ ap (λ (b : Bool). f (cond b (Some p.1) (find_in n ps)) ∷ each_from f (suc n) k (p ∷ ps)) (sym e)
 each_anew {X} f n (suc k) (suc i) p ps h q =
     let e : eqb p.0 n ≡ false = ne_eqb p.0 n (λ r. omega arith) in
     ap (λ (l : List X). f (find_in n ps) ∷ l) (each_anew f (suc n) k i p ps (omega arith) (omega arith))
-    ∙ ap (λ (b : Bool). f (cond b (F.Value p.1) (find_in n ps)) ∷ each_from f (suc n) k (p ∷ ps)) (sym e)
+    ∙ ap (λ (b : Bool). f (cond b (Some p.1) (find_in n ps)) ∷ each_from f (suc n) k (p ∷ ps)) (sym e)
 
 -- by the place that a slot names
-pub slot_anew : {X : Type 0} (f : Found → X) (n m v k : ℕ) (ps : List Pair) → Slot n m k → k < slots → set (each_from f n slots ps) k (f (F.Value v)) ≡ each_from f n slots ((m, v) ∷ ps)
+pub slot_anew : {X : Type 0} (f : Option ℕ → X) (n m v k : ℕ) (ps : List Pair) → Slot n m k → k < slots → set (each_from f n slots ps) k (f (Some v)) ≡ each_from f n slots ((m, v) ∷ ps)
 slot_anew f n m v k ps o h = ⊎_elim (λ a. each_anew f n slots k (m, v) ps h a.1) (λ b. absurd (omega (arith, b.0))) o
 
-pub slot_other : {X : Type 0} (f : Found → X) (n m v k : ℕ) (ps : List Pair) → Slot n m k → slots ≤ k → each_from f n slots ((m, v) ∷ ps) ≡ each_from f n slots ps
+pub slot_other : {X : Type 0} (f : Option ℕ → X) (n m v k : ℕ) (ps : List Pair) → Slot n m k → slots ≤ k → each_from f n slots ((m, v) ∷ ps) ≡ each_from f n slots ps
 slot_other f n m v k ps o h = ⊎_elim (λ a. absurd (omega (arith, a.0))) (λ b. each_other f n slots (m, v) ps b.1) o
 
 -- what stands at a place
-pub each_at : {X : Type 0} (f : Found → X) (n k i : ℕ) (d : X) (ps : List Pair) → i < k → get_or (each_from f n k ps) i d ≡ f (find_in (n + i) ps)
+pub each_at : {X : Type 0} (f : Option ℕ → X) (n k i : ℕ) (d : X) (ps : List Pair) → i < k → get_or (each_from f n k ps) i d ≡ f (find_in (n + i) ps)
 unfolding each_from
 each_at f n zero i d ps h = absurd (omega arith)
 each_at f n (suc k) zero d ps h = ap (λ (m : ℕ). f (find_in m ps)) (omega arith)

@@ -1,8 +1,6 @@
 -- Pairs of eight-byte numbers in a list of bytes, high byte first: a number, and the value that goes with it. Definitions only.
-use Rattle.std.specs.Prelude.{ℕ, zero, suc, ◌+◌, ◌/◌, ◌≤◌, ◌<◌, Bool, true, false, cond, ◌≡◌, ◌⊎◌, List, [], ◌∷◌, eqb, length, drop}
+use Rattle.std.specs.Prelude.{ℕ, zero, suc, ◌+◌, ◌/◌, ◌≤◌, ◌<◌, Bool, true, false, cond, ◌≡◌, ◌⊎◌, List, [], ◌∷◌, eqb, length, drop, None, Option, Some}
 use Rattle.bits.specs.Bits.{bits_of}
-use Rattle.pairs.specs.declared.Found.{Found}
-use Rattle.pairs.specs.declared.Found.TheVariants as F
 use Rattle.pairs.specs.declared.Gathered.{Gathered}
 
 abbrev pub Pair : Type 0
@@ -22,21 +20,21 @@ unfoldable pub pairs_in : List ℕ → List Pair
 pairs_in s = pairs (length s / 16) s
 
 -- the value of the first pair with this number
-unfoldable pub find_in : ℕ → List Pair → Found
-find_in n [] = F.Missing
-find_in n (p ∷ ps) = cond (eqb p.0 n) (F.Value p.1) (find_in n ps)
+unfoldable pub find_in : ℕ → List Pair → Option ℕ
+find_in n [] = None
+find_in n (p ∷ ps) = cond (eqb p.0 n) (Some p.1) (find_in n ps)
 
 -- its value; 0 where there is none
-abbrev pub value_of : Found → ℕ
-value_of (F.Value v) = v
-value_of F.Missing = 0
+abbrev pub value_of : Option ℕ → ℕ
+value_of (Some v) = v
+value_of None = 0
 
-abbrev pub is_found : Found → Bool
-is_found (F.Value v) = true
-is_found F.Missing = false
+abbrev pub is_found : Option ℕ → Bool
+is_found (Some v) = true
+is_found None = false
 
 -- what f says of what is found for each of k numbers, n the first
-unfoldable pub each_from : {X : Type 0} → (Found → X) → ℕ → ℕ → List Pair → List X
+unfoldable pub each_from : {X : Type 0} → ((Option ℕ) → X) → ℕ → ℕ → List Pair → List X
 each_from f n zero ps = []
 each_from f n (suc k) ps = f (find_in n ps) ∷ each_from f (suc n) k ps
 

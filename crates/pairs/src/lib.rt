@@ -7,12 +7,6 @@ ghost use Rattle.std.specs.Prelude.{◌≡◌, ◌+◌, ◌%◌, ◌≤◌, eqb,
 ghost use Rattle.bits.specs.Bits.{bits_of};
 ghost use Rattle.pairs.specs.Pairs.{pairs_in, Slot, gathered_from};
 
-#[derive(Clone, Copy)]
-pub enum Found {
-    Value(u64),
-    Missing,
-}
-
 // So many numbers are asked for at once: as many as a report or a field has, whichever has more.
 pub const SLOTS: usize = 37;
 

@@ -1,4 +1,5 @@
 -- From what the items say to the record: every field has its own value back. Assumes nothing.
+use Rattle.std.specs.Prelude.{None, Option, Some}
 use mathlib.Core.Path.{◌≡◌, refl, ap, sym, ◌∙◌}
 use mathlib.Core.Bool.{Bool, true, false, cond}
 use mathlib.Core.List.{List, [], ◌∷◌}
@@ -11,8 +12,6 @@ use lib.IntN.{ℤ, pos, negsuc, nat_abs}
 use lib.ListN.{get_or}
 use Rattle.words.specs.Tests.{all}
 use Rattle.words.proofs.Tests.{picked, by_test}
-use Rattle.pairs.specs.declared.Found.{Found}
-use Rattle.pairs.specs.declared.Found.TheVariants as F
 use Rattle.pairs.specs.Pairs.{Pair, find_in, value_of, is_found, each_from}
 use Rattle.reports.specs.declared.Search.{Search}
 use Rattle.reports.specs.declared.Strobe.{Strobe}
@@ -32,8 +31,6 @@ use Rattle.reports.specs.Altitude.{AltitudeForm}
 use Rattle.reports.specs.Kinds.{kind_of, kind_number, dabs_kind, atcrbs_kind}
 use Rattle.words.specs.Layout.{Field, flag, count, rest, fixed, fitting, fitting_all, fitting_by}
 use Rattle.reports.specs.Layouts.{Fits, layout_of, last_word}
-use Rattle.report_items.specs.declared.items.Item.{Item}
-use Rattle.report_items.specs.declared.items.Item.TheVariants as I
 use Rattle.report_items.specs.Items as N
 use Rattle.report_items.specs.Items.{last, height_items, lookup, item_of}
 use Rattle.report_items.specs.Given.{as_signed, item_of_pairs, item_given, values_in, plain_given, cd_given, mtd_height_given, rdas_height_given, dabs_given, atcrbs_given, built, built_from}
@@ -58,29 +55,29 @@ signed_pos v k e =
 -- ---- what an item counts
 
 -- a flag or a count; an altitude may be none
-abbrev is_count : Item → Bool
-is_count (I.Of (pos k)) = true
-is_count (I.Of (negsuc k)) = false
-is_count I.Missing = false
+abbrev is_count : Option ℤ → Bool
+is_count (Some (pos k)) = true
+is_count (Some (negsuc k)) = false
+is_count None = false
 
-abbrev count_in : Item → ℕ
-count_in (I.Of (pos k)) = k
-count_in (I.Of (negsuc k)) = 0
-count_in I.Missing = 0
+abbrev count_in : Option ℤ → ℕ
+count_in (Some (pos k)) = k
+count_in (Some (negsuc k)) = 0
+count_in None = 0
 
-found_count : (f : Found) (i : Item) → is_count i ≡ true → item_of_pairs f ≡ i → value_of f ≡ count_in i
-found_count (F.Value v) (I.Of (pos k)) h e = let q : as_signed 9223372036854775808 v ≡ pos k = cc in signed_pos v k q
-found_count F.Missing (I.Of (pos k)) h e = let z : ◌≡◌ {A = ℕ} 0 1 = cc in absurd (omega arith)
-found_count f (I.Of (negsuc k)) h e = let z : ◌≡◌ {A = ℕ} 0 1 = cc in absurd (omega arith)
-found_count f I.Missing h e = let z : ◌≡◌ {A = ℕ} 0 1 = cc in absurd (omega arith)
+found_count : (f : Option ℕ) (i : Option ℤ) → is_count i ≡ true → item_of_pairs f ≡ i → value_of f ≡ count_in i
+found_count (Some v) (Some (pos k)) h e = let q : as_signed 9223372036854775808 v ≡ pos k = cc in signed_pos v k q
+found_count None (Some (pos k)) h e = let z : ◌≡◌ {A = ℕ} 0 1 = cc in absurd (omega arith)
+found_count f (Some (negsuc k)) h e = let z : ◌≡◌ {A = ℕ} 0 1 = cc in absurd (omega arith)
+found_count f None h e = let z : ◌≡◌ {A = ℕ} 0 1 = cc in absurd (omega arith)
 
-found_has : (f : Found) (z : ℤ) → item_of_pairs f ≡ I.Of z → is_found f ≡ true
-found_has (F.Value v) z e = refl
-found_has F.Missing z e = let y : ◌≡◌ {A = ℕ} 0 1 = cc in absurd (omega arith)
+found_has : (f : Option ℕ) (z : ℤ) → item_of_pairs f ≡ Some z → is_found f ≡ true
+found_has (Some v) z e = refl
+found_has None z e = let y : ◌≡◌ {A = ℕ} 0 1 = cc in absurd (omega arith)
 
-found_not : (f : Found) → item_of_pairs f ≡ I.Missing → is_found f ≡ false
-found_not (F.Value v) e = let y : ◌≡◌ {A = ℕ} 0 1 = cc in absurd (omega arith)
-found_not F.Missing e = refl
+found_not : (f : Option ℕ) → item_of_pairs f ≡ None → is_found f ≡ false
+found_not (Some v) e = let y : ◌≡◌ {A = ℕ} 0 1 = cc in absurd (omega arith)
+found_not None e = refl
 
 -- a number that sixteen bits hold is held by them
 signed_small : (v : ℕ) (z : ℤ) → InSixteenBits z → as_signed 9223372036854775808 v ≡ z → as_signed 32768 v ≡ z
@@ -99,9 +96,9 @@ signed_small v (negsuc n) s e =
     let m : 18446744073709551615 - v ≡ n = cc in
     high 32768 v (omega arith) (omega arith) ∙ q)
 
-found_small : (f : Found) (z : ℤ) → InSixteenBits z → item_of_pairs f ≡ I.Of z → as_signed 32768 (value_of f) ≡ z
-found_small (F.Value v) z s e = let q : as_signed 9223372036854775808 v ≡ z = cc in signed_small v z s q
-found_small F.Missing z s e = let y : ◌≡◌ {A = ℕ} 0 1 = cc in absurd (omega arith)
+found_small : (f : Option ℕ) (z : ℤ) → InSixteenBits z → item_of_pairs f ≡ Some z → as_signed 32768 (value_of f) ≡ z
+found_small (Some v) z s e = let q : as_signed 9223372036854775808 v ≡ z = cc in signed_small v z s q
+found_small None z s e = let y : ◌≡◌ {A = ℕ} 0 1 = cc in absurd (omega arith)
 
 -- ---- what fits
 
@@ -236,16 +233,16 @@ module _ (form : AltitudeForm) (narrow : FitsSixteenBits form) (ps : List Pair) 
       rw (found_has (find_in N.altitude ps) z a, found_small (find_in N.altitude ps) z (narrow z (in_word (last_word form (Ht.Altitude z)) f 0)) a) refl
   height_back (Ht.Carried n) f r m a c q =
       let small : n < 65536 = omega (arith, in_word (last_word form (Ht.Carried n)) f 0) in
-      simp (found_not (find_in N.altitude ps) a, found_count (find_in N.carried ps) (I.Of (pos n)) refl c, mod-eq_of_lt)
+      simp (found_not (find_in N.altitude ps) a, found_count (find_in N.carried ps) (Some (pos n)) refl c, mod-eq_of_lt)
   height_back (Ht.Cd b n) f r m a c q =
       let small : n.0 < 256 = omega (arith, in_word (last_word form (Ht.Cd b n)) f 0) in
-      simp (found_count (find_in N.mode_c_of ps) (I.Of (pos (cond b 1 0))) refl m, found_count (find_in N.run ps) (I.Of (pos n.0)) refl r, flag_own, mod-eq_of_lt)
+      simp (found_count (find_in N.mode_c_of ps) (Some (pos (cond b 1 0))) refl m, found_count (find_in N.run ps) (Some (pos n.0)) refl r, flag_own, mod-eq_of_lt)
   height_back (Ht.Mtd b n) f r m a c q =
       let small : n < 256 = omega (arith, in_word (last_word form (Ht.Mtd b n)) f 0) in
-      simp (found_count (find_in N.mode_c_of ps) (I.Of (pos (cond b 1 0))) refl m, found_count (find_in N.quality ps) (I.Of (pos n)) refl q, flag_own, mod-eq_of_lt)
+      simp (found_count (find_in N.mode_c_of ps) (Some (pos (cond b 1 0))) refl m, found_count (find_in N.quality ps) (Some (pos n)) refl q, flag_own, mod-eq_of_lt)
   height_back (Ht.Rdas b n) f r m a c q =
       let small : n < 256 = omega (arith, in_word (last_word form (Ht.Rdas b n)) f 0) in
-      simp (found_count (find_in N.mode_c_of ps) (I.Of (pos (cond b 1 0))) refl m, found_count (find_in N.quality ps) (I.Of (pos n)) refl q, flag_own, mod-eq_of_lt)
+      simp (found_count (find_in N.mode_c_of ps) (Some (pos (cond b 1 0))) refl m, found_count (find_in N.quality ps) (Some (pos n)) refl q, flag_own, mod-eq_of_lt)
 
   dabs_built : (h : Height) → built_from (kind_number (dabs_kind h)) ps ≡ R.Dabs (dabs_given (values_in ps) (height_for h))
   unfolding built

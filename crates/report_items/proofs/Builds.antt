@@ -1,4 +1,5 @@
 -- The test of the items, by its outcome, and by what is gathered. Assumes nothing.
+use Rattle.std.specs.Prelude.{None, Option, Some, ℤ}
 use mathlib.Core.Path.{◌≡◌, refl, ap, sym, ◌∙◌}
 use mathlib.Core.Bool.{Bool, true, false, cond}
 use mathlib.Core.List.{List}
@@ -8,15 +9,11 @@ use lib.ListN.{length}
 use native.Mathlib.Nat.{zero-add}
 use borrow.Author.Tests.{eq-eqb, ne_eqb}
 use Rattle.words.proofs.Tests.{picked, passed}
-use Rattle.pairs.specs.declared.Found.{Found}
-use Rattle.pairs.specs.declared.Found.TheVariants as F
 use Rattle.pairs.specs.Pairs.{Pair, find_in, is_found, value_of, slots, gathered_from}
 use Rattle.pairs.proofs.Laws.{each_at}
 use Rattle.reports.specs.declared.Report.{Report}
 use Rattle.report_items.specs.Items.{last, item_of, items_of}
 use Rattle.report_items.specs.Given.{as_signed, item_of_pairs, item_given, item_gathered, same_item, agree_to, agree, built_from, unfit, given_by}
-use Rattle.report_items.specs.declared.items.Item.{Item}
-use Rattle.report_items.specs.declared.items.Item.TheVariants as I
 
 -- ---- the whole test, by its outcome
 
@@ -45,20 +42,20 @@ module _ (kind : ℕ) (ps : List Pair) (r : Report) (is : r ≡ built_from kind 
 -- ---- by what is gathered
 
 -- what is gathered says what the pairs say
-item_from : (f : Found) → cond (is_found f) (I.Of (as_signed (2 ^ 63) (value_of f))) I.Missing ≡ item_of_pairs f
-item_from (F.Value v) = refl
-item_from F.Missing = refl
+item_from : (f : Option ℕ) → cond (is_found f) (Some (as_signed (2 ^ 63) (value_of f))) None ≡ item_of_pairs f
+item_from (Some v) = refl
+item_from None = refl
 
 gathered_is : (ps : List Pair) (n : ℕ) → n ≤ last → item_gathered (gathered_from 0 ps) n ≡ item_given ps n
 unfolding item_gathered gathered_from item_given
 gathered_is ps n h =
     rw (each_at is_found 0 slots n false ps (omega arith), each_at value_of 0 slots n 0 ps (omega arith), zero-add n) (item_from (find_in n ps))
 
-same_to : (m : ℕ) (r : Report) (f g : ℕ → Item) → ((n : ℕ) → n ≤ m → f n ≡ g n) → agree_to m r f ≡ agree_to m r g
+same_to : (m : ℕ) (r : Report) (f g : ℕ → Option ℤ) → ((n : ℕ) → n ≤ m → f n ≡ g n) → agree_to m r f ≡ agree_to m r g
 unfolding agree_to
 same_to zero r f g h = refl
 same_to (suc m) r f g h =
-    ap (λ (x : Item). cond (same_item (item_of r (suc m)) x) (agree_to m r f) false) (h (suc m) (omega arith))
+    ap (λ (x : Option ℤ). cond (same_item (item_of r (suc m)) x) (agree_to m r f) false) (h (suc m) (omega arith))
     ∙ ap (λ (b : Bool). cond (same_item (item_of r (suc m)) (g (suc m))) b false) (same_to m r f g (λ n l. h n (omega arith)))
 
 pub gathered : (r : Report) (ps : List Pair) → agree_to last r (item_gathered (gathered_from 0 ps)) ≡ agree_to last r (item_given ps)

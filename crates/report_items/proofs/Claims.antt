@@ -1,4 +1,5 @@
 -- The claims of specs/Claims.antt: what is given is a report's own kind and items, and nothing else. Assumes nothing.
+use Rattle.std.specs.Prelude.{None, Option, Some}
 use mathlib.Core.Path.{◌≡◌, refl, ap, sym, subst, ◌∙◌}
 use mathlib.Core.Bool.{Bool, true, false, cond}
 use mathlib.Core.List.{List}
@@ -21,8 +22,6 @@ use Rattle.reports.specs.Layouts.{Takes}
 use Rattle.reports.specs.Claims.{InRange}
 use Rattle.reports.proofs.Altitudes.{range_of_each}
 use Rattle.reports.proofs.Demand2.{takes_fits}
-use Rattle.report_items.specs.declared.items.Item.{Item}
-use Rattle.report_items.specs.declared.items.Item.TheVariants as I
 use Rattle.report_items.specs.Items.{altitude, last, items_of, item_of}
 use Rattle.report_items.specs.Given.{item_given, values_in, plain_given, built, built_from, same_item, agree_to, agree, given_by, given, unfit}
 use Rattle.report_items.specs.Claims.{ItemsOf, InSixteenBits, FitsSixteenBits, FormsFit, GivenExactly, NoneIsTaken}
@@ -42,23 +41,23 @@ forms_fit form z h = small form z ((range_of_each form z).0 h)
 
 -- ---- the same item
 
-same_is : (a b : Item) → same_item a b ≡ true → b ≡ a
-same_is (I.Of (pos m)) (I.Of (pos n)) e = ap (λ (k : ℕ). I.Of (pos k)) (sym (eqb-true m n e))
-same_is (I.Of (pos m)) (I.Of (negsuc n)) e = let z : ◌≡◌ {A = ℕ} 0 1 = cc in absurd (omega arith)
-same_is (I.Of (negsuc m)) (I.Of (pos n)) e = let z : ◌≡◌ {A = ℕ} 0 1 = cc in absurd (omega arith)
-same_is (I.Of (negsuc m)) (I.Of (negsuc n)) e = ap (λ (k : ℕ). I.Of (negsuc k)) (sym (eqb-true m n e))
-same_is (I.Of x) I.Missing e = let z : ◌≡◌ {A = ℕ} 0 1 = cc in absurd (omega arith)
-same_is I.Missing (I.Of y) e = let z : ◌≡◌ {A = ℕ} 0 1 = cc in absurd (omega arith)
-same_is I.Missing I.Missing e = refl
+same_is : (a b : Option ℤ) → same_item a b ≡ true → b ≡ a
+same_is (Some (pos m)) (Some (pos n)) e = ap (λ (k : ℕ). Some (pos k)) (sym (eqb-true m n e))
+same_is (Some (pos m)) (Some (negsuc n)) e = let z : ◌≡◌ {A = ℕ} 0 1 = cc in absurd (omega arith)
+same_is (Some (negsuc m)) (Some (pos n)) e = let z : ◌≡◌ {A = ℕ} 0 1 = cc in absurd (omega arith)
+same_is (Some (negsuc m)) (Some (negsuc n)) e = ap (λ (k : ℕ). Some (negsuc k)) (sym (eqb-true m n e))
+same_is (Some x) None e = let z : ◌≡◌ {A = ℕ} 0 1 = cc in absurd (omega arith)
+same_is None (Some y) e = let z : ◌≡◌ {A = ℕ} 0 1 = cc in absurd (omega arith)
+same_is None None e = refl
 
-is_same : (a : Item) → same_item a a ≡ true
-is_same (I.Of (pos n)) = eq-eqb n n refl
-is_same (I.Of (negsuc n)) = eq-eqb n n refl
-is_same I.Missing = refl
+is_same : (a : Option ℤ) → same_item a a ≡ true
+is_same (Some (pos n)) = eq-eqb n n refl
+is_same (Some (negsuc n)) = eq-eqb n n refl
+is_same None = refl
 
 -- ---- number by number
 
-module _ (r : Report) (said : ℕ → Item) where
+module _ (r : Report) (said : ℕ → Option ℤ) where
   each_of : (m : ℕ) → agree_to m r said ≡ true → (n : ℕ) → 0 < n → n ≤ m → said n ≡ item_of r n
   unfolding agree_to
   each_of zero e n h l = absurd (omega arith)

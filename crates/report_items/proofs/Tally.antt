@@ -1,4 +1,5 @@
 -- Items that a report has as they are given, and that are as many as it has, are all that it has. Assumes nothing.
+use Rattle.std.specs.Prelude.{None, Option, Some}
 use Prim.Native.Nat.{ℕ, zero, suc, ◌+◌, ◌-◌, ◌^◌, ◌≤◌, ◌<◌}
 use mathlib.Core.Path.{◌≡◌, refl, sym, ◌∙◌}
 use mathlib.Core.Bool.{Bool, true, false, cond}
@@ -13,47 +14,45 @@ use Rattle.reports.specs.declared.Height.{Height}
 use Rattle.reports.specs.declared.Height.TheVariants as H
 use Rattle.reports.specs.declared.Report.{Report}
 use Rattle.reports.specs.declared.Report.TheVariants as R
-use Rattle.report_items.specs.declared.items.Item.{Item}
-use Rattle.report_items.specs.declared.items.Item.TheVariants as I
 use Rattle.report_items.specs.Items.{last, items_of, item_of, is_of}
 use Rattle.report_items.specs.Given.{as_signed, item_gathered, same_item, agree_to}
 use Rattle.report_items.proofs.Back.{both}
 
 -- how many of the numbers 1 to n something is said of
-unfoldable pub tally_to : ℕ → (ℕ → Item) → ℕ
+unfoldable pub tally_to : ℕ → (ℕ → Option ℤ) → ℕ
 tally_to zero said = 0
 tally_to (suc n) said = is_of (said (suc n)) + tally_to n said
 
 -- what is said is so; nothing may be said
-abbrev pub stands : Item → Item → Bool
-stands own (I.Of z) = same_item own (I.Of z)
-stands own I.Missing = true
+abbrev pub stands : Option ℤ → Option ℤ → Bool
+stands own (Some z) = same_item own (Some z)
+stands own None = true
 
-unfoldable pub stand_to : ℕ → Report → (ℕ → Item) → Bool
+unfoldable pub stand_to : ℕ → Report → (ℕ → Option ℤ) → Bool
 stand_to zero r said = true
 stand_to (suc n) r said = cond (stands (item_of r (suc n)) (said (suc n))) (stand_to n r said) false
 
 -- ---- one number
 
-same_stands : (a b : Item) → same_item a b ≡ true → (stands a b ≡ true) × (is_of a ≡ is_of b)
-same_stands (I.Of x) (I.Of y) e = (e, refl)
-same_stands (I.Of x) I.Missing e = let z : ◌≡◌ {A = ℕ} 0 1 = cc in absurd (omega arith)
-same_stands I.Missing (I.Of y) e = let z : ◌≡◌ {A = ℕ} 0 1 = cc in absurd (omega arith)
-same_stands I.Missing I.Missing e = (refl, refl)
+same_stands : (a b : Option ℤ) → same_item a b ≡ true → (stands a b ≡ true) × (is_of a ≡ is_of b)
+same_stands (Some x) (Some y) e = (e, refl)
+same_stands (Some x) None e = let z : ◌≡◌ {A = ℕ} 0 1 = cc in absurd (omega arith)
+same_stands None (Some y) e = let z : ◌≡◌ {A = ℕ} 0 1 = cc in absurd (omega arith)
+same_stands None None e = (refl, refl)
 
-stands_same : (a b : Item) → stands a b ≡ true → (is_of b ≤ is_of a) × (is_of a ≡ is_of b → same_item a b ≡ true)
-stands_same (I.Of x) (I.Of y) e = (omega arith, λ h. e)
-stands_same (I.Of x) I.Missing e = (omega arith, λ h. absurd (omega arith))
-stands_same I.Missing (I.Of y) e = let z : ◌≡◌ {A = ℕ} 0 1 = cc in absurd (omega arith)
-stands_same I.Missing I.Missing e = (omega arith, λ h. refl)
+stands_same : (a b : Option ℤ) → stands a b ≡ true → (is_of b ≤ is_of a) × (is_of a ≡ is_of b → same_item a b ≡ true)
+stands_same (Some x) (Some y) e = (omega arith, λ h. e)
+stands_same (Some x) None e = (omega arith, λ h. absurd (omega arith))
+stands_same None (Some y) e = let z : ◌≡◌ {A = ℕ} 0 1 = cc in absurd (omega arith)
+stands_same None None e = (omega arith, λ h. refl)
 
 -- of what is gathered
-pub stands_by : (own : Item) (t : Gathered) (n : ℕ)
-    → cond (get_or t.there n false) (same_item own (I.Of (as_signed (2 ^ 63) (get_or t.values n 0)))) true ≡ stands own (item_gathered t n)
+pub stands_by : (own : Option ℤ) (t : Gathered) (n : ℕ)
+    → cond (get_or t.there n false) (same_item own (Some (as_signed (2 ^ 63) (get_or t.values n 0)))) true ≡ stands own (item_gathered t n)
 unfolding item_gathered
 stands_by own t n = go (get_or t.there n false) (as_signed (2 ^ 63) (get_or t.values n 0))
   where
-    go : (b : Bool) (z : ℤ) → cond b (same_item own (I.Of z)) true ≡ stands own (cond b (I.Of z) I.Missing)
+    go : (b : Bool) (z : ℤ) → cond b (same_item own (Some z)) true ≡ stands own (cond b (Some z) None)
     go true z = refl
     go false z = refl
 
@@ -61,13 +60,13 @@ pub one_by : (t : Gathered) (n : ℕ) → cond (get_or t.there n false) 1 0 ≡ 
 unfolding item_gathered
 one_by t n = go (get_or t.there n false) (as_signed (2 ^ 63) (get_or t.values n 0))
   where
-    go : (b : Bool) (z : ℤ) → cond b 1 0 ≡ is_of (cond b (I.Of z) I.Missing)
+    go : (b : Bool) (z : ℤ) → cond b 1 0 ≡ is_of (cond b (Some z) None)
     go true z = refl
     go false z = refl
 
 -- ---- from number to number
 
-module _ (r : Report) (said : ℕ → Item) where
+module _ (r : Report) (said : ℕ → Option ℤ) where
   pub stand_next : (n : ℕ) → 0 < n → stand_to n r said ≡ cond (stands (item_of r n) (said n)) (stand_to (n - 1) r said) false
   unfolding stand_to
   stand_next zero h = absurd (omega arith)
@@ -88,7 +87,7 @@ module _ (r : Report) (said : ℕ → Item) where
 
 -- ---- all of them
 
-module _ (r : Report) (said : ℕ → Item) where
+module _ (r : Report) (said : ℕ → Option ℤ) where
   all_stand : (m : ℕ) → agree_to m r said ≡ true → (stand_to m r said ≡ true) × (tally_to m (item_of r) ≡ tally_to m said)
   unfolding agree_to stand_to tally_to
   all_stand zero e = (refl, refl)
@@ -136,7 +135,7 @@ own_tally (R.Mtd m) = refl
 own_tally (R.Rdas x) = refl
 
 -- the test by what stands and how many is the test of all
-pub by_tally : (r : Report) (said : ℕ → Item) (n : ℕ) → stand_to last r said ≡ true → n ≡ tally_to last said → eqb n (length (items_of r)) ≡ agree_to last r said
+pub by_tally : (r : Report) (said : ℕ → Option ℤ) (n : ℕ) → stand_to last r said ≡ true → n ≡ tally_to last said → eqb n (length (items_of r)) ≡ agree_to last r said
 by_tally r said n s e =
     by_test (agree_to last r said)
     (λ t. eq-eqb n (length (items_of r)) (e ∙ sym (all_stand r said last t).1 ∙ own_tally r) ∙ sym t)
@@ -145,5 +144,5 @@ by_tally r said n s e =
     never : false ≡ true → ⊥
     never h = let z : ◌≡◌ {A = ℕ} 0 1 = cc in omega arith
 
-pub by_one : (r : Report) (said : ℕ → Item) → stand_to last r said ≡ false → agree_to last r said ≡ false
+pub by_one : (r : Report) (said : ℕ → Option ℤ) → stand_to last r said ≡ false → agree_to last r said ≡ false
 by_one r said s = by_test (agree_to last r said) (λ t. sym ((all_stand r said last t).0 ∙ sym t) ∙ s) (λ t. t)

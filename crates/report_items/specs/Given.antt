@@ -1,10 +1,8 @@
 -- The report that a C program gives by a kind's number and items: a list of bytes, sixteen an item. The record is built from the items'
 -- values, whatever they are, and is then held against the items: what is not exactly its own items is no record, and stands for one that
 -- the writer refuses with number 11. Definitions only.
-use Rattle.std.specs.Prelude.{ℕ, zero, suc, ◌-◌, ◌%◌, ◌^◌, Bool, true, false, cond, List, [], ◌∷◌, eqb, ltb, ℤ, pos, negsuc, length, get_or}
+use Rattle.std.specs.Prelude.{ℕ, zero, suc, ◌-◌, ◌%◌, ◌^◌, Bool, true, false, cond, List, [], ◌∷◌, eqb, ltb, ℤ, pos, negsuc, length, get_or, None, Option, Some}
 use Rattle.words.specs.Tests.{all}
-use Rattle.pairs.specs.declared.Found.{Found}
-use Rattle.pairs.specs.declared.Found.TheVariants as F
 use Rattle.pairs.specs.declared.Gathered.{Gathered}
 use Rattle.pairs.specs.Pairs.{Pair, pairs_in, slots, find_in, value_of, is_found, each_from}
 use Rattle.reports.specs.declared.Search.{Search}
@@ -22,8 +20,6 @@ use Rattle.reports.specs.declared.Report.{Report}
 use Rattle.reports.specs.declared.Report.TheVariants as R
 use Rattle.reports.specs.declared.kinds.Kind.TheVariants as K
 use Rattle.reports.specs.Kinds.{kind_number}
-use Rattle.report_items.specs.declared.items.Item.{Item}
-use Rattle.report_items.specs.declared.items.Item.TheVariants as I
 use Rattle.report_items.specs.Items as N
 use Rattle.report_items.specs.Items.{items_of, item_of}
 
@@ -33,17 +29,17 @@ use Rattle.report_items.specs.Items.{items_of, item_of}
 unfoldable pub as_signed : ℕ → ℕ → ℤ
 as_signed h v = cond (ltb v h) (pos v) (cond (ltb (2 ^ 64 - 1 - v) h) (negsuc (2 ^ 64 - 1 - v)) (pos 0))
 
-abbrev pub item_of_pairs : Found → Item
-item_of_pairs (F.Value v) = I.Of (as_signed (2 ^ 63) v)
-item_of_pairs F.Missing = I.Missing
+abbrev pub item_of_pairs : Option ℕ → Option ℤ
+item_of_pairs (Some v) = Some (as_signed (2 ^ 63) v)
+item_of_pairs None = None
 
 -- what is given for an item's number
-unfoldable pub item_given : List Pair → ℕ → Item
+unfoldable pub item_given : List Pair → ℕ → Option ℤ
 item_given ps n = item_of_pairs (find_in n ps)
 
 -- the same of what is gathered for the numbers from 0 on
-unfoldable pub item_gathered : Gathered → ℕ → Item
-item_gathered t n = cond (get_or t.there n false) (I.Of (as_signed (2 ^ 63) (get_or t.values n 0))) I.Missing
+unfoldable pub item_gathered : Gathered → ℕ → Option ℤ
+item_gathered t n = cond (get_or t.there n false) (Some (as_signed (2 ^ 63) (get_or t.values n 0))) None
 
 -- the eight bytes as they stand, for every item's number, and 0 which is none's
 unfoldable pub values_in : List Pair → List ℕ
@@ -230,14 +226,14 @@ same_number (pos m) (negsuc n) = false
 same_number (negsuc m) (pos n) = false
 same_number (negsuc m) (negsuc n) = eqb m n
 
-abbrev pub same_item : Item → Item → Bool
-same_item (I.Of x) (I.Of y) = same_number x y
-same_item (I.Of x) I.Missing = false
-same_item I.Missing (I.Of y) = false
-same_item I.Missing I.Missing = true
+abbrev pub same_item : Option ℤ → Option ℤ → Bool
+same_item (Some x) (Some y) = same_number x y
+same_item (Some x) None = false
+same_item None (Some y) = false
+same_item None None = true
 
 -- for each of the numbers 1 to n the record has what is said of it
-unfoldable pub agree_to : ℕ → Report → (ℕ → Item) → Bool
+unfoldable pub agree_to : ℕ → Report → (ℕ → Option ℤ) → Bool
 agree_to zero r said = true
 agree_to (suc n) r said = cond (same_item (item_of r (suc n)) (said (suc n))) (agree_to n r said) false
 

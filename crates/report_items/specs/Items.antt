@@ -1,12 +1,10 @@
 -- The items of a report by which a C program asks for a field, and the number of each. The document gives none: these are ours, and none is
 -- ever used for another item. Definitions only.
-use Rattle.std.specs.Prelude.{ℕ, Bool, cond, List, [], ◌∷◌, eqb, ℤ, pos}
+use Rattle.std.specs.Prelude.{ℕ, Bool, cond, List, [], ◌∷◌, eqb, ℤ, pos, None, Option, Some}
 use Rattle.reports.specs.declared.Height.{Height}
 use Rattle.reports.specs.declared.Height.TheVariants as H
 use Rattle.reports.specs.declared.Report.{Report}
 use Rattle.reports.specs.declared.Report.TheVariants as R
-use Rattle.report_items.specs.declared.items.Item.{Item}
-use Rattle.report_items.specs.declared.items.Item.TheVariants as I
 
 -- an item's number, and its value
 abbrev pub Entry : Type 0
@@ -154,21 +152,21 @@ items_of (R.Mtd m) = flag test m.test ∷ flag faa m.faa ∷ count range m.range
 items_of (R.Rdas x) = flag test x.test ∷ flag faa x.faa ∷ count range x.range.0 ∷ count azimuth x.azimuth.0 ∷ flag aims x.aims ∷ count time x.time.0 ∷ count file x.file ∷ count quality x.quality ∷ flag false_target_flag x.false_target ∷ []
 
 -- the value of an item, where the list has it
-abbrev pub lookup : ℕ → List Entry → Item
-lookup n [] = I.Missing
-lookup n (e ∷ es) = cond (eqb n e.0) (I.Of e.1) (lookup n es)
+abbrev pub lookup : ℕ → List Entry → Option ℤ
+lookup n [] = None
+lookup n (e ∷ es) = cond (eqb n e.0) (Some e.1) (lookup n es)
 
-abbrev pub item_of : Report → ℕ → Item
+abbrev pub item_of : Report → ℕ → Option ℤ
 item_of r n = lookup n (items_of r)
 
 -- ---- an item as one number
 
 -- 1 where there is a value
-abbrev pub is_of : Item → ℕ
-is_of (I.Of z) = 1
-is_of I.Missing = 0
+abbrev pub is_of : Option ℤ → ℕ
+is_of (Some z) = 1
+is_of None = 0
 
 -- 0 where there is none
-abbrev pub value_of : Item → ℤ
-value_of (I.Of z) = z
-value_of I.Missing = pos 0
+abbrev pub value_of : Option ℤ → ℤ
+value_of (Some z) = z
+value_of None = pos 0

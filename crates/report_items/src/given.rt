@@ -8,7 +8,7 @@ ghost use Rattle.pairs.specs.Pairs.{pairs_in};
 ghost use Rattle.report_items.specs.Items.{last, item_of, items_of};
 ghost use Rattle.report_items.specs.Given.{as_signed, item_gathered, search_given, strobe_given, map_given, status_given, rtqc_given, plain_given, cd_given, mtd_height_given, rdas_height_given, dabs_given, atcrbs_given, mtd_given, rdas_given, unfit, built, same_number, same_item, agree_to, given_by, given};
 
-use crate::items::{Item, item_of};
+use crate::items::item_of;
 use crate::numbers;
 use measures::{CoarseAzimuth, CoarseRange, FineAzimuth, FineRange, RunLength, Time};
 use pairs::{Gathered, SLOTS};
@@ -319,18 +319,18 @@ fn same_number(x: i64, y: i64) -> bool
 }
 
 // An item is there and has this value.
-fn same(own: Item, y: i64) -> bool
-    ensures { result ≡ same_item own (Item.Of y) }
+fn same(own: Option<i64>, y: i64) -> bool
+    ensures { result ≡ same_item own (Some y) }
 {
     match own {
-        Item::Of(x) => same_number(x, y),
-        Item::Missing => false,
+        Some(x) => same_number(x, y),
+        None => false,
     }
 }
 
 // A value that is given for a number is what the report has there.
 fn stands(report: Report, n: usize, there: bool, v: u64) -> bool
-    ensures { result ≡ cond there (same_item (item_of report n) (Item.Of (as_signed (2 ^ 63) v))) true }
+    ensures { result ≡ cond there (same_item (item_of report n) (Some (as_signed (2 ^ 63) v))) true }
 {
     if there {
         same(item_of(report, n), signed_of(v))

@@ -9,87 +9,81 @@ use crate::numbers;
 use measures::RunLength;
 use reports::{Atcrbs, Dabs, Height, Map, Mtd, Rdas, Report, Rtqc, Search, Status, Strobe};
 
-#[derive(Clone, Copy)]
-pub enum Item {
-    Of(i64),
-    Missing,
-}
-
 // ---- values
 
-fn flag(b: bool) -> Item
-    ensures { result ≡ Item.Of (pos (cond b 1 0)) }
+fn flag(b: bool) -> Option<i64>
+    ensures { result ≡ Some (pos (cond b 1 0)) }
 {
-    if b { Item::Of(1) } else { Item::Of(0) }
+    if b { Some(1) } else { Some(0) }
 }
 
 // A count, by its width.
-fn small(n: u8) -> Item
-    ensures { result ≡ Item.Of (pos n) }
+fn small(n: u8) -> Option<i64>
+    ensures { result ≡ Some (pos n) }
 {
-    Item::Of(n as i64)
+    Some(n as i64)
 }
 
-fn count(n: u16) -> Item
-    ensures { result ≡ Item.Of (pos n) }
+fn count(n: u16) -> Option<i64>
+    ensures { result ≡ Some (pos n) }
 {
-    Item::Of(n as i64)
+    Some(n as i64)
 }
 
-fn large(n: u32) -> Item
-    ensures { result ≡ Item.Of (pos n) }
+fn large(n: u32) -> Option<i64>
+    ensures { result ≡ Some (pos n) }
 {
-    Item::Of(n as i64)
+    Some(n as i64)
 }
 
-fn signed(z: i16) -> Item
-    ensures { result ≡ Item.Of z }
+fn signed(z: i16) -> Option<i64>
+    ensures { result ≡ Some z }
 {
-    Item::Of(z as i64)
+    Some(z as i64)
 }
 
 // ---- bits 79 to 90
 
-fn altitude_item(z: i16, item: usize) -> Item
+fn altitude_item(z: i16, item: usize) -> Option<i64>
     ensures { result ≡ lookup item (height_items (Ht.Altitude z)) }
 {
     match item {
         numbers::ALTITUDE => signed(z),
-        _ => Item::Missing,
+        _ => None,
     }
 }
 
-fn carried_item(n: u16, item: usize) -> Item
+fn carried_item(n: u16, item: usize) -> Option<i64>
     ensures { result ≡ lookup item (height_items (Ht.Carried n)) }
 {
     match item {
         numbers::CARRIED => count(n),
-        _ => Item::Missing,
+        _ => None,
     }
 }
 
-fn cd_item(mode_c: bool, run: RunLength, item: usize) -> Item
+fn cd_item(mode_c: bool, run: RunLength, item: usize) -> Option<i64>
     ensures { result ≡ lookup item (height_items (Ht.Cd mode_c run)) }
 {
     match item {
         numbers::MODE_C => flag(mode_c),
         numbers::RUN => small(run.0),
-        _ => Item::Missing,
+        _ => None,
     }
 }
 
 // An MTD and an RDAS have the same items.
-fn quality_item(mode_c: bool, quality: u8, item: usize) -> Item
+fn quality_item(mode_c: bool, quality: u8, item: usize) -> Option<i64>
     ensures { result ≡ lookup item (height_items (Ht.Mtd mode_c quality)) }
 {
     match item {
         numbers::MODE_C => flag(mode_c),
         numbers::QUALITY => small(quality),
-        _ => Item::Missing,
+        _ => None,
     }
 }
 
-fn height_item(h: Height, item: usize) -> Item
+fn height_item(h: Height, item: usize) -> Option<i64>
     ensures { result ≡ lookup item (height_items h) }
 {
     match h {
@@ -103,7 +97,7 @@ fn height_item(h: Height, item: usize) -> Item
 
 // ---- four words
 
-fn search_item(s: Search, item: usize) -> Item
+fn search_item(s: Search, item: usize) -> Option<i64>
     ensures { result ≡ item_of (R.Search s) item }
 {
     match item {
@@ -116,11 +110,11 @@ fn search_item(s: Search, item: usize) -> Item
         numbers::AIMS_CODE => small(s.code),
         numbers::RUN => small(s.run.0),
         numbers::TIME => small(s.time.0),
-        _ => Item::Missing,
+        _ => None,
     }
 }
 
-fn strobe_item(s: Strobe, item: usize) -> Item
+fn strobe_item(s: Strobe, item: usize) -> Option<i64>
     ensures { result ≡ item_of (R.Strobe s) item }
 {
     match item {
@@ -131,11 +125,11 @@ fn strobe_item(s: Strobe, item: usize) -> Item
         numbers::AZIMUTH => count(s.azimuth.0),
         numbers::RUN => small(s.run.0),
         numbers::TIME => small(s.time.0),
-        _ => Item::Missing,
+        _ => None,
     }
 }
 
-fn map_item(m: Map, item: usize) -> Item
+fn map_item(m: Map, item: usize) -> Option<i64>
     ensures { result ≡ item_of (R.Map m) item }
 {
     match item {
@@ -146,11 +140,11 @@ fn map_item(m: Map, item: usize) -> Item
         numbers::START => count(m.start.0),
         numbers::AZIMUTH => count(m.azimuth.0),
         numbers::STOP => count(m.stop.0),
-        _ => Item::Missing,
+        _ => None,
     }
 }
 
-fn status_item(s: Status, item: usize) -> Item
+fn status_item(s: Status, item: usize) -> Option<i64>
     ensures { result ≡ item_of (R.Status s) item }
 {
     match item {
@@ -160,11 +154,11 @@ fn status_item(s: Status, item: usize) -> Item
         numbers::SECOND => count(s.second),
         numbers::THIRD => count(s.third),
         numbers::FOURTH => count(s.fourth),
-        _ => Item::Missing,
+        _ => None,
     }
 }
 
-fn rtqc_item(s: Rtqc, item: usize) -> Item
+fn rtqc_item(s: Rtqc, item: usize) -> Option<i64>
     ensures { result ≡ item_of (R.Rtqc s) item }
 {
     match item {
@@ -174,13 +168,13 @@ fn rtqc_item(s: Rtqc, item: usize) -> Item
         numbers::AZIMUTH => count(s.azimuth.0),
         numbers::RUN => small(s.run.0),
         numbers::TIME => small(s.time.0),
-        _ => Item::Missing,
+        _ => None,
     }
 }
 
 // ---- seven words
 
-fn dabs_item(d: Dabs, item: usize) -> Item
+fn dabs_item(d: Dabs, item: usize) -> Option<i64>
     ensures { result ≡ item_of (R.Dabs d) item }
 {
     let height = d.height;
@@ -202,7 +196,7 @@ fn dabs_item(d: Dabs, item: usize) -> Item
     }
 }
 
-fn atcrbs_item(a: Atcrbs, item: usize) -> Item
+fn atcrbs_item(a: Atcrbs, item: usize) -> Option<i64>
     ensures { result ≡ item_of (R.Atcrbs a) item }
 {
     let height = a.height;
@@ -227,7 +221,7 @@ fn atcrbs_item(a: Atcrbs, item: usize) -> Item
     }
 }
 
-fn mtd_item(m: Mtd, item: usize) -> Item
+fn mtd_item(m: Mtd, item: usize) -> Option<i64>
     ensures { result ≡ item_of (R.Mtd m) item }
 {
     match item {
@@ -244,11 +238,11 @@ fn mtd_item(m: Mtd, item: usize) -> Item
         numbers::CONFIDENCE => small(m.confidence),
         numbers::FALSE_TARGET => flag(m.false_target),
         numbers::GROUND => flag(m.ground_traffic),
-        _ => Item::Missing,
+        _ => None,
     }
 }
 
-fn rdas_item(x: Rdas, item: usize) -> Item
+fn rdas_item(x: Rdas, item: usize) -> Option<i64>
     ensures { result ≡ item_of (R.Rdas x) item }
 {
     match item {
@@ -261,11 +255,11 @@ fn rdas_item(x: Rdas, item: usize) -> Item
         numbers::FILE => count(x.file),
         numbers::QUALITY => small(x.quality),
         numbers::FALSE_TARGET => flag(x.false_target),
-        _ => Item::Missing,
+        _ => None,
     }
 }
 
-pub fn item_of(report: Report, item: usize) -> Item
+pub fn item_of(report: Report, item: usize) -> Option<i64>
     ensures { result ≡ item_of report item }
 {
     match report {

@@ -14,7 +14,7 @@ ghost use Rattle.rows.specs.Rows.{first_of};
 use measures::RunLength;
 use refusals::LineRefusal;
 use reports::altitude::Form;
-use reports::{Height, Report, RunAnswer, forms};
+use reports::{Height, Report, RunRefusal, forms};
 use words::weights::*;
 
 mod altitude; // altitude.rt: the altitude of twelve bits, in each form
@@ -272,23 +272,41 @@ fn is_minus_zero(a: u16, g: u16, form: Form) -> bool
 // ---- the answer
 
 // The answer to words of a known form, as many as it has.
-fn judge_words(a: u16, b: u16, c: u16, d: u16, e: u16, f: u16, g: u16, form: Form) -> RunAnswer
+fn judge_words(
+    a: u16,
+    b: u16,
+    c: u16,
+    d: u16,
+    e: u16,
+    f: u16,
+    g: u16,
+    form: Form,
+) -> Result<Report, RunRefusal>
     requires { unknown_form (a ∷ []) ≡ false }
-    ensures { result ≡ first_of (last_rows (form_of form) (a ∷ b ∷ c ∷ d ∷ e ∷ f ∷ g ∷ [])) (RunAnswer.Accepted (report_of (form_of form) (a ∷ b ∷ c ∷ d ∷ e ∷ f ∷ g ∷ []))) }
+    ensures { result ≡ first_of (last_rows (form_of form) (a ∷ b ∷ c ∷ d ∷ e ∷ f ∷ g ∷ [])) (Ok (report_of (form_of form) (a ∷ b ∷ c ∷ d ∷ e ∷ f ∷ g ∷ []))) }
 {
     if is_unassigned(a, g) {
-        return RunAnswer::Refused(LineRefusal::UnassignedRadar, 0);
+        return Err(RunRefusal {
+            why: LineRefusal::UnassignedRadar,
+            offset: 0,
+        });
     }
     let content = content_of(a, b, c, d, e, f, g, form);
     let spare = content.spare;
     if spare != 0 {
-        return RunAnswer::Refused(LineRefusal::SpareBitSet, 0);
+        return Err(RunRefusal {
+            why: LineRefusal::SpareBitSet,
+            offset: 0,
+        });
     }
     if is_minus_zero(a, g, form) {
-        return RunAnswer::Refused(LineRefusal::MinusZero, 0);
+        return Err(RunRefusal {
+            why: LineRefusal::MinusZero,
+            offset: 0,
+        });
     }
     let report = content.report;
-    RunAnswer::Accepted(report)
+    Ok(report)
 }
 
 // The answer to a run of `n` words whose first seven are given, with 0 for those past its end; its first word that is too wide is at
@@ -306,20 +324,32 @@ pub fn judge(
     too_wide: usize,
     even: usize,
     form: Form,
-) -> RunAnswer
+) -> Result<Report, RunRefusal>
     ensures { result ≡ judged (form_of form) (a ∷ b ∷ c ∷ d ∷ e ∷ f ∷ g ∷ []) n too_wide even }
 {
     if too_wide < n {
-        return RunAnswer::Refused(LineRefusal::WordTooWide, too_wide);
+        return Err(RunRefusal {
+            why: LineRefusal::WordTooWide,
+            offset: too_wide,
+        });
     }
     if even < n {
-        return RunAnswer::Refused(LineRefusal::EvenWord, even);
+        return Err(RunRefusal {
+            why: LineRefusal::EvenWord,
+            offset: even,
+        });
     }
     if is_unknown_form(a) {
-        return RunAnswer::Refused(LineRefusal::UnknownForm, 0);
+        return Err(RunRefusal {
+            why: LineRefusal::UnknownForm,
+            offset: 0,
+        });
     }
     if n != word_count(a) {
-        return RunAnswer::Refused(LineRefusal::WrongLength, 0);
+        return Err(RunRefusal {
+            why: LineRefusal::WrongLength,
+            offset: 0,
+        });
     }
     judge_words(a, b, c, d, e, f, g, form)
 }

@@ -1,5 +1,6 @@
 -- The words that the writer makes of a layout's data are the layout's words where every value fits, and 11 where one does not.
 -- Assumes nothing.
+use Rattle.std.specs.Prelude.{Err, Result}
 use Prim.Native.Nat.{ℕ, ◌+◌, ◌/◌, ◌≤◌}
 use mathlib.Core.Path.{◌≡◌, refl, ◌∙◌}
 use mathlib.Core.Bool.{Bool, true, false, cond}
@@ -14,13 +15,14 @@ use Rattle.words.specs.Layout.{Field, span, joined, fitting_all, words_by, fitti
 use Rattle.words.proofs.Layouts.{both, joined_small}
 use Rattle.reports.specs.declared.Report.{Report}
 use Rattle.reports.specs.declared.Report.TheVariants as R
-use Rattle.reports.specs.declared.Written.{Written}
-use Rattle.reports.specs.declared.Written.TheVariants as W
 use Rattle.reports.specs.Altitude.{AltitudeForm}
 use Rattle.reports.specs.Layouts.{layout_of, as_written, written}
 use Rattle.reports.proofs.Widths.{twelve}
 use Rattle.report_writer.specs.Data.{data_or_more, data_by, from_data}
 use Rattle.report_writer.proofs.Overruns.{fit_data, unfit_data}
+use Rattle.refusals.specs.declared.LineRefusal.{LineRefusal}
+use Rattle.reports.specs.declared.Words.{Words}
+use Rattle.reports.specs.declared.Words.TheVariants.{Four, Seven}
 
 -- ---- what the numbers have above 4095
 
@@ -58,14 +60,14 @@ unfit_overs (fs ∷ l) h = go (fitting_all fs) refl (λ k. unfit_overs l k)
 -- ---- four words, and seven
 
 abbrev Made : List (List Field) → Type 0
-Made l = from_data (data_by l) ≡ cond (fitting_by l) (as_written (words_by l)) (W.Refused ValueTooLarge)
+Made l = from_data (data_by l) ≡ cond (fitting_by l) (as_written (words_by l)) (Err ValueTooLarge)
 
 -- where n is what the numbers have above 4095: what is made where that is 0 is made where every value fits
-sorted : (l : List (List Field)) (n : ℕ) (x y : Written) → twelve_each l ≡ true → n ≡ overs l → (Each l → x ≡ y)
-    → cond (eqb n 0) x (W.Refused ValueTooLarge) ≡ cond (fitting_by l) y (W.Refused ValueTooLarge)
+sorted : (l : List (List Field)) (n : ℕ) (x y : Result Words LineRefusal) → twelve_each l ≡ true → n ≡ overs l → (Each l → x ≡ y)
+    → cond (eqb n 0) x (Err ValueTooLarge) ≡ cond (fitting_by l) y (Err ValueTooLarge)
 sorted l n x y t e same = go (fitting_by l) refl
   where
-    go : (b : Bool) → fitting_by l ≡ b → cond (eqb n 0) x (W.Refused ValueTooLarge) ≡ cond b y (W.Refused ValueTooLarge)
+    go : (b : Bool) → fitting_by l ≡ b → cond (eqb n 0) x (Err ValueTooLarge) ≡ cond b y (Err ValueTooLarge)
     go true h = rw (eq-eqb n 0 (e ∙ fit_overs l t h)) (same (fit_each l h))
     go false h = rw (ne_eqb n 0 (λ z. omega (arith, unfit_overs l h)))
 
@@ -73,13 +75,13 @@ four_made : (a b c d : List Field) → twelve_each (a ∷ b ∷ c ∷ d ∷ []) 
 unfolding overs Each
 four_made a b c d t =
     sorted (a ∷ b ∷ c ∷ d ∷ []) (data_or_more a / 4096 + data_or_more b / 4096 + data_or_more c / 4096 + data_or_more d / 4096) _ _ t (omega arith)
-    (λ k i. W.Four (word_of (k.0 i)) (word_of (k.1.0 i)) (word_of (k.1.1.0 i)) (word_of (k.1.1.1.0 i)))
+    (λ k i. Ok (Four (word_of (k.0 i)) (word_of (k.1.0 i)) (word_of (k.1.1.0 i)) (word_of (k.1.1.1.0 i)))
 
 seven_made : (a b c d e f g : List Field) → twelve_each (a ∷ b ∷ c ∷ d ∷ e ∷ f ∷ g ∷ []) ≡ true → Made (a ∷ b ∷ c ∷ d ∷ e ∷ f ∷ g ∷ [])
 unfolding overs Each
 seven_made a b c d e f g t =
     sorted (a ∷ b ∷ c ∷ d ∷ e ∷ f ∷ g ∷ []) (data_or_more a / 4096 + data_or_more b / 4096 + data_or_more c / 4096 + data_or_more d / 4096 + data_or_more e / 4096 + data_or_more f / 4096 + data_or_more g / 4096) _ _ t (omega arith)
-    (λ k i. W.Seven (word_of (k.0 i)) (word_of (k.1.0 i)) (word_of (k.1.1.0 i)) (word_of (k.1.1.1.0 i)) (word_of (k.1.1.1.1.0 i)) (word_of (k.1.1.1.1.1.0 i)) (word_of (k.1.1.1.1.1.1.0 i)))
+    (λ k i. Ok (Seven (word_of (k.0 i)) (word_of (k.1.0 i)) (word_of (k.1.1.0 i)) (word_of (k.1.1.1.0 i)) (word_of (k.1.1.1.1.0 i)) (word_of (k.1.1.1.1.1.0 i)) (word_of (k.1.1.1.1.1.1.0 i)))
 
 -- ---- every report
 

@@ -14,7 +14,7 @@ ghost use Rattle.report_writer.specs.Data.{data_or_more, data_by, from_data};
 use refusals::LineRefusal;
 use reports::altitude::Form;
 use reports::{
-    Atcrbs, Dabs, Height, Map, Mtd, Rdas, Report, Rtqc, Search, Status, Strobe, Written, forms,
+    Atcrbs, Dabs, Height, Map, Mtd, Rdas, Report, Rtqc, Search, Status, Strobe, Words, forms,
 };
 use weights::*;
 
@@ -445,17 +445,17 @@ fn word_of(data: u32) -> u16
     words::word(data as u16) as u16
 }
 
-fn four_words(a: u32, b: u32, c: u32, d: u32) -> Written
+fn four_words(a: u32, b: u32, c: u32, d: u32) -> Result<Words, LineRefusal>
     ensures { result ≡ from_data (Data.Four a b c d) }
 {
     let over = a / TOO_LARGE + b / TOO_LARGE + c / TOO_LARGE + d / TOO_LARGE;
     if over != 0 {
-        return Written::Refused(LineRefusal::ValueTooLarge);
+        return Err(LineRefusal::ValueTooLarge);
     }
-    Written::Four(word_of(a), word_of(b), word_of(c), word_of(d))
+    Ok(Words::Four([word_of(a), word_of(b), word_of(c), word_of(d)]))
 }
 
-fn seven_words(a: u32, b: u32, c: u32, d: u32, e: u32, f: u32, g: u32) -> Written
+fn seven_words(a: u32, b: u32, c: u32, d: u32, e: u32, f: u32, g: u32) -> Result<Words, LineRefusal>
     ensures { result ≡ from_data (Data.Seven a b c d e f g) }
 {
     let over = a / TOO_LARGE
@@ -466,9 +466,9 @@ fn seven_words(a: u32, b: u32, c: u32, d: u32, e: u32, f: u32, g: u32) -> Writte
         + f / TOO_LARGE
         + g / TOO_LARGE;
     if over != 0 {
-        return Written::Refused(LineRefusal::ValueTooLarge);
+        return Err(LineRefusal::ValueTooLarge);
     }
-    Written::Seven(
+    Ok(Words::Seven([
         word_of(a),
         word_of(b),
         word_of(c),
@@ -476,11 +476,11 @@ fn seven_words(a: u32, b: u32, c: u32, d: u32, e: u32, f: u32, g: u32) -> Writte
         word_of(e),
         word_of(f),
         word_of(g),
-    )
+    ]))
 }
 
 // A report's words, its altitude in the form; or refusal 11.
-pub fn words_of(report: Report, form: Form) -> Written
+pub fn words_of(report: Report, form: Form) -> Result<Words, LineRefusal>
     ensures { result ≡ written (form_of form) report }
 {
     let data = data_of(report, form);

@@ -1,6 +1,7 @@
 -- Demand 2 of reports: a run is accepted as r exactly when its words are those of r, and r's values fit.
 -- A run that passes the tests holds the fields of what it is read as, and the other way round (Four, Seven); that words hold the fields of a
 -- layout exactly when they are its words is one law of `words`. Assumes nothing.
+use Rattle.std.specs.Prelude.{Err, Ok}
 use Prim.Native.Nat.{ℕ}
 use mathlib.Core.Path.{◌≡◌, refl, ap, sym, ◌∙◌, subst}
 use mathlib.Core.Bool.{Bool, true, false, cond}
@@ -15,8 +16,6 @@ use Rattle.words.specs.Layout.{Laid, LaidFrom}
 use Rattle.words.proofs.Layouts as words
 use Rattle.reports.specs.declared.Report.{Report}
 use Rattle.reports.specs.declared.Report.TheVariants as R
-use Rattle.reports.specs.declared.RunAnswer.TheVariants.{Accepted}
-use Rattle.reports.specs.declared.Written.TheVariants as W
 use Rattle.reports.specs.Altitude.{AltitudeForm, Sound}
 use Rattle.reports.specs.Forms.{is_seven, word_count, is_search, is_strobe, is_status, is_map, is_dabs, is_mtd_search, is_rdas_search}
 use Rattle.reports.specs.Records.{four_of, seven_of, report_of}
@@ -149,7 +148,7 @@ demand_2 form sound ws r = (
       subst (λ (x : Report). (ws ≡ words_of form x) × Fits form x) k.1 (layout_words form sound ws k.0),
   λ h.
       let k = words_read form sound r h.1 in
-      subst (λ (l : List ℕ). read_run form l ≡ Accepted r) (sym h.0) (layout_accepted form (words_of form r) k.0 ∙ ap Accepted k.1),
+      subst (λ (l : List ℕ). read_run form l ≡ Ok r) (sym h.0) (layout_accepted form (words_of form r) k.0 ∙ ap Ok k.1),
 )
 
 -- ---- what follows from it
@@ -161,7 +160,7 @@ layout_is_words form sound ws = (
 )
 
 taken_written : (form : AltitudeForm) (r : Report) → Takes form r → written form r ≡ as_written (words_of form r)
-taken_written form r t = ap (λ (b : Bool). cond b (as_written (words_of form r)) (W.Refused ValueTooLarge)) t
+taken_written form r t = ap (λ (b : Bool). cond b (as_written (words_of form r)) (Err ValueTooLarge)) t
 
 pub written_again : claims.WrittenAgain
 written_again form sound ws r h =

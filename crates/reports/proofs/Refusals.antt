@@ -1,5 +1,6 @@
 -- Each refusal is given exactly under its condition: the first row of the table that holds answers. And the reader needs seven words.
 -- Assumes nothing.
+use Rattle.std.specs.Prelude.{Ok, Result}
 use Prim.Native.Nat.{ℕ}
 use mathlib.Core.Path.{◌≡◌, refl}
 use mathlib.Core.Logic.{◌↔◌}
@@ -10,27 +11,31 @@ use Rattle.rows.proofs.Claims as law
 use Rattle.words.specs.Word.{wider_than_a_word, even, first}
 use Rattle.words.proofs.Faults.{first_good, good_first, not_too_wide, not_even}
 use Rattle.reports.specs.declared.Report.{Report}
-use Rattle.reports.specs.declared.RunAnswer.{RunAnswer}
-use Rattle.reports.specs.declared.RunAnswer.TheVariants.{Accepted, Refused}
 use Rattle.reports.specs.Altitude.{AltitudeForm}
 use Rattle.reports.specs.Records.{height_of, four_of, seven_of, report_of}
 use Rattle.reports.specs.Conditions.{four_zeros, height_spares, seven_spares, zeros, HasLayout}
 use Rattle.reports.specs.Runs.{table_of, read_run, is_accepted}
 use Rattle.reports.specs.Claims.{RefusedExactly, AcceptedExactly, FirstSeven, JudgedIsRead}
+use Rattle.reports.specs.declared.RunRefusal.{RunRefusal}
+use Rattle.reports.specs.Runs.{refused_at}
 
 -- ---- a refusal
 
 pub refused_exactly : RefusedExactly
-refused_exactly form ws q o = law.refused_exactly RunAnswer is_accepted (table_of form ws) (Accepted (report_of form ws)) (Refused q o) refl refl
+refused_exactly form ws q o = law.refused_exactly (Result Report RunRefusal) is_accepted (table_of form ws) (Ok (report_of form ws)) (refused_at q o) refl refl
 
 -- ---- a report
 
-accepted_by_rows : (form : AltitudeForm) (ws : List ℕ) (r : Report) → (read_run form ws ≡ Accepted r) ↔ (NoneHolds (table_of form ws) × (Accepted (report_of form ws) ≡ Accepted r))
+-- a report as an answer, so that its type is known
+abbrev accepted_as : Report → Result Report RunRefusal
+accepted_as r = Ok r
+
+accepted_by_rows : (form : AltitudeForm) (ws : List ℕ) (r : Report) → (read_run form ws ≡ Ok r) ↔ (NoneHolds (table_of form ws) × (accepted_as (report_of form ws) ≡ Ok r))
 accepted_by_rows form ws r =
-    law.accepted_exactly RunAnswer is_accepted (table_of form ws) (Accepted (report_of form ws)) (Accepted r) (refl, (refl, (refl, (refl, (refl, (refl, (refl, tt))))))) refl
+    law.accepted_exactly (Result Report RunRefusal) is_accepted (table_of form ws) (Ok (report_of form ws)) (Ok r) (refl, (refl, (refl, (refl, (refl, (refl, (refl, tt))))))) refl
 
 -- an accepted run has a layout, and is what it is read as
-pub accepted_layout : (form : AltitudeForm) (ws : List ℕ) (r : Report) → read_run form ws ≡ Accepted r → HasLayout form ws × (report_of form ws ≡ r)
+pub accepted_layout : (form : AltitudeForm) (ws : List ℕ) (r : Report) → read_run form ws ≡ Ok r → HasLayout form ws × (report_of form ws ≡ r)
 accepted_layout form ws r h =
     let k = (accepted_by_rows form ws r).0 h in
     let n = k.0 in
@@ -46,7 +51,7 @@ accepted_layout form ws r h =
       cc,
     )
 
-pub layout_accepted : (form : AltitudeForm) (ws : List ℕ) → HasLayout form ws → read_run form ws ≡ Accepted (report_of form ws)
+pub layout_accepted : (form : AltitudeForm) (ws : List ℕ) → HasLayout form ws → read_run form ws ≡ Ok (report_of form ws)
 layout_accepted form ws h =
     (accepted_by_rows form ws (report_of form ws)).1
     ((good_first wider_than_a_word not_too_wide ws h.good, (good_first even not_even ws h.good, (h.known, (h.whole, (h.assigned, (h.spares, (h.altitude, tt))))))), refl)

@@ -1,11 +1,10 @@
 -- What is claimed of the forms of the altitude, and of reports in any sound form: demand 2, and each refusal exactly under its condition. Statements
 -- only; proofs/Claims.antt, Altitudes.antt, Demand2.antt and Refusals.antt prove them.
-use Rattle.std.specs.Prelude.{ℕ, ◌≤◌, ◌<◌, ◌≡◌, true, false, List, [], ◌∷◌, ◌↔◌, ◌⊎◌, ℤ, pos, negsuc, length, get_or}
+use Rattle.std.specs.Prelude.{ℕ, ◌≤◌, ◌<◌, ◌≡◌, true, false, List, [], ◌∷◌, ◌↔◌, ◌⊎◌, ℤ, pos, negsuc, length, get_or, Ok}
 use Rattle.rows.specs.Claims.{FirstIs}
 use Rattle.refusals.specs.declared.LineRefusal.{LineRefusal}
 use Rattle.words.specs.Word.{wider_than_a_word, even, first}
 use Rattle.reports.specs.declared.Report.{Report}
-use Rattle.reports.specs.declared.RunAnswer.TheVariants.{Accepted, Refused}
 use Rattle.reports.specs.declared.altitude.Form.{Form}
 use Rattle.reports.specs.declared.altitude.Form.TheVariants as F
 use Rattle.reports.specs.Altitude.{AltitudeForm, Sound, sign_magnitude, twos_complement, form_of, form_number, chosen}
@@ -13,6 +12,7 @@ use Rattle.words.specs.Layout.{twelve_each}
 use Rattle.reports.specs.Layouts.{layout_of, words_of, Fits, Takes, as_written, written}
 use Rattle.reports.specs.Conditions.{HasLayout}
 use Rattle.reports.specs.Runs.{table_of, judged, read_run}
+use Rattle.reports.specs.Runs.{refused_at}
 
 -- ---- the forms of the altitude
 
@@ -48,14 +48,14 @@ pub record NumbersOfForms : Type 0 where
 
 -- a run is the report r exactly when its words are those of r, and r's values fit their fields
 abbrev pub Demand2In : AltitudeForm → Type 0
-Demand2In form = (ws : List ℕ) (r : Report) → (read_run form ws ≡ Accepted r) ↔ ((ws ≡ words_of form r) × Fits form r)
+Demand2In form = (ws : List ℕ) (r : Report) → (read_run form ws ≡ Ok r) ↔ ((ws ≡ words_of form r) × Fits form r)
 
 abbrev pub Demand2 : Type 0
 Demand2 = (form : AltitudeForm) → Sound form → Demand2In form
 
 -- a run is accepted exactly when it has one of the layouts, by bit numbers; and that is to be the words of a record that fits
 abbrev pub AcceptedExactly : Type 0
-AcceptedExactly = (form : AltitudeForm) (ws : List ℕ) → ((r : Report) × (read_run form ws ≡ Accepted r)) ↔ HasLayout form ws
+AcceptedExactly = (form : AltitudeForm) (ws : List ℕ) → ((r : Report) × (read_run form ws ≡ Ok r)) ↔ HasLayout form ws
 
 abbrev pub LayoutIsWordsIn : AltitudeForm → Type 0
 LayoutIsWordsIn form = (ws : List ℕ) → HasLayout form ws ↔ ((r : Report) × (ws ≡ words_of form r) × Fits form r)
@@ -74,14 +74,14 @@ FourOrSeven = (form : AltitudeForm) (r : Report) → (length (words_of form r) �
 -- an accepted run's record written out again gives the same words, and the writer, where it takes the record, hands them out
 abbrev pub WrittenAgainIn : AltitudeForm → Type 0
 WrittenAgainIn form =
-    (ws : List ℕ) (r : Report) → read_run form ws ≡ Accepted r → (words_of form r ≡ ws) × (Takes form r → written form r ≡ as_written ws)
+    (ws : List ℕ) (r : Report) → read_run form ws ≡ Ok r → (words_of form r ≡ ws) × (Takes form r → written form r ≡ as_written ws)
 
 abbrev pub WrittenAgain : Type 0
 WrittenAgain = (form : AltitudeForm) → Sound form → WrittenAgainIn form
 
 -- a record that the writer takes, written and read, gives the same record
 abbrev pub ReadBackIn : AltitudeForm → Type 0
-ReadBackIn form = (r : Report) → Takes form r → (written form r ≡ as_written (words_of form r)) × (read_run form (words_of form r) ≡ Accepted r)
+ReadBackIn form = (r : Report) → Takes form r → (written form r ≡ as_written (words_of form r)) × (read_run form (words_of form r) ≡ Ok r)
 
 abbrev pub ReadBack : Type 0
 ReadBack = (form : AltitudeForm) → Sound form → ReadBackIn form
@@ -94,7 +94,7 @@ TakesWhatFits = (form : AltitudeForm) (r : Report) → Fits form r → Takes for
 
 -- a refusal is given exactly where its row's condition holds and none of an earlier row does
 abbrev pub RefusedExactly : Type 0
-RefusedExactly = (form : AltitudeForm) (ws : List ℕ) (q : LineRefusal) (o : ℕ) → (read_run form ws ≡ Refused q o) ↔ FirstIs (table_of form ws) (Refused q o)
+RefusedExactly = (form : AltitudeForm) (ws : List ℕ) (q : LineRefusal) (o : ℕ) → (read_run form ws ≡ refused_at q o) ↔ FirstIs (table_of form ws) (refused_at q o)
 
 -- ---- for the line
 

@@ -1,6 +1,6 @@
 -- The words of a record: the tables' columns once more, by widths, with a word a line. Only DABS and ATCRBS hold an altitude, so only they
 -- take its form. Definitions only.
-use Rattle.std.specs.Prelude.{ℕ, ◌/◌, ◌^◌, ◌≡◌, Bool, true, false, cond, List, [], ◌∷◌, eqb, length, get_or}
+use Rattle.std.specs.Prelude.{ℕ, ◌/◌, ◌^◌, ◌≡◌, Bool, true, false, cond, List, [], ◌∷◌, eqb, length, get_or, Err, Ok, Result}
 use Rattle.refusals.specs.declared.LineRefusal.TheVariants.{ValueTooLarge}
 use Rattle.words.specs.Layout.{Field, flag, count, rest, fixed, spare, words_by, fitting_by}
 use Rattle.reports.specs.declared.Search.{Search}
@@ -16,10 +16,11 @@ use Rattle.reports.specs.declared.Mtd.{Mtd}
 use Rattle.reports.specs.declared.Rdas.{Rdas}
 use Rattle.reports.specs.declared.Report.{Report}
 use Rattle.reports.specs.declared.Report.TheVariants as R
-use Rattle.reports.specs.declared.Written.{Written}
-use Rattle.reports.specs.declared.Written.TheVariants as W
 use Rattle.reports.specs.Altitude.{AltitudeForm}
 use Rattle.reports.specs.Forms.{four_words, seven_words, search_pattern, strobe_pattern, status_pattern, rtqc_pattern, map_pattern, cd_code, mtd_code, rdas_code, mtd_search_code, rdas_search_code}
+use Rattle.refusals.specs.declared.LineRefusal.{LineRefusal}
+use Rattle.reports.specs.declared.Words.{Words}
+use Rattle.reports.specs.declared.Words.TheVariants.{Four, Seven}
 
 -- ---- four words
 
@@ -169,12 +170,9 @@ abbrev pub Takes : AltitudeForm → Report → Type 0
 Takes form r = takes form r ≡ true
 
 -- four words or seven, as the writer hands them out
-abbrev pub as_written : List ℕ → Written
-as_written ws =
-    cond (eqb (length ws) 4)
-    (W.Four (get_or ws 0 0) (get_or ws 1 0) (get_or ws 2 0) (get_or ws 3 0))
-    (W.Seven (get_or ws 0 0) (get_or ws 1 0) (get_or ws 2 0) (get_or ws 3 0) (get_or ws 4 0) (get_or ws 5 0) (get_or ws 6 0))
+abbrev pub as_written : List ℕ → Result Words LineRefusal
+as_written ws = Ok (cond (eqb (length ws) 4) (Four ws) (Seven ws))
 
 -- the writer's answer: the words, or 11 for a value too large for its field
-abbrev pub written : AltitudeForm → Report → Written
-written form r = cond (takes form r) (as_written (words_of form r)) (W.Refused ValueTooLarge)
+abbrev pub written : AltitudeForm → Report → Result Words LineRefusal
+written form r = cond (takes form r) (as_written (words_of form r)) (Err ValueTooLarge)

@@ -1,11 +1,10 @@
 -- What a report's range, azimuth and time stand for, from the record's own counts. Definitions only.
-use Rattle.std.specs.Prelude.{ℕ, ◌*◌}
+use Rattle.std.specs.Prelude.{ℕ, ◌*◌, None, Option, Some}
 use Rattle.measures.specs.Exact.{AllExact}
 use Rattle.measures.specs.Weight as weight
 use Rattle.reports.specs.declared.Report.{Report}
 use Rattle.reports.specs.declared.Report.TheVariants as R
-use Rattle.reports.specs.declared.values.Values.{Values}
-use Rattle.reports.specs.declared.values.Values.TheVariants as Y
+use Rattle.measures.specs.declared.Measured.{Measured}
 
 -- range, azimuth and time in 1024ths of a nmi, of a degree and of a second; or none
 pub data Counted : Type 0 where
@@ -25,8 +24,8 @@ counted_of (R.Mtd m) = counts (m.range.0 * weight.fine_range) (m.azimuth.0 * wei
 counted_of (R.Rdas r) = counts (r.range.0 * weight.fine_range) (r.azimuth.0 * weight.fine_azimuth) (r.time.0 * weight.time)
 
 -- the values are these counts, exactly
-abbrev pub Yields : Counted → Values → Type 0
-Yields (counts r a t) (Y.Measured m) = AllExact r a t m
-Yields (counts r a t) Y.Nothing = ⊥
-Yields none (Y.Measured m) = ⊥
-Yields none Y.Nothing = Unit {0}
+abbrev pub Yields : Counted → Option Measured → Type 0
+Yields (counts r a t) (Some m) = AllExact r a t m
+Yields (counts r a t) None = ⊥
+Yields none (Some m) = ⊥
+Yields none None = Unit {0}

@@ -3,17 +3,17 @@
 ghost use Rattle.std.specs.Prelude.{◌≡◌};
 ghost use Rattle.reports.specs.Altitude.{form_numbered};
 
-#[derive(Clone, Copy)]
+#[derive(Clone, Copy, Debug, PartialEq, Eq)]
 pub enum Form {
     SignMagnitude,
     TwosComplement,
 }
 
-impl Form {
-    // 0 is document 01's form, any other number the other one.
-    pub fn numbered(number: u32) -> Self
-        ensures { result ≡ form_numbered number }
-    {
+// 0 is document 01's form, any other number the other one.
+impl From<u32> for Form {
+    ghost from_gives = { λ number form. form ≡ form_numbered number };
+
+    fn from(number: u32) -> Form {
         if number == 0 {
             Form::SignMagnitude
         } else {

@@ -5,23 +5,23 @@ ghost use Rattle.reports.specs.Kinds.{dabs_kind, atcrbs_kind, kind_of, kind_numb
 
 use crate::{Height, Report};
 
-#[derive(Clone, Copy)]
+#[derive(Clone, Copy, Debug, PartialEq, Eq)]
 pub enum Kind {
-    Search,
-    Strobe,
-    Map,
-    Status,
-    Rtqc,
-    Dabs,
-    DabsCd,
-    DabsMtd,
-    DabsRdas,
-    Atcrbs,
-    AtcrbsCd,
-    AtcrbsMtd,
-    AtcrbsRdas,
-    Mtd,
-    Rdas,
+    Search = 101,
+    Strobe = 102,
+    Map = 103,
+    Status = 104,
+    Rtqc = 105,
+    Dabs = 106,
+    DabsCd = 107,
+    DabsMtd = 108,
+    DabsRdas = 109,
+    Atcrbs = 110,
+    AtcrbsCd = 111,
+    AtcrbsMtd = 112,
+    AtcrbsRdas = 113,
+    Mtd = 114,
+    Rdas = 115,
 }
 
 // ---- the number that a C program knows each kind by
@@ -56,27 +56,11 @@ pub const MTD: u32 = 114;
 
 pub const RDAS: u32 = 115;
 
-impl Kind {
-    pub fn number(self) -> u8
-        ensures { result ≡ kind_number self }
-    {
-        match self {
-            Kind::Search => SEARCH as u8,
-            Kind::Strobe => STROBE as u8,
-            Kind::Map => MAP as u8,
-            Kind::Status => STATUS as u8,
-            Kind::Rtqc => RTQC as u8,
-            Kind::Dabs => DABS as u8,
-            Kind::DabsCd => DABS_CD as u8,
-            Kind::DabsMtd => DABS_MTD as u8,
-            Kind::DabsRdas => DABS_RDAS as u8,
-            Kind::Atcrbs => ATCRBS as u8,
-            Kind::AtcrbsCd => ATCRBS_CD as u8,
-            Kind::AtcrbsMtd => ATCRBS_MTD as u8,
-            Kind::AtcrbsRdas => ATCRBS_RDAS as u8,
-            Kind::Mtd => MTD as u8,
-            Kind::Rdas => RDAS as u8,
-        }
+impl From<Kind> for u8 {
+    ghost from_gives = { λ kind number. number ≡ kind_number kind };
+
+    fn from(kind: Kind) -> u8 {
+        kind as u8
     }
 }
 

@@ -170,17 +170,16 @@ pub enum Report {
 
 // ---- answers
 
-// A run is a report, or is refused with the offset, in the run, of the word that the refusal names.
+// Why a run is no report, and the offset, in the run, of the word that the refusal names.
 #[derive(Clone, Copy)]
-pub enum RunAnswer {
-    Accepted(Report),
-    Refused(LineRefusal, usize),
+pub struct RunRefusal {
+    pub why: LineRefusal,
+    pub offset: usize,
 }
 
-// A report's words, four or seven, or why it has none.
+// A report's words, four or seven.
 #[derive(Clone, Copy)]
-pub enum Written {
-    Four(u16, u16, u16, u16),
-    Seven(u16, u16, u16, u16, u16, u16, u16),
-    Refused(LineRefusal),
+pub enum Words {
+    Four([u16; 4]),
+    Seven([u16; 7]),
 }

@@ -5,24 +5,18 @@ ghost use Rattle.reports.specs.Values.{counted_of, Yields};
 use crate::Report;
 use measures::{Measured, Time};
 
-#[derive(Clone, Copy)]
-pub enum Values {
-    Measured(Measured),
-    Nothing,
-}
-
-pub fn values_of(report: Report) -> Values
+pub fn values_of(report: Report) -> Option<Measured>
     ensures { Yields (counted_of report) result }
 {
     match report {
-        Report::Search(s) => Values::Measured(Measured::coarse(s.range, s.azimuth, s.time)),
-        Report::Strobe(s) => Values::Measured(Measured::coarse(s.range, s.azimuth, s.time)),
-        Report::Map(m) => Values::Measured(Measured::coarse(m.start, m.azimuth, Time(0))),
-        Report::Status(_) => Values::Nothing,
-        Report::Rtqc(s) => Values::Measured(Measured::coarse(s.range, s.azimuth, s.time)),
-        Report::Dabs(d) => Values::Measured(Measured::fine(d.range, d.azimuth, d.time)),
-        Report::Atcrbs(a) => Values::Measured(Measured::fine(a.range, a.azimuth, a.time)),
-        Report::Mtd(m) => Values::Measured(Measured::fine(m.range, m.azimuth, m.time)),
-        Report::Rdas(r) => Values::Measured(Measured::fine(r.range, r.azimuth, r.time)),
+        Report::Search(s) => Some(Measured::coarse(s.range, s.azimuth, s.time)),
+        Report::Strobe(s) => Some(Measured::coarse(s.range, s.azimuth, s.time)),
+        Report::Map(m) => Some(Measured::coarse(m.start, m.azimuth, Time(0))),
+        Report::Status(_) => None,
+        Report::Rtqc(s) => Some(Measured::coarse(s.range, s.azimuth, s.time)),
+        Report::Dabs(d) => Some(Measured::fine(d.range, d.azimuth, d.time)),
+        Report::Atcrbs(a) => Some(Measured::fine(a.range, a.azimuth, a.time)),
+        Report::Mtd(m) => Some(Measured::fine(m.range, m.azimuth, m.time)),
+        Report::Rdas(r) => Some(Measured::fine(r.range, r.azimuth, r.time)),
     }
 }

@@ -1,11 +1,10 @@
 -- `pairs::gather` meets its contract: what is found among the pairs behind those that are left. Assumes nothing.
+use Rattle.std.specs.Prelude.{None, Option, Some}
 use native.Mathlib.Omega.{arith}
 use mathlib.Core.Path.{◌≡◌, refl, sym, ap, ◌∙◌}
 use mathlib.Core.List.{List, ◌∷◌}
 use Prim.Native.Nat.{ℕ, suc, ◌+◌, ◌-◌, ◌*◌, ◌/◌, ◌≤◌, ◌<◌}
 use lib.ListN.{length, drop, set, replicate}
-use Rattle.pairs.specs.declared.Found.{Found}
-use Rattle.pairs.specs.declared.Found.TheVariants as F
 use Rattle.pairs.specs.Pairs.{Pair, eight, pairs, pairs_in, find_in, is_found, value_of, each_from, gathered_from, Slot, slots}
 use Rattle.pairs.proofs.Laws.{pairs_before, slot_anew, slot_other}
 use Rattle.pairs.proofs.gather.Goals as goal
@@ -21,21 +20,21 @@ one_more s left m e h =
     ∙ ap (λ (x : ℕ). (eight (drop (16 * m) s), eight (drop (16 * m + 8) s)) ∷ pairs (length s / 16 - left) (drop x s)) n
 
 -- none yet
-none : {X : Type 0} (f : Found → X) (n : ℕ) (s : List ℕ) {l : List X} → l ≡ replicate slots (f F.Missing) → l ≡ each_from f n slots (behind s (length s / 16))
+none : {X : Type 0} (f : Option ℕ → X) (n : ℕ) (s : List ℕ) {l : List X} → l ≡ replicate slots (f None) → l ≡ each_from f n slots (behind s (length s / 16))
 unfolding pairs each_from find_in
 none f n s e =
     let z : length s / 16 - length s / 16 ≡ 0 = omega arith in
     rw z e
 
 -- it is a pair of one of the numbers, or of none
-module _ {X : Type 0} (f : Found → X) (first : ℕ) (s : List ℕ) (left n k : ℕ) (l : List X) (h : 0 < left) (m : left ≤ length s / 16)
+module _ {X : Type 0} (f : Option ℕ → X) (first : ℕ) (s : List ℕ) (left n k : ℕ) (l : List X) (h : 0 < left) (m : left ≤ length s / 16)
     (e : l ≡ each_from f first slots (behind s left)) (p : n ≡ eight (drop (16 * (left - 1)) s)) (o : Slot first n k) where
   q : left ≡ suc (left - 1)
   q = omega arith
 
-  sets : (v : ℕ) → v ≡ eight (drop (16 * (left - 1) + 8) s) → k < slots → set l k (f (F.Value v)) ≡ each_from f first slots (behind s (left - 1))
+  sets : (v : ℕ) → v ≡ eight (drop (16 * (left - 1) + 8) s) → k < slots → set l k (f (Some v)) ≡ each_from f first slots (behind s (left - 1))
   sets v w a =
-      ap (λ (x : List X). set x k (f (F.Value v))) e
+      ap (λ (x : List X). set x k (f (Some v))) e
       ∙ slot_anew f first n v k (behind s left) o a
       ∙ ap (λ (x : ℕ). each_from f first slots ((x, v) ∷ behind s left)) p
       ∙ ap (λ (x : ℕ). each_from f first slots ((eight (drop (16 * (left - 1)) s), x) ∷ behind s left)) w

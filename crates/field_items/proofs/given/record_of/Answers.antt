@@ -19,9 +19,9 @@ returns-in_default c =
     rw (eq-eqb _ _ c.if-list-ne240.false, sym c.whole.ensures ∙ c.if-not-whole.false, sym c.find.ensures ∙ c.in_default.is) c.unfit-in_default.ensures
 
 pub checked-requires : goal.checked-requires
-checked-requires c = found_within _ _ (sym c.find.ensures ∙ c.in-At.is)
+checked-requires c = found_within _ _ (sym c.find.ensures ∙ c.in-Some.is)
 
 pub returns : goal.returns
 unfolding given
 returns c =
-    rw (eq-eqb _ _ c.if-list-ne240.false, sym c.whole.ensures ∙ c.if-not-whole.false, sym c.find.ensures ∙ c.in-At.is) c.checked.ensures
+    rw (eq-eqb _ _ c.if-list-ne240.false, sym c.whole.ensures ∙ c.if-not-whole.false, sym c.find.ensures ∙ c.in-Some.is) c.checked.ensures

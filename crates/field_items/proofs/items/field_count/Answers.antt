@@ -21,12 +21,12 @@ returns-in_default c = (rw (place ((goal.at.returns-in_default c).After-find) �
 
 pub items_at-requires : goal.items_at-requires
 items_at-requires c =
-    found_within _ _ (place ((goal.at.items_at-requires c).After-find) ∙ c.in-At.is)
+    found_within _ _ (place ((goal.at.items_at-requires c).After-find) ∙ c.in-Some.is)
 
 pub returns : goal.returns
 unfolding items_of_field
 returns c =
-    let e = place ((goal.at.returns c).After-find) ∙ c.in-At.is in
+    let e = place ((goal.at.returns c).After-find) ∙ c.in-Some.is in
     let f = c.args.f in (
       rw e (c.tally.ensures.0 ∙ ap tally_of c.items_at.ensures ∙ sym (tally_pairs _ _ (items_length _ (found_within _ _ e) ∙ sym (numbers_length f)))),
       c.tally.ensures.1,

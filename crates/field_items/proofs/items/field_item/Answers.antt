@@ -19,9 +19,9 @@ returns-in_default c = rw (place ((goal.at.returns-in_default c).After-find) ∙
 
 pub items_at-requires : goal.items_at-requires
 items_at-requires c =
-    found_within _ _ (place ((goal.at.items_at-requires c).After-find) ∙ c.in-At.is)
+    found_within _ _ (place ((goal.at.items_at-requires c).After-find) ∙ c.in-Some.is)
 
 pub returns : goal.returns
 unfolding items_of_field
 returns c =
-    rw (place ((goal.at.returns c).After-find) ∙ c.in-At.is, ← c.items_at.ensures, ← c.numbers-v.ensures) c.search.ensures
+    rw (place ((goal.at.returns c).After-find) ∙ c.in-Some.is, ← c.items_at.ensures, ← c.numbers-v.ensures) c.search.ensures

@@ -3,8 +3,8 @@ use mathlib.Core.Path.{refl, sym, ◌∙◌}
 use Rattle.field_reader.proofs.Order.{outer_first}
 use Rattle.field_reader.proofs.reading.judge.Goals as goal
 
-pub returns-in-Clear : goal.returns-in-Clear
-returns-in-Clear c = rw (outer_first, sym c.outer-o.ensures ∙ c.in-Clear.is) c.opened.ensures
+pub returns-in-Ok : goal.returns-in-Ok
+returns-in-Ok c = rw (outer_first, sym c.outer-o.ensures ∙ c.in-Ok.is) c.opened.ensures
 
-pub returns-in-Refused : goal.returns-in-Refused
-returns-in-Refused c = rw (outer_first, sym c.outer-o.ensures ∙ c.in-Refused.is) refl
+pub returns-in-Err : goal.returns-in-Err
+returns-in-Err c = rw (outer_first, sym c.outer-o.ensures ∙ c.in-Err.is) refl

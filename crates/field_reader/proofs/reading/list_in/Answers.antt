@@ -15,22 +15,22 @@ use Rattle.field_reader.proofs.reading.list_in.Goals.{After-find, After-row_at-r
 place_is : (c : After-find) → place_of (type_of c.args.b.now 0) ≡ c.find.result
 place_is c = rw (← c.type_at-code.ensures) (sym c.find.ensures)
 
-within : (c : In-At) → c.in-At.i < 22
-within c = found_within _ _ (sym c.find.ensures ∙ c.in-At.is)
+within : (c : In-At) → c.in-Some.i < 22
+within c = found_within _ _ (sym c.find.ensures ∙ c.in-Some.is)
 
 base : (c : After-row_at-row) → c.row_at-row.result.base ≤ 96
-base c = rw c.row_at-row.ensures (row_base _ (found_within _ _ (sym c.find.ensures ∙ c.in-At.is)))
+base c = rw c.row_at-row.ensures (row_base _ (found_within _ _ (sym c.find.ensures ∙ c.in-Some.is)))
 
 -- the values are those of the type's parts
 values-are : (c : After-values-v) →
-    c.values-v.result ≡ values_of c.args.b.now 0 (widths_at c.in-At.i)
+    c.values-v.result ≡ values_of c.args.b.now 0 (widths_at c.in-Some.i)
 values-are c = rw (← c.widths_at.ensures) c.values-v.ensures
 
 small : (c : After-values-v) → RowSmall c.row_at-row.result c.values-v.result
 small c =
-    let i = c.in-At.i in
+    let i = c.in-Some.i in
     let s = c.args.b.now in
-    let within : i < 22 = found_within _ _ (sym c.find.ensures ∙ c.in-At.is) in
+    let within : i < 22 = found_within _ _ (sym c.find.ensures ∙ c.in-Some.is) in
     rw (values-are c, c.row_at-row.ensures) (row_small i (values_of s 0 (widths_at i)) within (values_fit s 0 (widths_at i)))
 
 pub returns-in_default : goal.returns-in_default
@@ -43,7 +43,7 @@ entries-requires-then-step-eq80 c = let h = base ((goal.at.entries-requires-then
 pub returns-then-step-eq80 : goal.returns-then-step-eq80
 unfolding list_in listed_as values_of entries_in
 returns-then-step-eq80 c =
-    rw (place_is ((goal.at.returns-then-step-eq80 c).After-find), c.in-At.is, ← c.row_at-row.ensures, eq-eqb _ _ c.if-step-eq80.true, c.entries-then-step-eq80.ensures)
+    rw (place_is ((goal.at.returns-then-step-eq80 c).After-find), c.in-Some.is, ← c.row_at-row.ensures, eq-eqb _ _ c.if-step-eq80.true, c.entries-then-step-eq80.ensures)
 
 pub values-v-requires : goal.values-v-requires
 values-v-requires c =
@@ -58,4 +58,4 @@ entries-requires-2 c =
 pub returns : goal.returns
 unfolding list_in listed_as
 returns c =
-    rw (place_is ((goal.at.returns c).After-find), c.in-At.is, ← c.row_at-row.ensures, ne_eqb _ _ c.if-step-eq80.false, c.entries-2.ensures, (c.count_in.ensures ∙ count_whole _ _ (small ((goal.at.returns c).After-values-v))), values-are ((goal.at.returns c).After-values-v))
+    rw (place_is ((goal.at.returns c).After-find), c.in-Some.is, ← c.row_at-row.ensures, ne_eqb _ _ c.if-step-eq80.false, c.entries-2.ensures, (c.count_in.ensures ∙ count_whole _ _ (small ((goal.at.returns c).After-values-v))), values-are ((goal.at.returns c).After-values-v))

@@ -18,8 +18,8 @@ returns-in_default c =
 
 pub row_read-requires : goal.row_read-requires
 row_read-requires c =
-    (omega arith, found_within _ _ (place_is ((goal.at.row_read-requires c).After-find) ∙ c.in-At.is), c.requires.1)
+    (omega arith, found_within _ _ (place_is ((goal.at.row_read-requires c).After-find) ∙ c.in-Some.is), c.requires.1)
 
 pub returns : goal.returns
 returns c =
-    c.row_read.ensures ∙ sym (placed _ _ _ _ _ (place_is ((goal.at.returns c).After-find) ∙ c.in-At.is))
+    c.row_read.ensures ∙ sym (placed _ _ _ _ _ (place_is ((goal.at.returns c).After-find) ∙ c.in-Some.is))

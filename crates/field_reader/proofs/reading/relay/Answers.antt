@@ -6,4 +6,4 @@ use Rattle.field_reader.proofs.reading.relay.Goals as goal
 
 pub returns : goal.returns
 returns c =
-    rw (← c.plain-inner.ensures, c.read.ensures ∙ whole _ _ 8 (omega arith), c.in-Read.is)
+    rw (← c.plain-inner.ensures, c.read.ensures ∙ whole _ _ 8 (omega arith), c.in-Ok.is)

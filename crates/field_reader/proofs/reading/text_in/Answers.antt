@@ -13,15 +13,15 @@ returns-in_default c = rw (← c.place_at.ensures, c.in_default.is)
 
 pub overflow_add-result : goal.overflow_add-result
 overflow_add-result c =
-    let h : c.row_at-row.result.base ≤ 96 = rw c.row_at-row.ensures (row_base _ (found_within _ _ (sym c.place_at.ensures ∙ c.in-At.is))) in
+    let h : c.row_at-row.result.base ≤ 96 = rw c.row_at-row.ensures (row_base _ (found_within _ _ (sym c.place_at.ensures ∙ c.in-Some.is))) in
     omega arith
 
 pub returns-then-row-eq80 : goal.returns-then-row-eq80
 unfolding text_in
 returns-then-row-eq80 c =
-    rw (← c.place_at.ensures, c.in-At.is, ← c.row_at-row.ensures, eq-eqb _ _ c.if-row-eq80.true)
+    rw (← c.place_at.ensures, c.in-Some.is, ← c.row_at-row.ensures, eq-eqb _ _ c.if-row-eq80.true)
 
 pub returns : goal.returns
 unfolding text_in
 returns c =
-    rw (← c.place_at.ensures, c.in-At.is, ← c.row_at-row.ensures, ne_eqb _ _ c.if-row-eq80.false)
+    rw (← c.place_at.ensures, c.in-Some.is, ← c.row_at-row.ensures, ne_eqb _ _ c.if-row-eq80.false)

@@ -9,8 +9,8 @@ returns-in_default c = sym (unplaced _ _ _ _ (sym c.place_in.ensures ∙ c.in_de
 
 pub answer_at-requires : goal.answer_at-requires
 answer_at-requires c =
-    found_within _ _ (sym c.place_in.ensures ∙ c.in-At.is)
+    found_within _ _ (sym c.place_in.ensures ∙ c.in-Some.is)
 
 pub returns : goal.returns
 returns c =
-    c.answer_at.ensures ∙ sym (placed _ _ _ _ _ (sym c.place_in.ensures ∙ c.in-At.is)).0
+    c.answer_at.ensures ∙ sym (placed _ _ _ _ _ (sym c.place_in.ensures ∙ c.in-Some.is)).0

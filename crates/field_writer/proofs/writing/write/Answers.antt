@@ -9,10 +9,10 @@ returns-in_default c = let k = unplaced _ _ _ _ (sym c.place_in.ensures ∙ c.in
 
 pub write_at-requires : goal.write_at-requires
 write_at-requires c =
-    found_within _ _ (sym c.place_in.ensures ∙ c.in-At.is)
+    found_within _ _ (sym c.place_in.ensures ∙ c.in-Some.is)
 
 pub returns : goal.returns
 returns c =
-    let p = placed _ _ _ _ _ (sym c.place_in.ensures ∙ c.in-At.is) in
+    let p = placed _ _ _ _ _ (sym c.place_in.ensures ∙ c.in-Some.is) in
     let w = c.write_at.ensures in
     record { answer = w.answer ∙ sym p.0; left = w.left ∙ sym p.1 }

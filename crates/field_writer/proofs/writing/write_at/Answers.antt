@@ -10,9 +10,9 @@ returns-in_default c =
 
 pub put_field-requires : goal.put_field-requires
 put_field-requires c =
-    (c.requires, bits_taken _ _ _ _ _ _ (sym c.answer_at-w.ensures ∙ c.in-Bits.is))
+    (c.requires, bits_taken _ _ _ _ _ _ (sym c.answer_at-w.ensures ∙ c.in-Ok.is))
 
 pub returns : goal.returns
 returns c =
     let e = c.answer_at-w.ensures in
-    record { answer = e; left = c.put_field.ensures ∙ sym (left_by _ _ _ _ _ _ (sym e ∙ c.in-Bits.is)) }
+    record { answer = e; left = c.put_field.ensures ∙ sym (left_by _ _ _ _ _ _ (sym e ∙ c.in-Ok.is)) }

@@ -1,15 +1,15 @@
 -- `report_items::given::agrees` meets its contract: what is left to test says what all the tests say, and so many are counted. Assumes nothing.
+use Rattle.std.specs.Prelude.{Option, ℤ}
 use mathlib.Core.Path.{◌≡◌}
 use mathlib.Core.Bool.{Bool}
 use mathlib.Core.List.{List}
 use Prim.Native.Nat.{ℕ, ◌+◌, ◌≤◌}
-use Rattle.report_items.specs.declared.items.Item.{Item}
 use Rattle.report_items.specs.Items.{last}
 use Rattle.report_items.specs.Given.{item_gathered}
 use Rattle.report_items.proofs.Tally.{tally_to, stand_to}
 use Rattle.report_items.proofs.given.agrees.Given as goal
 
-abbrev pub said : List Bool → List ℕ → ℕ → Item
+abbrev pub said : List Bool → List ℕ → ℕ → Option ℤ
 said there values = item_gathered (record { there = there; values = values })
 
 abbrev pub invariant-loop-n : goal.invariant-loop-n
