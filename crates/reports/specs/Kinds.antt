@@ -12,20 +12,20 @@ use Rattle.reports.specs.declared.kinds.Kind.{Kind}
 use Rattle.reports.specs.declared.kinds.Kind.TheVariants as K
 use Rattle.reports.specs.declared.kinds.UnknownKind.{UnknownKind}
 
+-- one of four kinds, by what stands in for the height
+abbrev pub kind_by : Height → Kind → Kind → Kind → Kind → Kind
+kind_by (H.Altitude z) plain with_cd with_mtd with_rdas = plain
+kind_by (H.Carried n) plain with_cd with_mtd with_rdas = plain
+kind_by (H.Cd m n) plain with_cd with_mtd with_rdas = with_cd
+kind_by (H.Mtd m n) plain with_cd with_mtd with_rdas = with_mtd
+kind_by (H.Rdas m n) plain with_cd with_mtd with_rdas = with_rdas
+
 -- substitution has a name of its own
 abbrev pub dabs_kind : Height → Kind
-dabs_kind (H.Altitude z) = K.Dabs
-dabs_kind (H.Carried n) = K.Dabs
-dabs_kind (H.Cd m n) = K.DabsCd
-dabs_kind (H.Mtd m n) = K.DabsMtd
-dabs_kind (H.Rdas m n) = K.DabsRdas
+dabs_kind h = kind_by h K.Dabs K.DabsCd K.DabsMtd K.DabsRdas
 
 abbrev pub atcrbs_kind : Height → Kind
-atcrbs_kind (H.Altitude z) = K.Atcrbs
-atcrbs_kind (H.Carried n) = K.Atcrbs
-atcrbs_kind (H.Cd m n) = K.AtcrbsCd
-atcrbs_kind (H.Mtd m n) = K.AtcrbsMtd
-atcrbs_kind (H.Rdas m n) = K.AtcrbsRdas
+atcrbs_kind h = kind_by h K.Atcrbs K.AtcrbsCd K.AtcrbsMtd K.AtcrbsRdas
 
 abbrev pub kind_of : Report → Kind
 kind_of (R.Search s) = K.Search
