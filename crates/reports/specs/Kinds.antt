@@ -1,9 +1,8 @@
 -- The lister's name of a report, and the number by which a C program knows it. The document gives no numbers: these are ours, above every
 -- refusal's.
 -- Definitions only.
-use Rattle.std.specs.Prelude.{ℕ, ◌≡◌, ◌≢◌, List, [], ◌∷◌, Result, MatchResult}
-use Prim.Native.Char.{code}
-use Prim.Native.String.{String, [] as []ˢ, ◌∷◌ as ◌∷ˢ◌}
+use Rattle.std.specs.Prelude.{ℕ, ◌≡◌, ◌≢◌, List, ◌++◌, codes, Result, MatchResult}
+use Rattle.std.specs.Fmt.{decimal}
 use Rattle.reports.specs.declared.Height.{Height}
 use Rattle.reports.specs.declared.Height.TheVariants as H
 use Rattle.reports.specs.declared.Report.{Report}
@@ -59,25 +58,24 @@ kind_number K.Rdas = 115
 abbrev pub Numbered : ℕ → Result Kind UnknownKind → Type 0
 Numbered number r = MatchResult r (λ kind. kind_number kind ≡ number) (λ e. (e.0 ≡ number) × ((kind : Kind) → kind_number kind ≢ number))
 
--- the bytes of a text
-abbrev pub text : String → List ℕ
-text []ˢ = []
-text (c ∷ˢ s) = code c ∷ text s
-
 -- what each kind is called in a listing; with substitution, by what stands in for the height too
 abbrev pub name_of : Kind → List ℕ
-name_of K.Search = text "SEARCH"
-name_of K.Strobe = text "STROBE"
-name_of K.Map = text "MAP"
-name_of K.Status = text "STATUS"
-name_of K.Rtqc = text "RTQC"
-name_of K.Dabs = text "DABS"
-name_of K.DabsCd = text "DABS-CD"
-name_of K.DabsMtd = text "DABS-MTD"
-name_of K.DabsRdas = text "DABS-RDAS"
-name_of K.Atcrbs = text "ATCRBS"
-name_of K.AtcrbsCd = text "ATCRBS-CD"
-name_of K.AtcrbsMtd = text "ATCRBS-MTD"
-name_of K.AtcrbsRdas = text "ATCRBS-RDAS"
-name_of K.Mtd = text "MTD"
-name_of K.Rdas = text "RDAS"
+name_of K.Search = codes "SEARCH"
+name_of K.Strobe = codes "STROBE"
+name_of K.Map = codes "MAP"
+name_of K.Status = codes "STATUS"
+name_of K.Rtqc = codes "RTQC"
+name_of K.Dabs = codes "DABS"
+name_of K.DabsCd = codes "DABS-CD"
+name_of K.DabsMtd = codes "DABS-MTD"
+name_of K.DabsRdas = codes "DABS-RDAS"
+name_of K.Atcrbs = codes "ATCRBS"
+name_of K.AtcrbsCd = codes "ATCRBS-CD"
+name_of K.AtcrbsMtd = codes "ATCRBS-MTD"
+name_of K.AtcrbsRdas = codes "ATCRBS-RDAS"
+name_of K.Mtd = codes "MTD"
+name_of K.Rdas = codes "RDAS"
+
+-- what is said of a number that no kind has
+abbrev pub no_kind : UnknownKind → List ℕ
+no_kind e = codes "no kind of report has the number " ++ decimal e.0

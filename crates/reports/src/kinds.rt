@@ -1,7 +1,7 @@
 // The lister's name of each report: nine kinds, and DABS and ATCRBS once more for each radar that may stand in for the height.
 // Relies on the records of the crate.
 ghost use Rattle.std.specs.Prelude.{◌≡◌, Some};
-ghost use Rattle.reports.specs.Kinds.{kind_by, kind_of, kind_number, Numbered, name_of};
+ghost use Rattle.reports.specs.Kinds.{kind_by, kind_of, kind_number, Numbered, no_kind, name_of};
 
 use crate::{Height, Report};
 use std::error::Error;
@@ -68,6 +68,8 @@ impl TryFrom<u32> for Kind {
 }
 
 impl fmt::Display for UnknownKind {
+    ghost output = { λ e. Some (no_kind e) };
+
     fn fmt<W: fmt::Write>(&self, f: &mut fmt::Formatter<W>) -> fmt::Result {
         write!(f, "no kind of report has the number {}", self.0)
     }
