@@ -9,7 +9,7 @@ ghost use Rattle.reports.specs.Forms.{is_four, is_seven, word_count};
 ghost use Rattle.reports.specs.Conditions.{unknown_form, unassigned, minus_zero, four_zeros, height_spares, seven_spares, zeros};
 ghost use Rattle.reports.specs.Records.{four_of, height_of, seven_of, report_of};
 ghost use Rattle.reports.specs.Runs.{judged};
-ghost use Rattle.report_reader.specs.Rows.{tested};
+ghost use Rattle.report_reader.specs.Reading.{tested};
 
 use bits::{bit, bits};
 use measures::RunLength;
