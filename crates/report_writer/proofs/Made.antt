@@ -3,13 +3,13 @@
 use Rattle.std.specs.Prelude.{ℕ, ◌≡◌, Bool, true, false, not, cond, ◌||◌, List, [], ◌∷◌, map, length, eqb, Ok, Err, Result, MatchResult, IsOkAnd}
 use Rattle.std.specs.List.{list_any}
 use Rattle.std.specs.Result.{result_map_both}
-use mathlib.Core.Path.{refl, ap, ap₂, ◌∙◌}
+use mathlib.Core.Path.{refl, ap, ap₂}
 use native.Mathlib.Omega.{arith}
 use borrow.Author.Tests.{eqb-true, le-leb, lt-leb}
 use Rattle.refusals.specs.declared.LineRefusal.{LineRefusal}
 use Rattle.refusals.specs.declared.LineRefusal.TheVariants.{ValueTooLarge}
 use Rattle.words.specs.Word.{word_of}
-use Rattle.words.specs.Layout.{Field, span, joined, fitting_all, words_by, fitting_by, twelve_each}
+use Rattle.words.specs.Layout.{Field, span, fitting_all, words_by, fitting_by, twelve_each}
 use Rattle.words.proofs.Layouts.{both, joined_small, words_length}
 use Rattle.reports.specs.Layouts.{as_written}
 use Rattle.reports.specs.declared.Words.{Words}

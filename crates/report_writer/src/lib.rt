@@ -92,7 +92,8 @@ fn mode_c_of(h: Height) -> bool
     match h {
         Height::Altitude(_) => true,
         Height::Carried(_) => false,
-        Height::Cd { mode_c, .. } | Height::Mtd { mode_c, .. } | Height::Rdas { mode_c, .. } => mode_c,
+        Height::Cd { mode_c, .. } | Height::Mtd { mode_c, .. } | Height::Rdas { mode_c, .. } =>
+            mode_c,
     }
 }
 
@@ -108,9 +109,12 @@ fn height_last(h: Height, form: Form) -> u32
     match h {
         Height::Altitude(z) => whole(altitude_bits(z, form).unwrap_or(TOO_LARGE)),
         Height::Carried(n) => whole(n),
-        Height::Cd { run, .. } => count::<3, 3>(run.0.into()) + count::<3, 12>(forms::CD_CODE.into()),
-        Height::Mtd { quality, .. } => count::<2, 2>(quality.into()) + count::<3, 12>(forms::MTD_CODE.into()),
-        Height::Rdas { quality, .. } => count::<4, 4>(quality.into()) + count::<3, 12>(forms::RDAS_CODE.into()),
+        Height::Cd { run, .. } => count::<3, 3>(run.0.into())
+            + count::<3, 12>(forms::CD_CODE.into()),
+        Height::Mtd { quality, .. } => count::<2, 2>(quality.into())
+            + count::<3, 12>(forms::MTD_CODE.into()),
+        Height::Rdas { quality, .. } => count::<4, 4>(quality.into())
+            + count::<3, 12>(forms::RDAS_CODE.into()),
     }
 }
 
@@ -131,9 +135,15 @@ struct Beacon {
 fn beacon_first(b: Beacon) -> u32
     ensures { result ≡ data_or_more (flag b.test ∷ fixed 2 seven_words ∷ flag b.dabs ∷ flag b.fifth ∷ flag (mode_c_of b.height) ∷ flag b.spi ∷ flag b.reinforced ∷ flag b.code7700 ∷ flag b.code7600 ∷ flag b.faa ∷ flag (radar b.height) ∷ []) }
 {
-    let first = flag::<1>(b.test) + count::<2, 3>(forms::SEVEN_WORDS.into()) + flag::<4>(b.dabs) + flag::<5>(b.fifth);
+    let first = flag::<1>(b.test)
+        + count::<2, 3>(forms::SEVEN_WORDS.into())
+        + flag::<4>(b.dabs)
+        + flag::<5>(b.fifth);
     let middle = flag::<6>(mode_c_of(b.height)) + flag::<7>(b.spi) + flag::<8>(b.reinforced);
-    let last = flag::<9>(b.code7700) + flag::<10>(b.code7600) + flag::<11>(b.faa) + flag::<12>(radar_of(b.height));
+    let last = flag::<9>(b.code7700)
+        + flag::<10>(b.code7600)
+        + flag::<11>(b.faa)
+        + flag::<12>(radar_of(b.height));
     first + middle + last
 }
 
@@ -146,7 +156,10 @@ fn search_data(s: Search) -> Data
         first_of_four(s.test, forms::SEARCH_PATTERN, s.faa, s.af),
         coarse_range(s.range.0),
         whole(s.azimuth.0),
-        flag::<1>(s.aims) + count::<2, 3>(s.code.into()) + count::<3, 6>(s.run.0.into()) + count::<6, 12>(s.time.0.into()),
+        flag::<1>(s.aims)
+            + count::<2, 3>(s.code.into())
+            + count::<3, 6>(s.run.0.into())
+            + count::<6, 12>(s.time.0.into()),
     ])
 }
 
@@ -165,7 +178,10 @@ fn map_data(m: Map) -> Data
     ensures { result ≡ data_by (map_layout m) }
 {
     Data::Four([
-        flag::<1>(m.test) + count::<2, 10>(m.variation.into()) + flag::<11>(m.faa) + flag::<12>(m.af),
+        flag::<1>(m.test)
+            + count::<2, 10>(m.variation.into())
+            + flag::<11>(m.faa)
+            + flag::<12>(m.af),
         coarse_range(m.start.0),
         whole(m.azimuth.0),
         coarse_range(m.stop.0),
@@ -212,7 +228,10 @@ fn dabs_data(d: Dabs, form: Form) -> Data
         first,
         whole(d.range.0 >> 3),
         range_azimuth(d.range.0, d.azimuth.0),
-        rest::<4>(d.azimuth.0.into()) + flag::<5>(d.alert) + flag::<8>(d.relay) + count::<4, 12>(d.time.0.into()),
+        rest::<4>(d.azimuth.0.into())
+            + flag::<5>(d.alert)
+            + flag::<8>(d.relay)
+            + count::<4, 12>(d.time.0.into()),
         count::<12, 12>(d.address >> 12),
         rest::<12>(d.address),
         height_last(d.height, form),
@@ -233,7 +252,10 @@ fn atcrbs_data(a: Atcrbs, form: Form) -> Data
         faa: a.faa,
         height: a.height,
     });
-    let flags = flag::<5>(a.confidence) + flag::<6>(a.transition) + flag::<7>(a.false_target) + flag::<8>(a.relay);
+    let flags = flag::<5>(a.confidence)
+        + flag::<6>(a.transition)
+        + flag::<7>(a.false_target)
+        + flag::<8>(a.relay);
     Data::Seven([
         first,
         whole(a.range.0 >> 3),
@@ -256,7 +278,10 @@ fn mtd_data(m: Mtd) -> Data
         radar_fourth(m.azimuth.0, m.aims, m.time.0),
         count::<6, 6>(m.doppler1.into()) + count::<6, 12>(m.doppler2.into()),
         whole(m.file),
-        count::<2, 2>(m.quality.into()) + count::<4, 6>(m.confidence.into()) + flags + count::<3, 12>(forms::MTD_SEARCH_CODE.into()),
+        count::<2, 2>(m.quality.into())
+            + count::<4, 6>(m.confidence.into())
+            + flags
+            + count::<3, 12>(forms::MTD_SEARCH_CODE.into()),
     ])
 }
 
@@ -270,7 +295,9 @@ fn rdas_data(r: Rdas) -> Data
         radar_fourth(r.azimuth.0, r.aims, r.time.0),
         0,
         whole(r.file),
-        count::<4, 4>(r.quality.into()) + flag::<7>(r.false_target) + count::<3, 12>(forms::RDAS_SEARCH_CODE.into()),
+        count::<4, 4>(r.quality.into())
+            + flag::<7>(r.false_target)
+            + count::<3, 12>(forms::RDAS_SEARCH_CODE.into()),
     ])
 }
 

@@ -1,5 +1,5 @@
 -- `report_writer::words_or_refusal` meets its contract. Assumes nothing.
-use Rattle.std.proofs.Common.{rules, tests, ℕ, ◌≡◌, ap, sym, ◌∙◌, false, ◌+◌, ◌<◌, List, ◌∷◌, [], ◌++◌, length, get_or, take, map}
+use Rattle.std.proofs.Common.{rules, tests, ℕ, ◌≡◌, ap, sym, ◌∙◌, ◌+◌, ◌<◌, List, length, get_or, take, map}
 use Rattle.std.proofs.Math.ListN.{set}
 use Rattle.std.proofs.lemmas.List.{map_more, take_all, take_more_set}
 use Rattle.std.proofs.lemmas.Iterator.{YieldsList-from_slice}
@@ -23,7 +23,7 @@ loop-i-preserved g c = record {
 pub returns : goal.returns
 returns g c =
     let a : c.any.result ≡ list_any too_large c.args.each =
-        any_from_yields_List too_large _ _ c.any.result c.any.ensures.ran (YieldsList-from_slice c.args.each (cc)) (λ x b q k. search (rules, tests)) in
+    any_from_yields_List too_large _ _ c.any.result c.any.ensures.ran (YieldsList-from_slice c.args.each (cc)) (λ x b q k. search (rules, tests)) in
     let s : c.loop-i.word-items ≡ map word_of c.args.each =
-        sym (take_all c.loop-i.i c.loop-i.word-items (search rules)) ∙ c.loop-i.invariant.same ∙ ap (map word_of) (take_all c.loop-i.i c.args.each (search rules)) in
+    sym (take_all c.loop-i.i c.loop-i.word-items (search rules)) ∙ c.loop-i.invariant.same ∙ ap (map word_of) (take_all c.loop-i.i c.args.each (search rules)) in
     rw (s, ← a, c.if-any.false)
