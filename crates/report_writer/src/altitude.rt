@@ -7,7 +7,7 @@ ghost use Rattle.report_writer.specs.Data.{bits_or_none};
 use reports::altitude::Form;
 use words::weights;
 
-// How many magnitudes eleven bits have. It is also what the first of twelve bits weighs, and the magnitude of the lowest altitude in two's complement.
+// Eleven bits hold the magnitudes below it. It is also what the first of twelve bits weighs, and the magnitude of the lowest altitude in two's complement.
 const MAGNITUDES: u16 = weights::ELEVEN_BITS;
 
 // A sign, 1 negative, and eleven bits.
