@@ -7,7 +7,7 @@ ghost use Rattle.report_writer.specs.Data.{placed};
 
 // A field of one bit.
 pub(crate) fn flag<const END: u32>(b: bool) -> u32
-    requires { (1 ≤ END) × (END ≤ 12) }
+    requires { END ≤ 12 }
     ensures { (result ≡ placed (flag b) END) × (result ≤ 2 ^ (12 - END)) }
 {
     u32::from(b) << (12 - END)
@@ -23,7 +23,7 @@ pub(crate) fn count<const BITS: u32, const END: u32>(n: u32) -> u32
 
 // The lower bits of a number, at the head of a word. Its upper bits stand in the word before.
 pub(crate) fn rest<const BITS: u32>(n: u32) -> u32
-    requires { (1 ≤ BITS) × (BITS ≤ 12) }
+    requires { BITS ≤ 12 }
     ensures { result ≡ placed (rest BITS n) BITS }
 {
     n % (1 << BITS) << (12 - BITS)

@@ -1,6 +1,7 @@
 // A report to its words, or to refusal 11 where a value is too large for its field.
 // Each word's data is computed without a branch, field by field as its layout has it; a value too large pushes the number above 4095
-// (`data_or_more`), and one function looks at the numbers at the end and makes the words. Relies on words for the parity bit.
+// (`data_or_more`), and one function looks at the numbers at the end and makes the words. Relies on words for the parity bit, measures for the
+// types of counts.
 #![tactic(auto)]
 
 ghost use Rattle.std.specs.Prelude.{◌≡◌, [], ◌∷◌, ◌/◌, ◌<◌, ◌^◌};
@@ -13,6 +14,7 @@ ghost use Rattle.report_writer.specs.Data.{data_or_more, data_by, words_or_11};
 
 use altitude::altitude_bits;
 use field::{count, flag, rest};
+use measures::{CoarseRange, FineAzimuth, FineRange, RunLength, Time};
 use refusals::LineRefusal;
 use reports::altitude::Form;
 use reports::{
@@ -50,17 +52,17 @@ fn whole(n: u16) -> u32
 }
 
 // A range of eleven bits, or a Map's range stop, and a zero.
-fn coarse_range(range: u16) -> u32
-    ensures { result ≡ data_or_more (count 11 range ∷ spare 1 ∷ []) }
+fn coarse_range(range: CoarseRange) -> u32
+    ensures { result ≡ data_or_more (count 11 range.0 ∷ spare 1 ∷ []) }
 {
-    count::<11, 11>(range.into())
+    count::<11, 11>(range.0.into())
 }
 
 // The last word of Strobe and of RTQC.
-fn run_and_time(run: u8, time: u8) -> u32
-    ensures { result ≡ data_or_more (count 7 run ∷ count 5 time ∷ []) }
+fn run_and_time(run: RunLength, time: Time) -> u32
+    ensures { result ≡ data_or_more (count 7 run.0 ∷ count 5 time.0 ∷ []) }
 {
-    count::<7, 7>(run.into()) + count::<5, 12>(time.into())
+    count::<7, 7>(run.0.into()) + count::<5, 12>(time.0.into())
 }
 
 // The first word of MTD and RDAS search.
@@ -71,17 +73,17 @@ fn radar_first(test: bool, faa: bool) -> u32
 }
 
 // The end of a range of fifteen bits, and the start of an azimuth of thirteen.
-fn range_azimuth(range: u16, azimuth: u16) -> u32
-    ensures { result ≡ data_or_more (rest 3 range ∷ count 9 (azimuth / 2 ^ 4) ∷ []) }
+fn range_azimuth(range: FineRange, azimuth: FineAzimuth) -> u32
+    ensures { result ≡ data_or_more (rest 3 range.0 ∷ count 9 (azimuth.0 / 2 ^ 4) ∷ []) }
 {
-    rest::<3>(range.into()) + count::<9, 12>((azimuth >> 4).into())
+    rest::<3>(range.0.into()) + count::<9, 12>((azimuth.0 >> 4).into())
 }
 
 // The fourth word of MTD and RDAS search.
-fn radar_fourth(azimuth: u16, aims: bool, time: u8) -> u32
-    ensures { result ≡ data_or_more (rest 4 azimuth ∷ flag aims ∷ spare 1 ∷ count 6 time ∷ []) }
+fn radar_fourth(azimuth: FineAzimuth, aims: bool, time: Time) -> u32
+    ensures { result ≡ data_or_more (rest 4 azimuth.0 ∷ flag aims ∷ spare 1 ∷ count 6 time.0 ∷ []) }
 {
-    rest::<4>(azimuth.into()) + flag::<5>(aims) + count::<6, 12>(time.into())
+    rest::<4>(azimuth.0.into()) + flag::<5>(aims) + count::<6, 12>(time.0.into())
 }
 
 // ---- bits 6, 12 and 79 to 90 of DABS and ATCRBS
@@ -132,19 +134,23 @@ struct Beacon {
     height: Height,
 }
 
-fn beacon_first(b: Beacon) -> u32
-    ensures { result ≡ data_or_more (flag b.test ∷ fixed 2 seven_words ∷ flag b.dabs ∷ flag b.fifth ∷ flag (mode_c_of b.height) ∷ flag b.spi ∷ flag b.reinforced ∷ flag b.code7700 ∷ flag b.code7600 ∷ flag b.faa ∷ flag (radar b.height) ∷ []) }
-{
-    let first = flag::<1>(b.test)
-        + count::<2, 3>(forms::SEVEN_WORDS.into())
-        + flag::<4>(b.dabs)
-        + flag::<5>(b.fifth);
-    let middle = flag::<6>(mode_c_of(b.height)) + flag::<7>(b.spi) + flag::<8>(b.reinforced);
-    let last = flag::<9>(b.code7700)
-        + flag::<10>(b.code7600)
-        + flag::<11>(b.faa)
-        + flag::<12>(radar_of(b.height));
-    first + middle + last
+impl Beacon {
+    fn first_word(self) -> u32
+        ensures { result ≡ data_or_more (flag self.test ∷ fixed 2 seven_words ∷ flag self.dabs ∷ flag self.fifth ∷ flag (mode_c_of self.height) ∷ flag self.spi ∷ flag self.reinforced ∷ flag self.code7700 ∷ flag self.code7600 ∷ flag self.faa ∷ flag (radar self.height) ∷ []) }
+    {
+        let first = flag::<1>(self.test)
+            + count::<2, 3>(forms::SEVEN_WORDS.into())
+            + flag::<4>(self.dabs)
+            + flag::<5>(self.fifth);
+        let middle = flag::<6>(mode_c_of(self.height))
+            + flag::<7>(self.spi)
+            + flag::<8>(self.reinforced);
+        let last = flag::<9>(self.code7700)
+            + flag::<10>(self.code7600)
+            + flag::<11>(self.faa)
+            + flag::<12>(radar_of(self.height));
+        first + middle + last
+    }
 }
 
 // ---- the data of each report
@@ -154,7 +160,7 @@ fn search_data(s: Search) -> Data
 {
     Data::Four([
         first_of_four(s.test, forms::SEARCH_PATTERN, s.faa, s.af),
-        coarse_range(s.range.0),
+        coarse_range(s.range),
         whole(s.azimuth.0),
         flag::<1>(s.aims)
             + count::<2, 3>(s.code.into())
@@ -168,9 +174,9 @@ fn strobe_data(s: Strobe) -> Data
 {
     Data::Four([
         first_of_four(s.test, forms::STROBE_PATTERN, s.faa, s.af),
-        coarse_range(s.range.0),
+        coarse_range(s.range),
         whole(s.azimuth.0),
-        run_and_time(s.run.0, s.time.0),
+        run_and_time(s.run, s.time),
     ])
 }
 
@@ -182,9 +188,9 @@ fn map_data(m: Map) -> Data
             + count::<2, 10>(m.variation.into())
             + flag::<11>(m.faa)
             + flag::<12>(m.af),
-        coarse_range(m.start.0),
+        coarse_range(m.start),
         whole(m.azimuth.0),
-        coarse_range(m.stop.0),
+        coarse_range(m.stop),
     ])
 }
 
@@ -204,16 +210,16 @@ fn rtqc_data(s: Rtqc) -> Data
 {
     Data::Four([
         first_of_four(true, forms::RTQC_PATTERN, s.faa, s.af),
-        coarse_range(s.range.0),
+        coarse_range(s.range),
         whole(s.azimuth.0),
-        run_and_time(s.run.0, s.time.0),
+        run_and_time(s.run, s.time),
     ])
 }
 
 fn dabs_data(d: Dabs, form: Form) -> Data
     ensures { result ≡ data_by (dabs_layout (form_of form) d) }
 {
-    let first = beacon_first(Beacon {
+    let beacon = Beacon {
         test: d.test,
         dabs: true,
         fifth: d.primary,
@@ -223,11 +229,11 @@ fn dabs_data(d: Dabs, form: Form) -> Data
         code7600: d.code7600,
         faa: d.faa,
         height: d.height,
-    });
+    };
     Data::Seven([
-        first,
+        beacon.first_word(),
         whole(d.range.0 >> 3),
-        range_azimuth(d.range.0, d.azimuth.0),
+        range_azimuth(d.range, d.azimuth),
         rest::<4>(d.azimuth.0.into())
             + flag::<5>(d.alert)
             + flag::<8>(d.relay)
@@ -241,7 +247,7 @@ fn dabs_data(d: Dabs, form: Form) -> Data
 fn atcrbs_data(a: Atcrbs, form: Form) -> Data
     ensures { result ≡ data_by (atcrbs_layout (form_of form) a) }
 {
-    let first = beacon_first(Beacon {
+    let beacon = Beacon {
         test: a.test,
         dabs: false,
         fifth: a.mode3a,
@@ -251,15 +257,15 @@ fn atcrbs_data(a: Atcrbs, form: Form) -> Data
         code7600: a.code7600,
         faa: a.faa,
         height: a.height,
-    });
+    };
     let flags = flag::<5>(a.confidence)
         + flag::<6>(a.transition)
         + flag::<7>(a.false_target)
         + flag::<8>(a.relay);
     Data::Seven([
-        first,
+        beacon.first_word(),
         whole(a.range.0 >> 3),
-        range_azimuth(a.range.0, a.azimuth.0),
+        range_azimuth(a.range, a.azimuth),
         rest::<4>(a.azimuth.0.into()) + flags + count::<4, 12>(a.time.0.into()),
         whole(a.code),
         whole(a.file),
@@ -274,8 +280,8 @@ fn mtd_data(m: Mtd) -> Data
     Data::Seven([
         radar_first(m.test, m.faa),
         whole(m.range.0 >> 3),
-        range_azimuth(m.range.0, m.azimuth.0),
-        radar_fourth(m.azimuth.0, m.aims, m.time.0),
+        range_azimuth(m.range, m.azimuth),
+        radar_fourth(m.azimuth, m.aims, m.time),
         count::<6, 6>(m.doppler1.into()) + count::<6, 12>(m.doppler2.into()),
         whole(m.file),
         count::<2, 2>(m.quality.into())
@@ -291,8 +297,8 @@ fn rdas_data(r: Rdas) -> Data
     Data::Seven([
         radar_first(r.test, r.faa),
         whole(r.range.0 >> 3),
-        range_azimuth(r.range.0, r.azimuth.0),
-        radar_fourth(r.azimuth.0, r.aims, r.time.0),
+        range_azimuth(r.range, r.azimuth),
+        radar_fourth(r.azimuth, r.aims, r.time),
         0,
         whole(r.file),
         count::<4, 4>(r.quality.into())
