@@ -3,7 +3,7 @@
 use Rattle.std.specs.Prelude.{ℕ, ◌≡◌, Bool, true, false, not, cond, ◌||◌, List, [], ◌∷◌, map, length, eqb, Ok, Err, Result, MatchResult, IsOkAnd}
 use Rattle.std.specs.List.{list_any}
 use Rattle.std.specs.Result.{result_map_both}
-use mathlib.Core.Path.{refl, ap, ap₂}
+use mathlib.Core.Path.{refl, ap}
 use native.Mathlib.Omega.{arith}
 use borrow.Author.Tests.{eqb-true, le-leb, lt-leb}
 use Rattle.refusals.specs.declared.LineRefusal.{LineRefusal}
@@ -30,7 +30,7 @@ one_large fs t = go (fitting_all fs) refl
 -- the words, where every value fits
 each_word : (l : List (List Field)) → fitting_by l ≡ true → map word_of (map data_or_more l) ≡ words_by l
 each_word [] h = refl
-each_word (fs ∷ l) h = let k = both (fitting_all fs) (fitting_by l) h in ap₂ (λ (d : ℕ) (ws : List ℕ). word_of d ∷ ws) (fit_data fs k.0) (each_word l k.1)
+each_word (fs ∷ l) h = let k = both (fitting_all fs) (fitting_by l) h in cc (fit_data fs k.0, each_word l k.1)
 
 some_large : (l : List (List Field)) → twelve_each l ≡ true → list_any too_large (map data_or_more l) ≡ not (fitting_by l)
 some_large [] t = refl

@@ -59,7 +59,7 @@ fn coarse_range(range: CoarseRange) -> u32
 }
 
 // The last word of Strobe and of RTQC.
-fn run_and_time(run: RunLength, time: Time) -> u32
+fn strobe_last(run: RunLength, time: Time) -> u32
     ensures { result ≡ data_or_more (count 7 run.0 ∷ count 5 time.0 ∷ []) }
 {
     count::<7, 7>(run.0.into()) + count::<5, 12>(time.0.into())
@@ -176,7 +176,7 @@ fn strobe_data(s: Strobe) -> Data
         first_of_four(s.test, forms::STROBE_PATTERN, s.faa, s.af),
         coarse_range(s.range),
         whole(s.azimuth.0),
-        run_and_time(s.run, s.time),
+        strobe_last(s.run, s.time),
     ])
 }
 
@@ -212,7 +212,7 @@ fn rtqc_data(s: Rtqc) -> Data
         first_of_four(true, forms::RTQC_PATTERN, s.faa, s.af),
         coarse_range(s.range),
         whole(s.azimuth.0),
-        run_and_time(s.run, s.time),
+        strobe_last(s.run, s.time),
     ])
 }
 
