@@ -49,11 +49,7 @@ fn four_of(words: &[u16; 7]) -> (Report, u16)
 fn radar_code(words: &[u16; 7]) -> Option<u16>
     ensures { MatchOption result (bit words.now 12 ≡ false) (λ code. (bit words.now 12 ≡ true) × (code ≡ bits words.now 88 90)) }
 {
-    if bit(words, 12) {
-        Some(bits(words, 88, 90))
-    } else {
-        None
-    }
+    bit(words, 12).then(|| bits(words, 88, 90))
 }
 
 // Of bits 6, 12 and 79 to 90 of DABS and ATCRBS.
