@@ -7,7 +7,7 @@ ghost use Rattle.reports.specs.Runs.{read_run};
 ghost use Rattle.refusals.specs.declared.LineRefusal.{LineRefusal};
 ghost use Rattle.lines.specs.Line.{run_at};
 ghost use Rattle.lines.specs.Links.{on_link};
-ghost use Rattle.line_reader.specs.Places.{Decides, Ended, RunPlaces, run_words, found_in};
+ghost use Rattle.line_reader.specs.Places.{Decides, Ended, RunPlaces, faulty, run_words, found_in};
 
 use crate::answers::{no_such_link, not_taken};
 use crate::run::Places;
@@ -50,6 +50,13 @@ fn seek<L: Line, F: Fn(u16) -> bool>(line: &L, from: usize, to: usize, stops: F)
     to
 }
 
+// A word with a fault: too wide, or even.
+fn is_faulty(w: u16) -> bool
+    ensures { result ≡ faulty w }
+{
+    words::is_too_wide(w) || !words::is_odd(w)
+}
+
 // The places of the run at a place, or behind the idle words there. One search passes the words in front of the first fault, two pass those
 // behind it. Where there is no fault the last search has no word to look at. An idle word is even, so a search for a fault needs no test of its own
 // to stop at the end of the run.
@@ -59,14 +66,9 @@ fn places<L: Line>(line: &L, place: usize) -> Places
 {
     let n = line.count();
     let first = seek(line, place, n, |w| !words::is_idle(w));
-    let fault = seek(
-        line,
-        first,
-        n,
-        |w| words::is_too_wide(w) || !words::is_odd(w),
-    );
-    let after = seek(line, fault, n, |w| words::is_idle(w));
-    let too_wide = seek(line, fault, after, |w| words::is_too_wide(w));
+    let fault = seek(line, first, n, is_faulty);
+    let after = seek(line, fault, n, words::is_idle);
+    let too_wide = seek(line, fault, after, words::is_too_wide);
     Places {
         first,
         fault,
