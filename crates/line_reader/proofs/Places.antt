@@ -24,6 +24,7 @@ use Rattle.lines.specs.declared.Outcome.{Outcome}
 use Rattle.lines.specs.Line.{most, gap, stretch, run_in, end_of, placed, outcome_at, run_at, read_by, read_at}
 use Rattle.lines.specs.Bytes.{most_bytes, words_in, read_bytes}
 use Rattle.lines.proofs.Runs.{gap_all}
+use Rattle.lines.proofs.Walked.{stretch_front}
 use Rattle.line_reader.specs.declared.run.Places.{Places}
 use Rattle.line_reader.specs.Places.{not_idle, faulty, is_idle, Ended, RunPlaces, run_words, answer_at, answered, found_in, wide_refused, bytes_refused}
 use Rattle.line_reader.proofs.Searches.{to_end, next_through}
@@ -55,11 +56,6 @@ fault_found fault [] = refl
 fault_found fault (w ∷ ws) =
     let k = fault_found fault ws in
     by_test (eqb w idle) (λ e. rw e (omega arith)) (λ e. rw e (by_test (fault w) (λ f. rw f (omega arith)) (λ f. rw f (omega arith))))
-
-taken : (ws : List ℕ) → take (length (stretch ws)) ws ≡ stretch ws
-unfolding stretch
-taken [] = refl
-taken (w ∷ ws) = by_test (eqb w idle) (λ e. rw e) (λ e. rw e (ap (λ (l : List ℕ). w ∷ l) (taken ws)))
 
 -- ---- the answer to a run
 
@@ -156,7 +152,7 @@ module _ {line : List ℕ} {place : ℕ} {run : Places} (r : RunPlaces line plac
 
   words_are : run_words line run ≡ run_in (drop place line)
   words_are =
-      ap (λ (n : ℕ). take n (drop run.first line)) (count_is ∙ ap length (sym run_there)) ∙ taken (drop run.first line) ∙ run_there
+      ap (λ (n : ℕ). take n (drop run.first line)) (count_is ∙ ap length (sym run_there)) ∙ stretch_front (drop run.first line) ∙ run_there
 
   no_words : run_in (drop place line) ≡ [] → place + gap (drop place line) ≡ length line
   no_words e =
