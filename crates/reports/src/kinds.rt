@@ -1,9 +1,11 @@
 // The lister's name of each report: nine kinds, and DABS and ATCRBS once more for each radar that may stand in for the height.
 // Relies on the records of the crate.
-ghost use Rattle.std.specs.Prelude.{◌≡◌};
-ghost use Rattle.reports.specs.Kinds.{dabs_kind, atcrbs_kind, kind_of, kind_number};
+ghost use Rattle.std.specs.Prelude.{◌≡◌, Some};
+ghost use Rattle.reports.specs.Kinds.{kind_by, kind_of, kind_number, Numbered, no_kind, name_of};
 
 use crate::{Height, Report};
+use std::error::Error;
+use std::fmt;
 
 #[derive(Clone, Copy, Debug, PartialEq, Eq)]
 pub enum Kind {
@@ -26,36 +28,6 @@ pub enum Kind {
 
 // ---- the number that a C program knows each kind by
 
-pub const SEARCH: u32 = 101;
-
-pub const STROBE: u32 = 102;
-
-pub const MAP: u32 = 103;
-
-pub const STATUS: u32 = 104;
-
-pub const RTQC: u32 = 105;
-
-pub const DABS: u32 = 106;
-
-pub const DABS_CD: u32 = 107;
-
-pub const DABS_MTD: u32 = 108;
-
-pub const DABS_RDAS: u32 = 109;
-
-pub const ATCRBS: u32 = 110;
-
-pub const ATCRBS_CD: u32 = 111;
-
-pub const ATCRBS_MTD: u32 = 112;
-
-pub const ATCRBS_RDAS: u32 = 113;
-
-pub const MTD: u32 = 114;
-
-pub const RDAS: u32 = 115;
-
 impl From<Kind> for u8 {
     ghost from_gives = { λ kind number. number ≡ kind_number kind };
 
@@ -64,41 +36,92 @@ impl From<Kind> for u8 {
     }
 }
 
-// A DABS report's kind, by what stands in bits 79 to 90.
-fn dabs_kind(height: Height) -> Kind
-    ensures { result ≡ dabs_kind height }
-{
-    match height {
-        Height::Altitude(_) => Kind::Dabs,
-        Height::Carried(_) => Kind::Dabs,
-        Height::Cd { mode_c: _, run: _ } => Kind::DabsCd,
-        Height::Mtd {
-            mode_c: _,
-            quality: _,
-        } => Kind::DabsMtd,
-        Height::Rdas {
-            mode_c: _,
-            quality: _,
-        } => Kind::DabsRdas,
+// A number that no kind has.
+#[derive(Clone, Copy, Debug, PartialEq, Eq)]
+pub struct UnknownKind(pub u32);
+
+impl TryFrom<u32> for Kind {
+    type Error = UnknownKind;
+
+    ghost try_from_gives = { Numbered };
+
+    fn try_from(number: u32) -> Result<Kind, UnknownKind> {
+        match number {
+            101 => Ok(Kind::Search),
+            102 => Ok(Kind::Strobe),
+            103 => Ok(Kind::Map),
+            104 => Ok(Kind::Status),
+            105 => Ok(Kind::Rtqc),
+            106 => Ok(Kind::Dabs),
+            107 => Ok(Kind::DabsCd),
+            108 => Ok(Kind::DabsMtd),
+            109 => Ok(Kind::DabsRdas),
+            110 => Ok(Kind::Atcrbs),
+            111 => Ok(Kind::AtcrbsCd),
+            112 => Ok(Kind::AtcrbsMtd),
+            113 => Ok(Kind::AtcrbsRdas),
+            114 => Ok(Kind::Mtd),
+            115 => Ok(Kind::Rdas),
+            _ => Err(UnknownKind(number)),
+        }
     }
 }
 
-// An ATCRBS report's kind, by what stands in bits 79 to 90.
-fn atcrbs_kind(height: Height) -> Kind
-    ensures { result ≡ atcrbs_kind height }
+impl fmt::Display for UnknownKind {
+    ghost output = { λ e. Some (no_kind e) };
+
+    fn fmt<W: fmt::Write>(&self, f: &mut fmt::Formatter<W>) -> fmt::Result {
+        write!(f, "no kind of report has the number {}", self.0)
+    }
+}
+
+impl Error for UnknownKind {}
+
+// ---- the name that a listing says
+
+impl Kind {
+    pub fn name(self) -> &'static str
+        ensures { result.now ≡ name_of self }
+    {
+        match self {
+            Kind::Search => "SEARCH",
+            Kind::Strobe => "STROBE",
+            Kind::Map => "MAP",
+            Kind::Status => "STATUS",
+            Kind::Rtqc => "RTQC",
+            Kind::Dabs => "DABS",
+            Kind::DabsCd => "DABS-CD",
+            Kind::DabsMtd => "DABS-MTD",
+            Kind::DabsRdas => "DABS-RDAS",
+            Kind::Atcrbs => "ATCRBS",
+            Kind::AtcrbsCd => "ATCRBS-CD",
+            Kind::AtcrbsMtd => "ATCRBS-MTD",
+            Kind::AtcrbsRdas => "ATCRBS-RDAS",
+            Kind::Mtd => "MTD",
+            Kind::Rdas => "RDAS",
+        }
+    }
+}
+
+impl fmt::Display for Kind {
+    ghost output = { λ kind. Some (name_of kind) };
+
+    fn fmt<W: fmt::Write>(&self, f: &mut fmt::Formatter<W>) -> fmt::Result {
+        f.write_str(self.name())
+    }
+}
+
+// ---- a report's kind
+
+// Which of four kinds a DABS or ATCRBS is of, by what stands in bits 79 to 90.
+fn kind_by(height: Height, plain: Kind, cd: Kind, mtd: Kind, rdas: Kind) -> Kind
+    ensures { result ≡ kind_by height plain cd mtd rdas }
 {
     match height {
-        Height::Altitude(_) => Kind::Atcrbs,
-        Height::Carried(_) => Kind::Atcrbs,
-        Height::Cd { mode_c: _, run: _ } => Kind::AtcrbsCd,
-        Height::Mtd {
-            mode_c: _,
-            quality: _,
-        } => Kind::AtcrbsMtd,
-        Height::Rdas {
-            mode_c: _,
-            quality: _,
-        } => Kind::AtcrbsRdas,
+        Height::Altitude(_) | Height::Carried(_) => plain,
+        Height::Cd { .. } => cd,
+        Height::Mtd { .. } => mtd,
+        Height::Rdas { .. } => rdas,
     }
 }
 
@@ -111,14 +134,20 @@ pub fn kind_of(report: Report) -> Kind
         Report::Map(_) => Kind::Map,
         Report::Status(_) => Kind::Status,
         Report::Rtqc(_) => Kind::Rtqc,
-        Report::Dabs(d) => {
-            let height = d.height;
-            dabs_kind(height)
-        }
-        Report::Atcrbs(a) => {
-            let height = a.height;
-            atcrbs_kind(height)
-        }
+        Report::Dabs(d) => kind_by(
+            d.height,
+            Kind::Dabs,
+            Kind::DabsCd,
+            Kind::DabsMtd,
+            Kind::DabsRdas,
+        ),
+        Report::Atcrbs(a) => kind_by(
+            a.height,
+            Kind::Atcrbs,
+            Kind::AtcrbsCd,
+            Kind::AtcrbsMtd,
+            Kind::AtcrbsRdas,
+        ),
         Report::Mtd(_) => Kind::Mtd,
         Report::Rdas(_) => Kind::Rdas,
     }
