@@ -1,7 +1,7 @@
 -- Calls of the writer one after the other, and what one call leaves: the claims WrittenSo, Composed, OnlyItsWords and RefusedLeaves.
 -- Assumes nothing.
 use Rattle.std.specs.Prelude.{Ok, Result}
-use Prim.Native.Nat.{ℕ, zero, suc, ◌+◌, ◌-◌, ◌<◌}
+use Prim.Native.Nat.{ℕ, ◌+◌, ◌-◌, ◌<◌}
 use native.Mathlib.Nat.{zero-add}
 use mathlib.Core.Path.{◌≡◌, refl, ap, sym, ◌∙◌}
 use mathlib.Core.Logic.{⊎_elim}
