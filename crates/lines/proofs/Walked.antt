@@ -20,7 +20,6 @@ use Rattle.words.proofs.Tests.{picked, passed, by_test}
 use Rattle.lines.proofs.Runs.{runs_next, gap_all}
 use Rattle.reports.specs.declared.Report.{Report}
 use Rattle.reports.specs.declared.RunRefusal.{RunRefusal}
-use Rattle.reports.specs.Runs.{refused_at}
 
 -- ---- what runs bring
 
@@ -61,7 +60,7 @@ stretch_solid (w ∷ ws) =
     (λ e. subst Solid (sym (passed [] (w ∷ stretch ws) e)) (eqb-false w idle e, stretch_solid ws))
 
 -- the words in front of the first idle word, and the idle words in front
-stretch_front : (ws : List ℕ) → take (length (stretch ws)) ws ≡ stretch ws
+pub stretch_front : (ws : List ℕ) → take (length (stretch ws)) ws ≡ stretch ws
 unfolding stretch
 stretch_front [] = refl
 stretch_front (w ∷ ws) =

@@ -1,15 +1,15 @@
--- `line_reader::wide::run_at` meets its contract. Assumes nothing.
+-- `line_reader::line::run_at` meets its contract. Assumes nothing.
+use lib.ListN.{replicate}
 use mathlib.Core.List.{[], ◌∷◌}
 use Rattle.reports.specs.Altitude.{form_of}
 use Rattle.line_reader.proofs.Places.{answer_law, faulty_law}
-use Rattle.line_reader.proofs.wide.run_at.Goals as goal
+use Rattle.line_reader.proofs.line.run_at.Goals as goal
 
 pub returns-then-run : goal.returns-then-run
-returns-then-run c =
-    faulty_law c.places-run.ensures _ (0 ∷ 0 ∷ 0 ∷ 0 ∷ 0 ∷ 0 ∷ 0 ∷ []) _ c.if-run.true c.answer.ensures
+returns-then-run g c = faulty_law c.places-run.ensures (form_of c.args.form) (replicate 7 0) _ c.if-run.true c.answer.ensures
 
 pub returns : goal.returns
-returns c =
+returns g c =
     answer_law c.places-run.ensures (form_of c.args.form) _ _
     (λ i.
     c.word.ensures i
