@@ -52,9 +52,9 @@ few (suc j) n h =
     (λ e. let b = length_one n (ltb-true n 10 e) in omega arith)
     (λ e. let b = length_last n (ltb-false n 10 e) in let f = few j (n / 10) (omega arith) in omega arith)
 
-pub five : (n : ℕ) → n < 100000 → length (decimal n) ≤ 5
+pub five : (n : ℕ) → n < 2 ^ 16 → length (decimal n) ≤ 5
 unfolding tens
-five n h = few 4 n h
+five n h = few 4 n (omega arith)
 
 pub twenty : (n : ℕ) → n < 2 ^ 64 → length (decimal n) ≤ 20
 unfolding tens

@@ -30,7 +30,7 @@ use Rattle.listing.specs.Listing.{answer, line_for, run_lines, listing_of, listi
 use Rattle.listing.specs.Walking.{at, start, closed, Step, Says, Ended, step_on, step_at, said, onward, fills, reached}
 use Rattle.listing.specs.Claims.{Whole}
 use Rattle.listing.proofs.Bounded.{by_words}
-use Rattle.listing.proofs.Telling.{roomy, is_long, is_odd, is_read}
+use Rattle.listing.proofs.Telling.{is_long, is_odd, is_read}
 
 -- ---- calls and fills
 
@@ -167,10 +167,10 @@ module _ (bytes : List ℕ) (short : length bytes ≤ most_bytes) (even : length
       )
 
 -- one line is all that is said
-alone_said : (k : ℕ) (bytes all : List ℕ) (s : Step) → 1 ≤ k → step_at bytes start ≡ s → s ≡ Says all (closed start) → Says-all k bytes start all
-alone_said zero bytes all s h e t = absurd (omega arith)
-alone_said (suc k) bytes all s h e t =
-    let r = one_fill k bytes start (Says all (closed start)) [] (e ∙ t) (done_fills k bytes (closed start) refl) in
+alone_said : (k : ℕ) (bytes all : List ℕ) → 1 ≤ k → step_at bytes start ≡ Says all (closed start) → Says-all k bytes start all
+alone_said zero bytes all h e = absurd (omega arith)
+alone_said (suc k) bytes all h e =
+    let r = one_fill k bytes start (Says all (closed start)) [] e (done_fills k bytes (closed start) refl) in
     (r.0 ∙ append-nil all, r.1)
 
 pub whole : Whole
@@ -178,15 +178,15 @@ unfolding listing
 whole bytes k enough =
     by_test (ltb most_bytes (length bytes))
     (λ e.
-    let long = is_long 64 bytes start (omega arith) refl (ltb-true most_bytes (length bytes) e) in
-    let r = alone_said k bytes (text "LONG\n") _ (omega arith) (sym (roomy 64 bytes start (omega arith)) ∙ long) refl in
+    let long = is_long bytes start refl (ltb-true most_bytes (length bytes) e) in
+    let r = alone_said k bytes (text "LONG\n") (omega arith) long in
     (r.0 ∙ sym (picked _ _ e), r.1))
     (λ e.
     let short = ltb-false most_bytes (length bytes) e in
     by_test (eqb (length bytes % 2) 1)
     (λ f.
-    let odd = is_odd 64 bytes start (omega arith) refl short (eqb-true (length bytes % 2) 1 f) in
-    let r = alone_said k bytes (text "ODD\n") _ (omega arith) (sym (roomy 64 bytes start (omega arith)) ∙ odd) refl in
+    let odd = is_odd bytes start refl short (eqb-true (length bytes % 2) 1 f) in
+    let r = alone_said k bytes (text "ODD\n") (omega arith) odd in
     (r.0 ∙ sym (passed _ _ e ∙ picked _ _ f), r.1))
     (λ f.
     let r = words_said bytes short (eqb-false (length bytes % 2) 1 f) k enough in

@@ -5,15 +5,19 @@
 ghost use Rattle.std.specs.Prelude.{◌≡◌, ◌≤◌, length};
 ghost use Rattle.lines.specs.Links.{read_bytes_on};
 ghost use Rattle.listing.specs.Listing.{lister_form, lister_link};
-ghost use Rattle.listing.specs.Walking.{start, closed, step_on, step_in, Tells};
+ghost use Rattle.listing.specs.Walking.{start, closed, Says, step_on, step_at, step_in, came_to, Tells};
 ghost use Rattle.listing.specs.Bounds.{Within};
 
+pub use letters::LONGEST;
+use letters::Text;
 use line_reader::bytes;
 use lines::{MOST_BYTES, Outcome, What};
 use reports::altitude::Form;
 use reports::kinds;
+use std::error::Error;
+use std::fmt;
 
-mod letters; // letters.rt: texts and numbers into a buffer
+mod letters; // letters.rt: a line of text while it is put together
 mod said; // said.rt: the lines of a listing
 
 // The lister reads altitudes in document 01's form: a recording does not tell its own.
@@ -22,30 +26,49 @@ const FORM: Form = Form::SignMagnitude;
 // A listing has no link number. The lister reads with link 0; with any other from 0 to 15 the same is found.
 const LINK: u32 = 0;
 
-// No line of a listing is longer, so a buffer of that many bytes holds each.
-pub const LONGEST: usize = 64;
-
 // How far a walk over a recording has come: the place in its words, how many of the words before it stand in reports and in refused
 // runs, and whether all is said.
-#[derive(Clone, Copy)]
+#[derive(Clone, Copy, Debug, PartialEq, Eq)]
 pub struct Walk {
     pub place: usize,
     pub reported: usize,
     pub refused: usize,
+    // a walk that is done keeps its counts, so an enum of two states would hold them twice; the claim Whole speaks of this field
     pub done: bool,
 }
 
-// What a call of the walk put into the buffer.
-#[derive(Clone, Copy)]
-pub enum Piece {
-    // So many bytes, one line of the listing; the walk goes on from here.
-    Text(usize, Walk),
-    // Nothing: the listing is whole.
-    End,
-    // Nothing: no walk over this recording comes to such a state.
+// One line of the listing in the buffer: so many bytes; the walk goes on from here.
+#[derive(Clone, Copy, Debug, PartialEq, Eq)]
+pub struct Line {
+    pub len: usize,
+    pub next: Walk,
+}
+
+// Why nothing was put into the buffer though the listing is not whole.
+#[derive(Clone, Copy, Debug, PartialEq, Eq)]
+pub enum WalkError {
+    // No walk over this recording comes to such a state.
     Astray,
-    // Nothing: the buffer may be too short for the line.
+    // The buffer may be too short for the line.
     NoRoom,
+}
+
+impl fmt::Display for WalkError {
+    fn fmt<W: fmt::Write>(&self, f: &mut fmt::Formatter<W>) -> fmt::Result {
+        f.write_str(match self {
+            WalkError::Astray => "the walk over the recording went astray",
+            WalkError::NoRoom => "the buffer may be too short for a line",
+        })
+    }
+}
+
+impl Error for WalkError {}
+
+// A line before it is in the buffer, and the walk behind it.
+#[derive(Drop)]
+struct Told {
+    text: Text,
+    next: Walk,
 }
 
 impl Walk {
@@ -65,12 +88,7 @@ impl Walk {
     fn closed(self) -> Self
         ensures { result ≡ closed self }
     {
-        Walk {
-            place: self.place,
-            reported: self.reported,
-            refused: self.refused,
-            done: true,
-        }
+        Walk { done: true, ..self }
     }
 }
 
@@ -78,79 +96,97 @@ impl Walk {
 fn outcome_at(recording: &[u8], place: usize) -> Outcome
     ensures { result ≡ (read_bytes_on lister_form lister_link recording.now place).outcome }
 {
-    let received = bytes::read(recording, place, FORM, LINK);
-    received.outcome
+    bytes::read(recording, place, FORM, LINK).outcome
 }
 
 // The line for an outcome on a line of n words.
-fn say(walk: Walk, n: usize, o: Outcome, out: &mut [u8]) -> Piece
-    requires { (64 ≤ length out.old) × Within n walk o }
-    ensures { Tells (step_on n walk o) out.old result out.new }
+fn say(walk: Walk, n: usize, o: Outcome) -> Told
+    requires { Within n walk o }
+    ensures { step_on n walk o ≡ Says result.text result.next }
 {
-    let what = o.what;
-    let first = o.first;
+    let first = o.first as u16;
     let after = o.after;
-    let count = after - first;
-    match what {
-        What::Accepted(report) => {
-            let k = said::report(out, first, kinds::kind_of(report), count);
-            Piece::Text(
-                k,
-                Walk {
-                    place: after,
-                    reported: walk.reported + count,
-                    refused: walk.refused,
-                    done: false,
-                },
-            )
-        }
-        What::Refused(why) => {
-            let k = said::refused(out, first, why.number(), count, o.named);
-            Piece::Text(
-                k,
-                Walk {
-                    place: after,
-                    reported: walk.reported,
-                    refused: walk.refused + count,
-                    done: false,
-                },
-            )
-        }
+    let count = after - o.first;
+    match o.what {
+        What::Accepted(report) => Told {
+            text: said::report(first, kinds::kind_of(report), count as u16),
+            next: Walk {
+                place: after,
+                reported: walk.reported + count,
+                refused: walk.refused,
+                done: false,
+            },
+        },
+        What::Refused(why) => Told {
+            text: said::refused(first, why.number(), count as u16, o.named),
+            next: Walk {
+                place: after,
+                reported: walk.reported,
+                refused: walk.refused + count,
+                done: false,
+            },
+        },
         What::End => {
             let idle = n - walk.reported - walk.refused;
-            let k = said::totals(out, idle, walk.reported, walk.refused, n);
-            Piece::Text(k, walk.closed())
+            Told {
+                text: said::totals(
+                    idle as u16,
+                    walk.reported as u16,
+                    walk.refused as u16,
+                    n as u16,
+                ),
+                next: walk.closed(),
+            }
         }
     }
 }
 
-// The next line of a recording's listing, into the buffer.
-pub fn next(recording: &[u8], walk: Walk, out: &mut [u8]) -> Piece
+// A line that is all that is said, whatever the words are.
+fn alone(walk: Walk, only: &[u8]) -> Told
+    requires { length only.now ≤ 64 }
+    ensures text { result.text ≡ only.now }
+    ensures next { result.next ≡ closed walk }
+{
+    let mut text = Text::new();
+    text.text(only);
+    Told {
+        text,
+        next: walk.closed(),
+    }
+}
+
+// What a call comes to, before a buffer: a line, nothing where the listing is whole, or a refusal.
+fn step(recording: &[u8], walk: Walk) -> Result<Option<Told>, WalkError>
+    ensures { result ≡ came_to (step_at recording.now walk) }
+{
+    if walk.done {
+        return Ok(None);
+    }
+    if MOST_BYTES < recording.len() {
+        return Ok(Some(alone(walk, b"LONG\n")));
+    }
+    if recording.len() % 2 == 1 {
+        return Ok(Some(alone(walk, b"ODD\n")));
+    }
+    let n = recording.len() / 2;
+    if n < walk.place || walk.place < walk.reported || walk.place - walk.reported < walk.refused {
+        return Err(WalkError::Astray);
+    }
+    Ok(Some(say(walk, n, outcome_at(recording, walk.place))))
+}
+
+// The next line of a recording's listing, into the buffer; nothing where the listing is whole.
+pub fn next(recording: &[u8], walk: Walk, out: &mut [u8]) -> Result<Option<Line>, WalkError>
     ensures { Tells (step_in (length out.old) recording.now walk) out.old result out.new }
 {
     if out.len() < LONGEST {
-        return Piece::NoRoom;
+        return Err(WalkError::NoRoom);
     }
-    if walk.done {
-        return Piece::End;
+    match step(recording, walk)? {
+        Some(said) => Ok(Some(Line {
+            len: said.text.copy_to(out),
+            next: said.next,
+        })),
+        None => Ok(None),
     }
-    if MOST_BYTES < recording.len() {
-        let k = letters::put_text(out, 0, b"LONG\n");
-        return Piece::Text(k, walk.closed());
-    }
-    if recording.len() % 2 == 1 {
-        let k = letters::put_text(out, 0, b"ODD\n");
-        return Piece::Text(k, walk.closed());
-    }
-    let n = recording.len() / 2;
-    if n < walk.place {
-        return Piece::Astray;
-    }
-    if walk.place < walk.reported {
-        return Piece::Astray;
-    }
-    if walk.place - walk.reported < walk.refused {
-        return Piece::Astray;
-    }
-    say(walk, n, outcome_at(recording, walk.place), out)
 }
