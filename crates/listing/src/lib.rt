@@ -2,7 +2,7 @@
 // Relies on line_reader for the outcome at a place, reports for the kind of a report, refusals for a refusal's number.
 #![tactic(auto)]
 
-ghost use Rattle.std.specs.Prelude.{◌≡◌, ◌≤◌, length};
+ghost use Rattle.std.specs.Prelude.{◌≡◌, ◌≤◌, length, IfOk, IfSome};
 ghost use Rattle.lines.specs.Links.{read_bytes_on};
 ghost use Rattle.listing.specs.Listing.{lister_form, lister_link};
 ghost use Rattle.listing.specs.Walking.{start, closed, Says, step_on, step_at, step_in, came_to, Tells};
@@ -177,7 +177,8 @@ fn step(recording: &[u8], walk: Walk) -> Result<Option<Told>, WalkError>
 
 // The next line of a recording's listing, into the buffer; nothing where the listing is whole.
 pub fn next(recording: &[u8], walk: Walk, out: &mut [u8]) -> Result<Option<Line>, WalkError>
-    ensures { Tells (step_in (length out.old) recording.now walk) out.old result out.new }
+    ensures tells { Tells (step_in (length out.old) recording.now walk) out.old result out.new }
+    ensures within { IfOk result (λ told. IfSome told (λ line. line.len ≤ length out.old)) }
 {
     if out.len() < LONGEST {
         return Err(WalkError::NoRoom);

@@ -6,22 +6,22 @@ use Rattle.std.specs.Prelude.{Ok}
 use Rattle.listing.proofs.Telling.{is_cramped, roomy, line_told, end_told, error_told}
 use Rattle.listing.proofs.next.Goals as goal
 
-pub returns-then-out-lt-LONGEST : goal.returns-then-out-lt-LONGEST
-returns-then-out-lt-LONGEST c =
+pub returns-then-out-lt-LONGEST-clause-tells : goal.returns-then-out-lt-LONGEST-clause-tells
+returns-then-out-lt-LONGEST-clause-tells c =
     rw (is_cramped (length c.args.out.now) c.args.recording.now c.args.walk c.if-out-lt-LONGEST.true) (record { answers = refl; fits = omega arith; leaves = refl })
 
-pub returns-in_err-said : goal.returns-in_err-said
-returns-in_err-said c =
+pub returns-in_err-said-clause-tells : goal.returns-in_err-said-clause-tells
+returns-in_err-said-clause-tells c =
     let p = err_from_is_err_and c.from_residual.result c.from_residual.ensures.1 in
     rw (roomy (length c.args.out.now) c.args.recording.now c.args.walk c.if-out-lt-LONGEST.false, p.1, p.2) (error_told _ _ _ (sym c.step.ensures ∙ c.in_err-said.was))
 
-pub returns-in-Some : goal.returns-in-Some
-returns-in-Some c =
+pub returns-in-Some-clause-tells : goal.returns-in-Some-clause-tells
+returns-in-Some-clause-tells c =
     let came = sym c.step.ensures ∙ c.in_ok-said.was ∙ ap Ok c.in-Some.is in
     rw (roomy (length c.args.out.now) c.args.recording.now c.args.walk c.if-out-lt-LONGEST.false)
     (line_told _ _ _ _ _ came c.copy_to.ensures.len c.copy_to.ensures.fits c.copy_to.ensures.leaves)
 
-pub returns-in-None : goal.returns-in-None
-returns-in-None c =
+pub returns-in-None-clause-tells : goal.returns-in-None-clause-tells
+returns-in-None-clause-tells c =
     let came = sym c.step.ensures ∙ c.in_ok-said.was ∙ ap Ok c.in-None.is in
     rw (roomy (length c.args.out.now) c.args.recording.now c.args.walk c.if-out-lt-LONGEST.false) (end_told _ _ came)
