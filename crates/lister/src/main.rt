@@ -20,7 +20,7 @@ enum Trouble {
     Input(io::Error),
     Output(io::Error),
     // no walk from the start comes to this (the claim Whole of listing), and it is named all the same
-    Lost,
+    Lost(WalkError),
 }
 
 impl fmt::Display for Trouble {
@@ -28,7 +28,7 @@ impl fmt::Display for Trouble {
         match self {
             Trouble::Input(error) => write!(f, "standard input: {error}"),
             Trouble::Output(error) => write!(f, "standard output: {error}"),
-            Trouble::Lost => write!(f, "{}", WalkError::Astray),
+            Trouble::Lost(why) => write!(f, "{why}"),
         }
     }
 }
@@ -36,8 +36,8 @@ impl fmt::Display for Trouble {
 impl Error for Trouble {}
 
 impl From<WalkError> for Trouble {
-    fn from(_: WalkError) -> Self {
-        Trouble::Lost
+    fn from(why: WalkError) -> Self {
+        Trouble::Lost(why)
     }
 }
 
@@ -86,7 +86,7 @@ fn list(rt: HostRuntime, recording: &[u8], text: &mut [u8]) -> Result<(), Troubl
         at = start + line.len;
         walk = line.next;
     }
-    Err(Trouble::Lost)
+    Err(Trouble::Lost(WalkError::Astray))
 }
 
 fn run(rt: HostRuntime, buffer: &mut [u8], text: &mut [u8]) -> Result<(), Trouble> {

@@ -2,12 +2,14 @@
 use Prim.Native.Nat.{ℕ, ◌-◌, ◌/◌, ◌%◌, ◌≤◌, ◌<◌}
 use mathlib.Core.Path.{◌≡◌, refl, ap, sym, ◌∙◌}
 use mathlib.Core.Bool.{true, false}
-use mathlib.Core.List.{List, ◌++◌}
+use mathlib.Core.List.{List, [], ◌∷◌, ◌++◌}
 use native.Mathlib.Omega.{arith}
+use lib.Dec.{ltb}
 use lib.ListN.{length, drop}
 use borrow.Author.Tests.{lt-ltb, le-ltb, eq-eqb, ne_eqb}
 use Rattle.std.specs.Prelude.{Some, None, Ok, Err}
-use Rattle.lines.specs.Bytes.{most_bytes, words_in, read_bytes}
+use Rattle.lines.specs.Bytes.{most_bytes, read_bytes}
+use Rattle.rows.specs.Rows.{row, first_of}
 use Rattle.words.proofs.Tests.{picked, passed}
 use Rattle.lines.proofs.ByteWords.{words_length}
 use Rattle.listing.specs.declared.Told.{Told}
@@ -65,36 +67,28 @@ module _ (bytes : List ℕ) (w : Walk) where
 
 -- on a recording of n words
 module _ (bytes : List ℕ) (w : Walk) (n : ℕ) (d : w.done ≡ false) (s : length bytes ≤ most_bytes) (e : length bytes % 2 ≡ 1 → ⊥) (size : n ≡ length bytes / 2) where
-  words_are : length (words_in bytes) ≡ n
-  words_are = words_length bytes ∙ sym size
+  -- what is left behind the tests of the bytes
+  worded : step_at bytes w ≡ first_of
+      (row (ltb n w.place) Astray ∷ row (ltb w.place w.reported) Astray ∷ row (ltb (w.place - w.reported) w.refused) Astray ∷ [])
+      (step_on n w (read_bytes lister_form bytes w.place))
+  unfolding step_at
+  worded =
+      passed _ _ d ∙ passed _ _ (le-ltb most_bytes (length bytes) s) ∙ passed _ _ (ne_eqb (length bytes % 2) 1 e)
+      ∙ ap (λ (k : ℕ). first_of
+      (row (ltb k w.place) Astray ∷ row (ltb w.place w.reported) Astray ∷ row (ltb (w.place - w.reported) w.refused) Astray ∷ [])
+      (step_on k w (read_bytes lister_form bytes w.place))) (words_length bytes ∙ sym size)
 
   pub is_beyond : n < w.place → step_at bytes w ≡ Astray
-  unfolding step_at
-  is_beyond h =
-      passed _ _ d ∙ passed _ _ (le-ltb most_bytes (length bytes) s) ∙ passed _ _ (ne_eqb (length bytes % 2) 1 e)
-      ∙ picked _ _ (lt-ltb (length (words_in bytes)) w.place (let k = words_are in omega arith))
+  is_beyond h = worded ∙ picked _ _ (lt-ltb n w.place h)
 
   pub is_over : w.place ≤ n → w.place < w.reported → step_at bytes w ≡ Astray
-  unfolding step_at
-  is_over a h =
-      passed _ _ d ∙ passed _ _ (le-ltb most_bytes (length bytes) s) ∙ passed _ _ (ne_eqb (length bytes % 2) 1 e)
-      ∙ passed _ _ (le-ltb (length (words_in bytes)) w.place (let k = words_are in omega arith))
-      ∙ picked _ _ (lt-ltb w.place w.reported h)
+  is_over a h = worded ∙ passed _ _ (le-ltb n w.place a) ∙ picked _ _ (lt-ltb w.place w.reported h)
 
   pub is_more : w.place ≤ n → w.reported ≤ w.place → w.place - w.reported < w.refused → step_at bytes w ≡ Astray
-  unfolding step_at
   is_more a b h =
-      passed _ _ d ∙ passed _ _ (le-ltb most_bytes (length bytes) s) ∙ passed _ _ (ne_eqb (length bytes % 2) 1 e)
-      ∙ passed _ _ (le-ltb (length (words_in bytes)) w.place (let k = words_are in omega arith))
-      ∙ passed _ _ (le-ltb w.place w.reported b)
-      ∙ picked _ _ (lt-ltb (w.place - w.reported) w.refused h)
+      worded ∙ passed _ _ (le-ltb n w.place a) ∙ passed _ _ (le-ltb w.place w.reported b) ∙ picked _ _ (lt-ltb (w.place - w.reported) w.refused h)
 
   pub is_read : w.place ≤ n → w.reported ≤ w.place → w.refused ≤ w.place - w.reported
       → step_at bytes w ≡ step_on n w (read_bytes lister_form bytes w.place)
-  unfolding step_at
   is_read a b c =
-      passed _ _ d ∙ passed _ _ (le-ltb most_bytes (length bytes) s) ∙ passed _ _ (ne_eqb (length bytes % 2) 1 e)
-      ∙ passed _ _ (le-ltb (length (words_in bytes)) w.place (let k = words_are in omega arith))
-      ∙ passed _ _ (le-ltb w.place w.reported b)
-      ∙ passed _ _ (le-ltb (w.place - w.reported) w.refused c)
-      ∙ ap (λ (k : ℕ). step_on k w (read_bytes lister_form bytes w.place)) words_are
+      worded ∙ passed _ _ (le-ltb n w.place a) ∙ passed _ _ (le-ltb w.place w.reported b) ∙ passed _ _ (le-ltb (w.place - w.reported) w.refused c)

@@ -1,4 +1,4 @@
-// A line of a listing while it is put together: at most 64 bytes, which hold every line. Relies on nothing.
+// A line of a listing while it is put together: at most 64 bytes, which hold every line. Relies on the kit's itoa for a number in decimal.
 ghost use Rattle.std.specs.Prelude.{ℕ, ◌≡◌, ◌+◌, ◌≤◌, ◌<◌, List, [], ◌∷◌, ◌++◌, length, take, drop};
 ghost use Rattle.listing.specs.Letters.{decimal};
 
@@ -7,7 +7,7 @@ use std::marker::Model;
 // No line of a listing is longer, so a buffer of that many bytes holds each.
 pub const LONGEST: usize = 64;
 
-// A text of at most 64 bytes. A clause sees its bytes.
+// A text of at most 64 bytes, in an array, since the project has no heap. A clause sees the bytes put so far.
 #[derive(Drop)]
 pub struct Text {
     bytes: [u8; LONGEST],
@@ -43,29 +43,15 @@ impl Text {
         self.len = end;
     }
 
-    // One digit behind the text.
-    fn digit(&mut self, digit: usize)
-        requires { (length self.old < 64) × (digit < 10) }
-        ensures is { self.new ≡ self.old ++ ((48 + digit) ∷ []) }
-        ensures len { length self.new ≡ length self.old + 1 }
-    {
-        self.bytes[self.len] = 48 + digit as u8;
-        self.len += 1;
-    }
-
-    #[tactic(auto, using(crate::proofs::Decimals::one_digit, crate::proofs::Decimals::last_digit, crate::proofs::Decimals::length_one, crate::proofs::Decimals::length_last))]
-    // A number behind the text: all digits but the last, and then the last.
+    // A number behind the text. `write!` could answer an error, and no contract says that it does not; the text of itoa is there in every case.
+    #[tactic(auto, using(crate::proofs::Decimals::same))]
     pub fn number(&mut self, n: usize)
         requires { length self.old + length (decimal n) ≤ 64 }
         ensures is { self.new ≡ self.old ++ decimal n }
         ensures len { length self.new ≡ length self.old + length (decimal n) }
     {
-        if n < 10 {
-            self.digit(n);
-        } else {
-            self.number(n / 10);
-            self.digit(n % 10);
-        }
+        let mut digits = itoa::Buffer::new();
+        self.text(digits.format(n).as_bytes());
     }
 
     // A label and a number behind the text.

@@ -2,11 +2,12 @@
 // Relies on line_reader for the outcome at a place, reports for the kind of a report, refusals for a refusal's number.
 #![tactic(auto)]
 
-ghost use Rattle.std.specs.Prelude.{◌≡◌, ◌≤◌, length, IfOk, IfSome};
+ghost use Rattle.std.specs.Prelude.{◌≡◌, ◌≤◌, length, Some, IfOk, IfSome};
 ghost use Rattle.lines.specs.Links.{read_bytes_on};
 ghost use Rattle.listing.specs.Listing.{lister_form, lister_link};
 ghost use Rattle.listing.specs.Walking.{start, closed, Says, step_on, step_at, step_in, came_to, Tells};
 ghost use Rattle.listing.specs.Bounds.{Within};
+ghost use Rattle.listing.specs.Errors.{error_text};
 
 pub use letters::LONGEST;
 use letters::Text;
@@ -54,6 +55,8 @@ pub enum WalkError {
 }
 
 impl fmt::Display for WalkError {
+    ghost output = { λ why. Some (error_text why) };
+
     fn fmt<W: fmt::Write>(&self, f: &mut fmt::Formatter<W>) -> fmt::Result {
         f.write_str(match self {
             WalkError::Astray => "the walk over the recording went astray",

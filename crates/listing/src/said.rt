@@ -1,5 +1,5 @@
 // The three kinds of line that a listing has. Relies on letters. Places and counts of words are below 65,536: of at most five digits.
-ghost use Rattle.std.specs.Prelude.{◌≡◌};
+ghost use Rattle.std.specs.Prelude.{◌≡◌, ◌≤◌, length};
 ghost use Rattle.listing.specs.Letters.{name_of, report_line, refused_line, totals_line};
 
 use crate::letters::Text;
@@ -7,7 +7,8 @@ use reports::kinds::Kind;
 
 // A kind's name.
 fn name(kind: Kind) -> &'static [u8]
-    ensures { result.now ≡ name_of kind }
+    ensures is { result.now ≡ name_of kind }
+    ensures short { length result.now ≤ 11 }
 {
     match kind {
         Kind::Search => b"SEARCH",
@@ -29,7 +30,7 @@ fn name(kind: Kind) -> &'static [u8]
 }
 
 // The line of a report.
-#[tactic(auto, using(crate::proofs::Decimals::five, crate::proofs::Decimals::twenty, crate::proofs::Putting::name_short))]
+#[tactic(auto, using(crate::proofs::Decimals::five))]
 pub fn report(place: u16, kind: Kind, count: u16) -> Text
     ensures { result ≡ report_line place kind count }
 {
@@ -43,7 +44,7 @@ pub fn report(place: u16, kind: Kind, count: u16) -> Text
 }
 
 // The line of a refused run.
-#[tactic(auto, using(crate::proofs::Decimals::five, crate::proofs::Decimals::twenty, crate::proofs::Putting::name_short))]
+#[tactic(auto, using(crate::proofs::Decimals::five, crate::proofs::Decimals::twenty))]
 pub fn refused(place: u16, number: u8, count: u16, named: usize) -> Text
     ensures { result ≡ refused_line place number count named }
 {
@@ -57,7 +58,7 @@ pub fn refused(place: u16, number: u8, count: u16, named: usize) -> Text
 }
 
 // The last line.
-#[tactic(auto, using(crate::proofs::Decimals::five, crate::proofs::Decimals::twenty, crate::proofs::Putting::name_short))]
+#[tactic(auto, using(crate::proofs::Decimals::five))]
 pub fn totals(idle: u16, reported: u16, refused: u16, total: u16) -> Text
     ensures { result ≡ totals_line idle reported refused total }
 {
