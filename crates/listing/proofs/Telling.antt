@@ -12,32 +12,31 @@ use Rattle.lines.specs.Bytes.{most_bytes, read_bytes}
 use Rattle.rows.specs.Rows.{row, first_of}
 use Rattle.words.proofs.Tests.{picked, passed}
 use Rattle.lines.proofs.ByteWords.{words_length}
-use Rattle.listing.specs.declared.Told.{Told}
 use Rattle.listing.specs.declared.Walk.{Walk}
 use Rattle.listing.specs.declared.WalkError.{WalkError}
 use Rattle.listing.specs.Letters.{text}
 use Rattle.listing.specs.Listing.{lister_form}
-use Rattle.listing.specs.Walking.{closed, Step, Says, Ended, Astray, Cramped, step_on, step_at, step_in, came_to, Tells}
+use Rattle.listing.specs.Walking.{closed, Step, Says, Ended, Astray, Cramped, step_on, step_at, step_in, said, came_to, Tells}
 
 -- ---- what is told of a step
 
 -- a line stands at the buffer's start
-pub line_told : (s : Step) (told : Told) (e p : List ℕ) (n : ℕ) → came_to s ≡ Ok (Some told) → n ≡ length told.text → n ≤ 64 → p ≡ told.text ++ drop (length told.text) e
-    → Tells s e (Ok (Some (record { len = n; next = told.next }))) p
-line_told (Says line next) told e p n h size fits leaves = record { answers = grind arith; fits = grind arith; leaves = grind arith }
-line_told Ended told e p n h size fits leaves = grind arith
-line_told Astray told e p n h size fits leaves = grind arith
-line_told Cramped told e p n h size fits leaves = grind arith
+pub line_told : (s : Step) (next : Walk) (line e p : List ℕ) (n : ℕ) → came_to s ≡ Ok (Some next) → line ≡ said s → n ≡ length line → n ≤ 64
+    → p ≡ line ++ drop (length line) e → Tells s e (Ok (Some (record { len = n; next = next }))) p
+line_told (Says l w) next line e p n h is size fits leaves = record { answers = grind arith; fits = grind arith; leaves = grind arith }
+line_told Ended next line e p n h is size fits leaves = grind arith
+line_told Astray next line e p n h is size fits leaves = grind arith
+line_told Cramped next line e p n h is size fits leaves = grind arith
 
 -- nothing was put: the listing is whole, or the call is refused
 pub end_told : (s : Step) (e : List ℕ) → came_to s ≡ Ok None → Tells s e (Ok None) e
-end_told (Says line next) e h = grind arith
+end_told (Says l w) e h = grind arith
 end_told Ended e h = record { answers = refl; fits = omega arith; leaves = refl }
 end_told Astray e h = grind arith
 end_told Cramped e h = grind arith
 
 pub error_told : (s : Step) (e : List ℕ) (why : WalkError) → came_to s ≡ Err why → Tells s e (Err why) e
-error_told (Says line next) e why h = grind arith
+error_told (Says l w) e why h = grind arith
 error_told Ended e why h = grind arith
 error_told Astray e why h = record { answers = grind arith; fits = omega arith; leaves = refl }
 error_told Cramped e why h = record { answers = grind arith; fits = omega arith; leaves = refl }

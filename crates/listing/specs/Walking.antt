@@ -10,7 +10,6 @@ use Rattle.lines.specs.Bytes.{most_bytes, words_in}
 use Rattle.lines.specs.Links.{read_bytes_on}
 use Rattle.listing.specs.declared.Walk.{Walk}
 use Rattle.listing.specs.declared.Line.{Line}
-use Rattle.listing.specs.declared.Told.{Told}
 use Rattle.listing.specs.declared.WalkError.{WalkError}
 use Rattle.listing.specs.declared.WalkError.TheVariants as E
 use Rattle.listing.specs.Listing.{lister_form, lister_link}
@@ -80,9 +79,9 @@ answered Ended = Ok None
 answered Astray = Err E.Astray
 answered Cramped = Err E.NoRoom
 
--- the same before a buffer, with the line itself
-abbrev pub came_to : Step → Result (Option Told) WalkError
-came_to (Says line next) = Ok (Some (record { text = line; next = next }))
+-- the same before the buffer, without the line
+abbrev pub came_to : Step → Result (Option Walk) WalkError
+came_to (Says line next) = Ok (Some next)
 came_to Ended = Ok None
 came_to Astray = Err E.Astray
 came_to Cramped = Err E.NoRoom

@@ -2,10 +2,10 @@
 // Relies on line_reader for the outcome at a place, reports for the kind of a report, refusals for a refusal's number.
 #![tactic(auto)]
 
-ghost use Rattle.std.specs.Prelude.{◌≡◌, ◌≤◌, length, Some, IfOk, IfSome};
+ghost use Rattle.std.specs.Prelude.{◌≡◌, ◌≤◌, [], length, Some, IfOk, IfSome};
 ghost use Rattle.lines.specs.Links.{read_bytes_on};
 ghost use Rattle.listing.specs.Listing.{lister_form, lister_link};
-ghost use Rattle.listing.specs.Walking.{start, closed, Says, step_on, step_at, step_in, came_to, Tells};
+ghost use Rattle.listing.specs.Walking.{start, closed, Says, step_on, step_at, step_in, said, came_to, Tells};
 ghost use Rattle.listing.specs.Bounds.{Within};
 ghost use Rattle.listing.specs.Errors.{error_text};
 
@@ -67,13 +67,6 @@ impl fmt::Display for WalkError {
 
 impl Error for WalkError {}
 
-// A line before it is in the buffer, and the walk behind it.
-#[derive(Drop)]
-struct Told {
-    text: Text,
-    next: Walk,
-}
-
 impl Walk {
     // A walk that has not begun.
     pub fn new() -> Self
@@ -102,80 +95,70 @@ fn outcome_at(recording: &[u8], place: usize) -> Outcome
     bytes::read(recording, place, FORM, LINK).outcome
 }
 
-// The line for an outcome on a line of n words.
-fn say(walk: Walk, n: usize, o: Outcome) -> Told
-    requires { Within n walk o }
-    ensures { step_on n walk o ≡ Says result.text result.next }
+// The line for an outcome on a line of n words, into a text that is empty; the walk behind it.
+fn say(walk: Walk, n: usize, o: Outcome, text: &mut Text) -> Walk
+    requires within { Within n walk o }
+    requires empty { text.old ≡ [] }
+    ensures { step_on n walk o ≡ Says text.new result }
 {
     let first = o.first as u16;
     let after = o.after;
     let count = after - o.first;
     match o.what {
-        What::Accepted(report) => Told {
-            text: said::report(first, kinds::kind_of(report), count as u16),
-            next: Walk {
+        What::Accepted(report) => {
+            said::report(text, first, kinds::kind_of(report), count as u16);
+            Walk {
                 place: after,
                 reported: walk.reported + count,
                 refused: walk.refused,
                 done: false,
-            },
-        },
-        What::Refused(why) => Told {
-            text: said::refused(first, why.number(), count as u16, o.named),
-            next: Walk {
+            }
+        }
+        What::Refused(why) => {
+            said::refused(text, first, why.number(), count as u16, o.named);
+            Walk {
                 place: after,
                 reported: walk.reported,
                 refused: walk.refused + count,
                 done: false,
-            },
-        },
+            }
+        }
         What::End => {
             let idle = n - walk.reported - walk.refused;
-            Told {
-                text: said::totals(
-                    idle as u16,
-                    walk.reported as u16,
-                    walk.refused as u16,
-                    n as u16,
-                ),
-                next: walk.closed(),
-            }
+            said::totals(
+                text,
+                idle as u16,
+                walk.reported as u16,
+                walk.refused as u16,
+                n as u16,
+            );
+            walk.closed()
         }
     }
 }
 
-// A line that is all that is said, whatever the words are.
-fn alone(walk: Walk, only: &[u8]) -> Told
-    requires { length only.now ≤ 64 }
-    ensures text { result.text ≡ only.now }
-    ensures next { result.next ≡ closed walk }
-{
-    let mut text = Text::new();
-    text.text(only);
-    Told {
-        text,
-        next: walk.closed(),
-    }
-}
-
-// What a call comes to, before a buffer: a line, nothing where the listing is whole, or a refusal.
-fn step(recording: &[u8], walk: Walk) -> Result<Option<Told>, WalkError>
-    ensures { result ≡ came_to (step_at recording.now walk) }
+// What a call comes to, before the buffer: a line into a text that is empty, and the walk behind it; nothing where the listing is whole; or a refusal.
+fn step(recording: &[u8], walk: Walk, text: &mut Text) -> Result<Option<Walk>, WalkError>
+    requires { text.old ≡ [] }
+    ensures text { text.new ≡ said (step_at recording.now walk) }
+    ensures walk { result ≡ came_to (step_at recording.now walk) }
 {
     if walk.done {
         return Ok(None);
     }
     if MOST_BYTES < recording.len() {
-        return Ok(Some(alone(walk, b"LONG\n")));
+        text.text(b"LONG\n");
+        return Ok(Some(walk.closed()));
     }
     if recording.len() % 2 == 1 {
-        return Ok(Some(alone(walk, b"ODD\n")));
+        text.text(b"ODD\n");
+        return Ok(Some(walk.closed()));
     }
     let n = recording.len() / 2;
     if n < walk.place || walk.place < walk.reported || walk.place - walk.reported < walk.refused {
         return Err(WalkError::Astray);
     }
-    Ok(Some(say(walk, n, outcome_at(recording, walk.place))))
+    Ok(Some(say(walk, n, outcome_at(recording, walk.place), text)))
 }
 
 // The next line of a recording's listing, into the buffer; nothing where the listing is whole.
@@ -186,10 +169,11 @@ pub fn next(recording: &[u8], walk: Walk, out: &mut [u8]) -> Result<Option<Line>
     if out.len() < LONGEST {
         return Err(WalkError::NoRoom);
     }
-    match step(recording, walk)? {
-        Some(said) => Ok(Some(Line {
-            len: said.text.copy_to(out),
-            next: said.next,
+    let mut text = Text::new();
+    match step(recording, walk, &mut text)? {
+        Some(next) => Ok(Some(Line {
+            len: text.copy_to(out),
+            next,
         })),
         None => Ok(None),
     }

@@ -1,5 +1,5 @@
-// The three kinds of line that a listing has. Relies on letters. Places and counts of words are below 65,536: of at most five digits.
-ghost use Rattle.std.specs.Prelude.{◌≡◌, ◌≤◌, length};
+// The three kinds of line that a listing has, each into a text that is empty. Relies on letters. Places and counts of words are below 65,536: of at most five digits.
+ghost use Rattle.std.specs.Prelude.{◌≡◌, ◌≤◌, [], length};
 ghost use Rattle.listing.specs.Letters.{name_of, report_line, refused_line, totals_line};
 
 use crate::letters::Text;
@@ -31,42 +31,39 @@ fn name(kind: Kind) -> &'static [u8]
 
 // The line of a report.
 #[tactic(auto, using(crate::proofs::Decimals::five))]
-pub fn report(place: u16, kind: Kind, count: u16) -> Text
-    ensures { result ≡ report_line place kind count }
+pub fn report(line: &mut Text, place: u16, kind: Kind, count: u16)
+    requires { line.old ≡ [] }
+    ensures { line.new ≡ report_line place kind count }
 {
-    let mut line = Text::new();
     line.number(usize::from(place));
     line.text(b" ");
     line.text(name(kind));
     line.item(b" ", usize::from(count));
     line.text(b"\n");
-    line
 }
 
 // The line of a refused run.
 #[tactic(auto, using(crate::proofs::Decimals::five, crate::proofs::Decimals::twenty))]
-pub fn refused(place: u16, number: u8, count: u16, named: usize) -> Text
-    ensures { result ≡ refused_line place number count named }
+pub fn refused(line: &mut Text, place: u16, number: u8, count: u16, named: usize)
+    requires { line.old ≡ [] }
+    ensures { line.new ≡ refused_line place number count named }
 {
-    let mut line = Text::new();
     line.number(usize::from(place));
     line.item(b" REFUSED ", usize::from(number));
     line.item(b" ", usize::from(count));
     line.item(b" ", named);
     line.text(b"\n");
-    line
 }
 
 // The last line.
 #[tactic(auto, using(crate::proofs::Decimals::five))]
-pub fn totals(idle: u16, reported: u16, refused: u16, total: u16) -> Text
-    ensures { result ≡ totals_line idle reported refused total }
+pub fn totals(line: &mut Text, idle: u16, reported: u16, refused: u16, total: u16)
+    requires { line.old ≡ [] }
+    ensures { line.new ≡ totals_line idle reported refused total }
 {
-    let mut line = Text::new();
     line.item(b"IDLE ", usize::from(idle));
     line.item(b" REPORTED ", usize::from(reported));
     line.item(b" REFUSED ", usize::from(refused));
     line.item(b" TOTAL ", usize::from(total));
     line.text(b"\n");
-    line
 }
