@@ -1,71 +1,61 @@
 // What the program prints.
 use lines::{NotWritten, Received, What};
-use std::io;
 use std::io::Stdout;
+use std::{fmt, io};
 
-pub fn line(out: Stdout, text: &str) -> io::Result<()> {
-    println!(out; "{text}")
-}
+// The name of what was found, and a refusal's number.
+#[derive(Clone, Copy)]
+struct Name(What);
 
-pub fn number(out: Stdout, n: u64) -> io::Result<()> {
-    print!(out; " {n}")
-}
-
-fn name(out: Stdout, what: What) -> io::Result<()> {
-    match what {
-        What::Accepted(_) => print!(out; "REPORT"),
-        What::Refused(q) => {
-            print!(out; "REFUSED")?;
-            number(out, u8::from(q) as u64)
+impl fmt::Display for Name {
+    fn fmt<W: fmt::Write>(&self, f: &mut fmt::Formatter<W>) -> fmt::Result {
+        match self.0 {
+            What::Accepted(_) => f.write_str("REPORT"),
+            What::Refused(why) => write!(f, "REFUSED {}", u8::from(why)),
+            What::End => f.write_str("END"),
         }
-        What::End => print!(out; "END"),
+    }
+}
+
+// What a reader answers: the name, the three places, and the link.
+#[derive(Clone, Copy)]
+pub struct Found(pub Received);
+
+impl fmt::Display for Found {
+    fn fmt<W: fmt::Write>(&self, f: &mut fmt::Formatter<W>) -> fmt::Result {
+        let o = self.0.outcome;
+        write!(
+            f,
+            "{} {} {} {} LINK {}",
+            Name(o.what),
+            o.first,
+            o.after,
+            o.named,
+            self.0.link
+        )
     }
 }
 
-// The name, the three places, and the link.
-pub fn outcome(out: Stdout, r: Received) -> io::Result<()> {
-    let o = r.outcome;
-    let what = o.what;
-    name(out, what)?;
-    number(out, o.first as u64)?;
-    number(out, o.after as u64)?;
-    number(out, o.named as u64)?;
-    print!(out; " LINK")?;
-    number(out, r.link as u64)?;
-    line(out, "")
-}
+// What a writer answers.
+#[derive(Clone, Copy)]
+pub struct Answer(pub Result<usize, NotWritten>);
 
-pub fn answer(out: Stdout, w: Result<usize, NotWritten>) -> io::Result<()> {
-    match w {
-        Ok(place) => {
-            print!(out; "NEXT")?;
-            number(out, place as u64)?;
-        }
-        Err(refusal) => {
-            let q = refusal.why;
-            print!(out; "REFUSED")?;
-            number(out, u8::from(q) as u64)?;
-            number(out, refusal.place as u64)?;
+impl fmt::Display for Answer {
+    fn fmt<W: fmt::Write>(&self, f: &mut fmt::Formatter<W>) -> fmt::Result {
+        match self.0 {
+            Ok(place) => write!(f, "NEXT {place}"),
+            Err(NotWritten { why, place }) => write!(f, "REFUSED {} {place}", u8::from(why)),
         }
     }
-    line(out, "")
-}
-
-fn changed_at(out: Stdout, i: usize, w: u16) -> io::Result<()> {
-    if !crate::lent::is_numbered(i, w) {
-        number(out, i as u64)?;
-        number(out, w as u64)?;
-    }
-    Ok(())
 }
 
 // The words that no longer tell their place.
 pub fn changed(out: Stdout, words: &[u16]) -> io::Result<()> {
     print!(out; "CHANGED")?;
-    let mut i: usize = 0;
-    while i < words.len() {
-        changed_at(out, i, words[i])?;
-        i += 1;
+    for (i, &word) in words.iter().enumerate() {
+        if !crate::lent::is_numbered(i, word) {
+            print!(out; " {i} {word}")?;
+        }
     }
-    line(out, "")
+    println!(out; "")
 }

@@ -6,12 +6,40 @@
 
 ghost use Rattle.std.specs.Prelude.{◌≤◌, length, IfOk};
 
-use listing::{LONGEST, Piece, Walk};
-use std::io;
-use std::io::{ErrorKind, Read};
+use listing::{LONGEST, Walk, WalkError};
+use std::error::Error;
+use std::io::Read;
+use std::{fmt, io};
 
 // More than a recording of 65,536 bytes has lines, its end among them.
 const CALLS: usize = 16386;
+
+// Why a listing lacks its last line.
+#[derive(Debug, Drop)]
+enum Trouble {
+    Input(io::Error),
+    Output(io::Error),
+    // no walk from the start comes to this (the claim Whole of listing), and it is named all the same
+    Lost(WalkError),
+}
+
+impl fmt::Display for Trouble {
+    fn fmt<W: fmt::Write>(&self, f: &mut fmt::Formatter<W>) -> fmt::Result {
+        match self {
+            Trouble::Input(error) => write!(f, "standard input: {error}"),
+            Trouble::Output(error) => write!(f, "standard output: {error}"),
+            Trouble::Lost(why) => write!(f, "{why}"),
+        }
+    }
+}
+
+impl Error for Trouble {}
+
+impl From<WalkError> for Trouble {
+    fn from(why: WalkError) -> Self {
+        Trouble::Lost(why)
+    }
+}
 
 // How many bytes came in before the input ended or the buffer was full, or why a read failed.
 fn take_in(rt: HostRuntime, buffer: &mut [u8]) -> io::Result<usize>
@@ -19,89 +47,51 @@ fn take_in(rt: HostRuntime, buffer: &mut [u8]) -> io::Result<usize>
 {
     let mut input = rt.stdin();
     let mut count: usize = 0;
+    // a read may bring fewer bytes than there is room for, so no iterator counts them; read_exact does not say how many came before the end
     while count < buffer.len() {
         let more = input.read(&mut buffer[count..])?;
         if more == 0 {
-            return Ok(count);
+            break;
         }
         count += more;
     }
     Ok(count)
 }
 
-// Writes the first n bytes of a text.
-fn put_out(rt: HostRuntime, text: &[u8], n: usize) -> io::Result<()> {
-    if text.len() < n {
-        return Err(io::Error::from(ErrorKind::InvalidInput));
-    }
-    rt.write_all(&text[0..n])
-}
-
-// What no walk from the start comes to (the claim Whole of listing), and is named all the same.
-fn lost(rt: HostRuntime) -> io::Result<()> {
-    eprintln!(rt; "lister: the walk over the recording went astray")
-}
-
-// Whether the first n bytes of a text went out. A failure is named.
-fn sent(rt: HostRuntime, text: &[u8], n: usize) -> io::Result<bool> {
-    if let Err(error) = put_out(rt, text, n) {
-        eprintln!(rt; "lister: standard output: {error}")?;
-        return Ok(false);
-    }
-    Ok(true)
+// Writes a text.
+fn put_out(rt: HostRuntime, text: &[u8]) -> Result<(), Trouble> {
+    rt.write_all(text).map_err(Trouble::Output)
 }
 
 // Where in a text of so many bytes, of which the first `at` are taken, the next line goes: behind them, or, where it may not fit, at the start.
 fn start_of(size: usize, at: usize) -> usize
+    requires { at ≤ size }
     ensures { result ≤ size }
 {
-    if size < at {
-        return 0;
-    }
-    if size - at < LONGEST {
-        return 0;
-    }
-    at
+    if size - at < LONGEST { 0 } else { at }
 }
 
 // The listing of a recording, line by line into a buffer, which goes out when another line may not fit, and at the end.
-fn list(rt: HostRuntime, recording: &[u8], text: &mut [u8]) -> io::Result<()> {
+fn list(rt: HostRuntime, recording: &[u8], text: &mut [u8]) -> Result<(), Trouble> {
     let mut walk = Walk::new();
-    let mut left = CALLS;
     let mut at: usize = 0;
-    while 0 < left {
+    for _ in 0..CALLS {
         let start = start_of(text.len(), at);
         if start < at {
-            if !sent(rt, text, at)? {
-                return Ok(());
-            }
+            put_out(rt, &text[..at])?;
         }
-        let piece = listing::next(recording, walk, &mut text[start..]);
-        match piece {
-            Piece::Text(n, next) => {
-                if text.len() - start < n {
-                    return lost(rt);
-                }
-                at = start + n;
-                walk = next;
-            }
-            Piece::End => {
-                sent(rt, text, start)?;
-                return Ok(());
-            }
-            Piece::Astray => return lost(rt),
-            Piece::NoRoom => return lost(rt),
-        }
-        left -= 1;
+        let Some(line) = listing::next(recording, walk, &mut text[start..])? else {
+            return put_out(rt, &text[..start]);
+        };
+        at = start + line.len;
+        walk = line.next;
     }
-    lost(rt)
+    Err(Trouble::Lost(WalkError::Astray))
 }
 
-fn run(rt: HostRuntime, buffer: &mut [u8], text: &mut [u8]) -> io::Result<()> {
-    match take_in(rt, buffer) {
-        Ok(n) => list(rt, &buffer[0..n], text),
-        Err(error) => eprintln!(rt; "lister: standard input: {error}"),
-    }
+fn run(rt: HostRuntime, buffer: &mut [u8], text: &mut [u8]) -> Result<(), Trouble> {
+    let count = take_in(rt, buffer).map_err(Trouble::Input)?;
+    list(rt, &buffer[..count], text)
 }
 
 // An error is returned where standard error itself cannot be written: every other failure is named there.
@@ -109,5 +99,8 @@ fn main(rt: HostRuntime) -> io::Result<()> {
     // one byte more than the longest recording, so that a longer one is seen
     let mut buffer = [0u8; 65537];
     let mut text = [0u8; 8192];
-    run(rt, &mut buffer, &mut text)
+    if let Err(trouble) = run(rt, &mut buffer, &mut text) {
+        eprintln!(rt; "lister: {trouble}")?;
+    }
+    Ok(())
 }

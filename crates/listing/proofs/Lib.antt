@@ -1,5 +1,4 @@
 pub mod Decimals
-pub mod Putting
 pub mod Bounded
 pub mod Telling
 pub mod Whole

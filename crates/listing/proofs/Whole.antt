@@ -1,6 +1,5 @@
 -- Successive fills are the whole listing: the claim Whole. The walk over a line from outcome to outcome is a law of lines; here is what is said of
 -- a run, and at the end. Assumes nothing.
-use Rattle.std.specs.Prelude.{Ok, Result, Err}
 use Prim.Native.Nat.{ℕ, zero, suc, ◌+◌, ◌-◌, ◌/◌, ◌%◌, ◌≤◌, ◌<◌}
 use native.Mathlib.Nat.{add-zero, zero-add, add_assoc}
 use mathlib.Core.Path.{◌≡◌, refl, ap, sym, ◌∙◌}
@@ -11,6 +10,7 @@ use lib.Dec.{eqb, ltb}
 use lib.ListN.{length}
 use borrow.Author.Tests.{ltb-true, ltb-false, eqb-true, eqb-false}
 use Rattle.refusals.specs.Numbers.{line_number}
+use Rattle.reports.specs.declared.RunRefusal.{RunRefusal}
 use Rattle.reports.specs.Kinds.{kind_of}
 use Rattle.lines.specs.declared.Outcome.{Outcome}
 use Rattle.lines.specs.Bytes.{most_bytes, words_in}
@@ -29,10 +29,7 @@ use Rattle.listing.specs.Listing.{answer, line_for, run_lines, listing_of, listi
 use Rattle.listing.specs.Walking.{at, start, closed, Step, Says, Ended, step_on, step_at, said, onward, fills, reached}
 use Rattle.listing.specs.Claims.{Whole}
 use Rattle.listing.proofs.Bounded.{by_words}
-use Rattle.listing.proofs.Telling.{roomy, is_long, is_odd, is_read}
-use Rattle.reports.specs.declared.Report.{Report}
-use Rattle.reports.specs.declared.RunRefusal.{RunRefusal}
-use Rattle.reports.specs.Runs.{refused_at}
+use Rattle.listing.proofs.Telling.{is_long, is_odd, is_read}
 
 -- ---- calls and fills
 
@@ -81,8 +78,8 @@ run_said n w f c (Ok report) =
     ∙ ap (λ (k : ℕ). Says (report_line f (kind_of report) c) (at (f + c) (w.reported + c) k)) (sym (add-zero w.refused))
 run_said n w f c (Err refusal) =
     let z : f + c - f ≡ c = omega arith in
-    ap (λ (k : ℕ). Says (refused_line f (line_number why) k (f + o)) (at (f + c) w.reported (w.refused + k))) z
-    ∙ ap (λ (k : ℕ). Says (refused_line f (line_number why) c (f + o)) (at (f + c) k (w.refused + c))) (sym (add-zero w.reported))
+    ap (λ (k : ℕ). Says (refused_line f (line_number refusal.why) k (f + refusal.offset)) (at (f + c) w.reported (w.refused + k))) z
+    ∙ ap (λ (k : ℕ). Says (refused_line f (line_number refusal.why) c (f + refusal.offset)) (at (f + c) k (w.refused + c))) (sym (add-zero w.reported))
 
 -- a walk that has counted no more words than lie before its place
 pub record Under-way (n : ℕ) (w : Walk) : Type 0 where
@@ -169,10 +166,10 @@ module _ (bytes : List ℕ) (short : length bytes ≤ most_bytes) (even : length
       )
 
 -- one line is all that is said
-alone_said : (k : ℕ) (bytes all : List ℕ) (s : Step) → 1 ≤ k → step_at bytes start ≡ s → s ≡ Says all (closed start) → Says-all k bytes start all
-alone_said zero bytes all s h e t = absurd (omega arith)
-alone_said (suc k) bytes all s h e t =
-    let r = one_fill k bytes start (Says all (closed start)) [] (e ∙ t) (done_fills k bytes (closed start) refl) in
+alone_said : (k : ℕ) (bytes all : List ℕ) → 1 ≤ k → step_at bytes start ≡ Says all (closed start) → Says-all k bytes start all
+alone_said zero bytes all h e = absurd (omega arith)
+alone_said (suc k) bytes all h e =
+    let r = one_fill k bytes start (Says all (closed start)) [] e (done_fills k bytes (closed start) refl) in
     (r.0 ∙ append-nil all, r.1)
 
 pub whole : Whole
@@ -180,15 +177,15 @@ unfolding listing
 whole bytes k enough =
     by_test (ltb most_bytes (length bytes))
     (λ e.
-    let long = is_long 64 bytes start (omega arith) refl (ltb-true most_bytes (length bytes) e) in
-    let r = alone_said k bytes (text "LONG\n") _ (omega arith) (sym (roomy 64 bytes start (omega arith)) ∙ long) refl in
+    let long = is_long bytes start refl (ltb-true most_bytes (length bytes) e) in
+    let r = alone_said k bytes (text "LONG\n") (omega arith) long in
     (r.0 ∙ sym (picked _ _ e), r.1))
     (λ e.
     let short = ltb-false most_bytes (length bytes) e in
     by_test (eqb (length bytes % 2) 1)
     (λ f.
-    let odd = is_odd 64 bytes start (omega arith) refl short (eqb-true (length bytes % 2) 1 f) in
-    let r = alone_said k bytes (text "ODD\n") _ (omega arith) (sym (roomy 64 bytes start (omega arith)) ∙ odd) refl in
+    let odd = is_odd bytes start refl short (eqb-true (length bytes % 2) 1 f) in
+    let r = alone_said k bytes (text "ODD\n") (omega arith) odd in
     (r.0 ∙ sym (passed _ _ e ∙ picked _ _ f), r.1))
     (λ f.
     let r = words_said bytes short (eqb-false (length bytes % 2) 1 f) k enough in

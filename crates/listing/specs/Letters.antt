@@ -1,6 +1,6 @@
 -- Text as bytes, numbers in decimal, and the three kinds of line that a listing has (document 01, "The C host and the lister").
 -- Definitions only.
-use Rattle.std.specs.Prelude.{ℕ, zero, suc, ◌+◌, ◌/◌, ◌%◌, ◌≤◌, ◌≡◌, cond, List, [], ◌∷◌, ◌++◌, ltb, length, take, drop}
+use Rattle.std.specs.Prelude.{ℕ, zero, suc, ◌+◌, ◌/◌, ◌%◌, cond, List, [], ◌∷◌, ◌++◌, ltb}
 use Prim.Native.Char.{code}
 use Prim.Native.String.{String, [] as []ˢ, ◌∷◌ as ◌∷ˢ◌}
 use Rattle.reports.specs.declared.kinds.Kind.{Kind}
@@ -54,15 +54,3 @@ refused_line place number count named = decimal place ++ item " REFUSED " number
 abbrev pub totals_line : ℕ → ℕ → ℕ → ℕ → List ℕ
 totals_line idle reported refused total =
     item "IDLE " idle ++ item " REPORTED " reported ++ item " REFUSED " refused ++ item " TOTAL " total ++ text "\n"
-
--- ---- what is put into a lent buffer
-
--- a buffer with these bytes in it from a place on, and all others as they were
-abbrev pub put : List ℕ → ℕ → List ℕ → List ℕ
-put buffer at bytes = take at buffer ++ bytes ++ drop (at + length bytes) buffer
-
--- these bytes were put there, all of them, and the place after them was answered
-pub record Put (entry : List ℕ) (at : ℕ) (bytes : List ℕ) (next : ℕ) (exit : List ℕ) : Type 0 where
-  pub answers : next ≡ at + length bytes
-  pub fits : next ≤ 64
-  pub leaves : exit ≡ put entry at bytes

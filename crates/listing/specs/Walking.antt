@@ -1,5 +1,5 @@
 -- The walk over a recording: what one call comes to, and calls one after the other. Definitions only.
-use Rattle.std.specs.Prelude.{ℕ, zero, suc, ◌+◌, ◌-◌, ◌%◌, ◌≤◌, ◌≡◌, true, false, List, [], ◌∷◌, ◌++◌, eqb, ltb, length, drop}
+use Rattle.std.specs.Prelude.{ℕ, zero, suc, ◌+◌, ◌-◌, ◌%◌, ◌≤◌, ◌≡◌, true, false, List, [], ◌∷◌, ◌++◌, eqb, ltb, length, drop, Option, Some, None, Result, Ok, Err}
 use Rattle.rows.specs.Rows.{Row, row, first_of}
 use Rattle.refusals.specs.Numbers.{line_number}
 use Rattle.reports.specs.Kinds.{kind_of}
@@ -9,8 +9,9 @@ use Rattle.lines.specs.declared.Outcome.{Outcome}
 use Rattle.lines.specs.Bytes.{most_bytes, words_in}
 use Rattle.lines.specs.Links.{read_bytes_on}
 use Rattle.listing.specs.declared.Walk.{Walk}
-use Rattle.listing.specs.declared.Piece.{Piece}
-use Rattle.listing.specs.declared.Piece.TheVariants as P
+use Rattle.listing.specs.declared.Line.{Line}
+use Rattle.listing.specs.declared.WalkError.{WalkError}
+use Rattle.listing.specs.declared.WalkError.TheVariants as E
 use Rattle.listing.specs.Listing.{lister_form, lister_link}
 use Rattle.listing.specs.Letters.{text, report_line, refused_line, totals_line}
 
@@ -72,14 +73,21 @@ said Ended = []
 said Astray = []
 said Cramped = []
 
-abbrev pub answered : Step → Piece
-answered (Says line next) = P.Text (length line) next
-answered Ended = P.End
-answered Astray = P.Astray
-answered Cramped = P.NoRoom
+abbrev pub answered : Step → Result (Option Line) WalkError
+answered (Says line next) = Ok (Some (record { len = length line; next = next }))
+answered Ended = Ok None
+answered Astray = Err E.Astray
+answered Cramped = Err E.NoRoom
+
+-- the same before the buffer, without the line
+abbrev pub came_to : Step → Result (Option Walk) WalkError
+came_to (Says line next) = Ok (Some next)
+came_to Ended = Ok None
+came_to Astray = Err E.Astray
+came_to Cramped = Err E.NoRoom
 
 -- the answer tells how many bytes were put and where to go on; they stand at the buffer's start, and all behind them is as it was
-pub record Tells (s : Step) (entry : List ℕ) (answer : Piece) (exit : List ℕ) : Type 0 where
+pub record Tells (s : Step) (entry : List ℕ) (answer : Result (Option Line) WalkError) (exit : List ℕ) : Type 0 where
   pub answers : answer ≡ answered s
   pub fits : length (said s) ≤ 64
   pub leaves : exit ≡ said s ++ drop (length (said s)) entry

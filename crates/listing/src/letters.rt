@@ -1,47 +1,77 @@
-// Texts and numbers into the first 64 bytes of a buffer, which hold every line of a listing. Relies on nothing.
-ghost use Rattle.std.specs.Prelude.{◌≡◌, ◌+◌, ◌≤◌, ◌<◌, ◌++◌, length};
-ghost use Rattle.listing.specs.Letters.{decimal, Put};
+// A line of a listing while it is put together: at most 64 bytes, which hold every line. Relies on the kit's itoa for a number in decimal.
+ghost use Rattle.std.specs.Prelude.{ℕ, ◌≡◌, ◌+◌, ◌≤◌, ◌<◌, List, [], ◌∷◌, ◌++◌, length, take, drop};
+ghost use Rattle.listing.specs.Letters.{decimal};
 
-// The bytes of a text, from a place on.
-pub fn put_text(out: &mut [u8], at: usize, text: &[u8]) -> usize
-    requires { (64 ≤ length out.old) × (at + length text.now ≤ 64) }
-    ensures { Put out.old at text.now result out.new }
-{
-    let mut i: usize = 0;
-    while i < text.len() {
-        out[at + i] = text[i];
-        i += 1;
+use std::marker::Model;
+
+// No line of a listing is longer, so a buffer of that many bytes holds each.
+pub const LONGEST: usize = 64;
+
+// A text of at most 64 bytes, in an array, since the project has no heap. A clause sees the bytes put so far.
+#[derive(Drop)]
+pub struct Text {
+    bytes: [u8; LONGEST],
+    len: usize,
+}
+
+impl Model for Text {
+    ghost Value = { List ℕ };
+
+    ghost view = { λ t. take t.len t.bytes };
+
+    ghost invariant = { λ t. t.len ≤ 64 };
+}
+
+impl Text {
+    pub fn new() -> Self
+        ensures { result ≡ [] }
+    {
+        Text {
+            bytes: [0; LONGEST],
+            len: 0,
+        }
     }
-    at + i
-}
 
-// A digit's letter.
-fn letter(digit: usize) -> u8
-    requires { digit < 10 }
-    ensures { result ≡ 48 + digit }
-{
-    48 + (digit % 256) as u8
-}
-
-// A number, from a place on.
-pub fn put_decimal(out: &mut [u8], at: usize, n: usize) -> usize
-    requires { (64 ≤ length out.old) × (at + length (decimal n) ≤ 64) }
-    ensures { Put out.old at (decimal n) result out.new }
-{
-    if n < 10 {
-        out[at] = letter(n);
-        return at + 1;
+    // More bytes behind the text.
+    pub fn text(&mut self, more: &[u8])
+        requires { length self.old + length more.now ≤ 64 }
+        ensures is { self.new ≡ self.old ++ more.now }
+        ensures len { length self.new ≡ length self.old + length more.now }
+    {
+        let end = self.len + more.len();
+        self.bytes[self.len..end].copy_from_slice(more);
+        self.len = end;
     }
-    let last = put_decimal(out, at, n / 10);
-    out[last] = letter(n % 10);
-    last + 1
-}
 
-// A label and a number, from a place on.
-pub fn put_item(out: &mut [u8], at: usize, label: &[u8], n: usize) -> usize
-    requires { (64 ≤ length out.old) × (at + length label.now + length (decimal n) ≤ 64) }
-    ensures { Put out.old at (label.now ++ decimal n) result out.new }
-{
-    let behind = put_text(out, at, label);
-    put_decimal(out, behind, n)
+    // A number behind the text. `write!` could answer an error, and no contract says that it does not; the text of itoa is there in every case.
+    #[tactic(auto, using(crate::proofs::Decimals::same))]
+    pub fn number(&mut self, n: usize)
+        requires { length self.old + length (decimal n) ≤ 64 }
+        ensures is { self.new ≡ self.old ++ decimal n }
+        ensures len { length self.new ≡ length self.old + length (decimal n) }
+    {
+        let mut digits = itoa::Buffer::new();
+        self.text(digits.format(n).as_bytes());
+    }
+
+    // A label and a number behind the text.
+    pub fn item(&mut self, label: &[u8], n: usize)
+        requires { length self.old + length label.now + length (decimal n) ≤ 64 }
+        ensures is { self.new ≡ self.old ++ label.now ++ decimal n }
+        ensures len { length self.new ≡ length self.old + length label.now + length (decimal n) }
+    {
+        self.text(label);
+        self.number(n);
+    }
+
+    // The text at a buffer's start, and how many bytes it has.
+    pub fn copy_to(&self, out: &mut [u8]) -> usize
+        requires { 64 ≤ length out.old }
+        ensures len { result ≡ length self.now }
+        ensures fits { result ≤ 64 }
+        ensures leaves { out.new ≡ self.now ++ drop (length self.now) out.old }
+    {
+        out[..self.len].copy_from_slice(&self.bytes[..self.len]);
+        self.len
+    }
 }

@@ -1,9 +1,6 @@
--- `lister::list`: the number of calls left falls.
-use Rattle.std.proofs.Common.{◌≤◌}
+-- `lister::list`: the lines in the text stay within it.
+use Rattle.std.proofs.Common.{◌≤◌, length}
 use Rattle.lister.proofs.list.Given as goal
 
-abbrev pub invariant-loop-left : goal.invariant-loop-left
-invariant-loop-left l = l.left ≤ 16386
-
-abbrev pub decreases-loop-left : goal.decreases-loop-left
-decreases-loop-left l = l.left
+abbrev pub invariant-loop : goal.invariant-loop
+invariant-loop l = l.at ≤ length l.text

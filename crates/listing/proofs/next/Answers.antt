@@ -1,82 +1,27 @@
--- `listing::next` meets its contract: its tests in their order, and then the outcome at the place. Assumes nothing.
-use Prim.Native.Nat.{◌/◌}
-use mathlib.Core.Path.{refl, ap, sym, ◌∙◌}
+-- `listing::next` meets its contract: what the call comes to, told of into the buffer. Assumes nothing.
+use Rattle.std.proofs.Common.{refl, sym, ◌∙◌, ap, arith}
+use Rattle.std.proofs.lemmas.Result.{err_from_is_err_and}
 use lib.ListN.{length}
-use Rattle.listing.specs.declared.Walk.{Walk}
-use Rattle.listing.specs.Letters.{text}
-use Rattle.listing.specs.Walking.{Says, step_on}
-use Rattle.listing.proofs.Bounded.{within}
-use Rattle.listing.proofs.Telling.{tells, silent, tells_as, is_cramped, is_done, is_long, is_odd, is_beyond, is_over, is_more, is_read, roomy}
+use Rattle.std.specs.Prelude.{Ok}
+use Rattle.listing.proofs.Telling.{is_cramped, roomy, line_told, end_told, error_told}
 use Rattle.listing.proofs.next.Goals as goal
 
-pub returns-then-out-lt-LONGEST : goal.returns-then-out-lt-LONGEST
-returns-then-out-lt-LONGEST c =
-    let a = c.args in
-    let bs = a.recording.now in
-    let w = a.walk in
-    let room = length a.out.now in
-    silent (is_cramped room bs w c.if-out-lt-LONGEST.true) refl
+pub returns-then-out-lt-LONGEST-clause-tells : goal.returns-then-out-lt-LONGEST-clause-tells
+returns-then-out-lt-LONGEST-clause-tells c =
+    rw (is_cramped (length c.args.out.now) c.args.recording.now c.args.walk c.if-out-lt-LONGEST.true) (record { answers = refl; fits = omega arith; leaves = refl })
 
-pub returns-then-walk : goal.returns-then-walk
-returns-then-walk c =
-    let a = c.args in
-    let bs = a.recording.now in
-    let w = a.walk in
-    let room = length a.out.now in
-    silent (is_done room bs w c.if-out-lt-LONGEST.false c.if-walk.true) refl
+pub returns-in_err-next-clause-tells : goal.returns-in_err-next-clause-tells
+returns-in_err-next-clause-tells c =
+    let p = err_from_is_err_and c.from_residual.result c.from_residual.ensures.1 in
+    rw (roomy (length c.args.out.now) c.args.recording.now c.args.walk c.if-out-lt-LONGEST.false, p.1, p.2) (error_told _ _ _ (sym c.step.ensures.walk ∙ c.in_err-next.was))
 
-pub returns-then-recording-gt-MOST_BYTES : goal.returns-then-recording-gt-MOST_BYTES
-returns-then-recording-gt-MOST_BYTES c =
-    let a = c.args in
-    let bs = a.recording.now in
-    let w = a.walk in
-    let room = length a.out.now in
-    tells (is_long room bs w c.if-out-lt-LONGEST.false c.if-walk.false c.if-recording-gt-MOST_BYTES.true ∙ ap (λ (x : Walk). Says (text "LONG\n") x) (sym c.closed.ensures)) c.put_text-k.ensures
+pub returns-in-Some-clause-tells : goal.returns-in-Some-clause-tells
+returns-in-Some-clause-tells c =
+    let came = sym c.step.ensures.walk ∙ c.in_ok-next.was ∙ ap Ok c.in-Some.is in
+    rw (roomy (length c.args.out.now) c.args.recording.now c.args.walk c.if-out-lt-LONGEST.false)
+    (line_told _ _ _ _ _ _ came c.step.ensures.text c.copy_to.ensures.len c.copy_to.ensures.fits c.copy_to.ensures.leaves)
 
-pub returns-then-recording-eq1 : goal.returns-then-recording-eq1
-returns-then-recording-eq1 c =
-    let a = c.args in
-    let bs = a.recording.now in
-    let w = a.walk in
-    let room = length a.out.now in
-    tells (is_odd room bs w c.if-out-lt-LONGEST.false c.if-walk.false c.if-recording-gt-MOST_BYTES.false c.if-recording-eq1.true ∙ ap (λ (x : Walk). Says (text "ODD\n") x) (sym c.closed-then-recording-eq1.ensures)) c.put_text-k-then-recording-eq1.ensures
-
-pub returns-then-n-walk : goal.returns-then-n-walk
-returns-then-n-walk c =
-    let a = c.args in
-    let bs = a.recording.now in
-    let w = a.walk in
-    let room = length a.out.now in
-    silent (roomy room bs w c.if-out-lt-LONGEST.false ∙ is_beyond bs w (length bs / 2) c.if-walk.false c.if-recording-gt-MOST_BYTES.false c.if-recording-eq1.false refl c.if-n-walk.true) refl
-
-pub returns-then-walk-2 : goal.returns-then-walk-2
-returns-then-walk-2 c =
-    let a = c.args in
-    let bs = a.recording.now in
-    let w = a.walk in
-    let room = length a.out.now in
-    silent (roomy room bs w c.if-out-lt-LONGEST.false ∙ is_over bs w (length bs / 2) c.if-walk.false c.if-recording-gt-MOST_BYTES.false c.if-recording-eq1.false refl c.if-n-walk.false c.if-walk-2.true) refl
-
-pub returns-then-walk-3 : goal.returns-then-walk-3
-returns-then-walk-3 c =
-    let a = c.args in
-    let bs = a.recording.now in
-    let w = a.walk in
-    let room = length a.out.now in
-    silent (roomy room bs w c.if-out-lt-LONGEST.false ∙ is_more bs w (length bs / 2) c.if-walk.false c.if-recording-gt-MOST_BYTES.false c.if-recording-eq1.false refl c.if-n-walk.false c.if-walk-2.false c.if-walk-3.true) refl
-
-pub say-requires : goal.say-requires
-say-requires c =
-    let a = c.args in
-    let bs = a.recording.now in
-    let w = a.walk in
-    let room = length a.out.now in
-    (c.if-out-lt-LONGEST.false, within bs w (length bs / 2) c.outcome_at.result c.if-recording-gt-MOST_BYTES.false c.if-recording-eq1.false refl c.if-n-walk.false c.if-walk-2.false c.if-walk-3.false c.outcome_at.ensures)
-
-pub returns : goal.returns
-returns c =
-    let a = c.args in
-    let bs = a.recording.now in
-    let w = a.walk in
-    let room = length a.out.now in
-    tells_as (roomy room bs w c.if-out-lt-LONGEST.false ∙ is_read bs w (length bs / 2) c.if-walk.false c.if-recording-gt-MOST_BYTES.false c.if-recording-eq1.false refl c.if-n-walk.false c.if-walk-2.false c.if-walk-3.false ∙ ap (step_on (length bs / 2) w) (sym c.outcome_at.ensures)) c.say.ensures
+pub returns-in-None-clause-tells : goal.returns-in-None-clause-tells
+returns-in-None-clause-tells c =
+    let came = sym c.step.ensures.walk ∙ c.in_ok-next.was ∙ ap Ok c.in-None.is in
+    rw (roomy (length c.args.out.now) c.args.recording.now c.args.walk c.if-out-lt-LONGEST.false) (end_told _ _ came)

@@ -1,9 +1,0 @@
--- `lines_test::repeated`: the words left fall.
-use Rattle.std.proofs.Common.{◌-◌, ◌≤◌}
-use Rattle.lines_test.proofs.repeated.Given as goal
-
-abbrev pub invariant-loop-i : goal.invariant-loop-i
-invariant-loop-i l = l.i ≤ 64
-
-abbrev pub decreases-loop-i : goal.decreases-loop-i
-decreases-loop-i l = 64 - l.i
