@@ -8,12 +8,11 @@ use native.Mathlib.Omega.{arith}
 use borrow.Author.Tests.{eq-eqb, ne_eqb, eqb-true, eqb-false, ltb-true, ltb-false}
 use lib.Bits.{bit_or, or_shr, or_mod, or_zero_r, shifted_even}
 use lib.Dec.{eqb, ltb}
-use lib.ListN.{length, drop, get_or, set, replicate, length-set}
+use lib.ListN.{length, get_or, set, replicate}
 use lib.Pow.{pow_pos, pow-lt, pow-add, shl-shr}
 use lib.Seq.{get_or-set_same, get_or-set_other}
 use Rattle.words.proofs.Tests.{by_test}
 use Rattle.index.specs.Table.{is_used, holds, held_twice}
-use Rattle.index.proofs.Looks.{rest_is}
 
 -- ---- a bit of a number
 
@@ -54,19 +53,16 @@ set_there v k j u = both v (2 ^ k) j ∙ ap (bit_or (v / 2 ^ j % 2)) (no_other_b
 
 -- ---- the marks
 
--- number y is marked: bit y % 64 of get_or marks (y / 64) 0 / 64
-abbrev pub marked : List ℕ → ℕ → Bool
-marked marks y = eqb (get_or marks (y / 64) 0 / 2 ^ (y % 64) % 2) 1
+-- number y is marked in such words
+abbrev pub in_words : List ℕ → ℕ → Bool
+in_words words y = eqb (get_or words (y / 64) 0 / 2 ^ (y % 64) % 2) 1
 
--- the marks with that of n
+-- the words with the mark of n
 abbrev pub marking : List ℕ → ℕ → List ℕ
-marking marks n = set marks (n / 64) (bit_or (get_or marks (n / 64) 0) (2 ^ (n % 64)))
-
-pub as_many_marks : (marks : List ℕ) (n : ℕ) → length (marking marks n) ≡ length marks
-as_many_marks marks n = length-set marks (n / 64) (bit_or (get_or marks (n / 64) 0) (2 ^ (n % 64)))
+marking words n = set words (n / 64) (bit_or (get_or words (n / 64) 0) (2 ^ (n % 64)))
 
 -- marking n marks n, and no other number
-pub marks_it : (marks : List ℕ) (n : ℕ) → n / 64 < length marks → (y : ℕ) → marked (marking marks n) y ≡ (eqb n y || marked marks y)
+pub marks_it : (marks : List ℕ) (n : ℕ) → n / 64 < length marks → (y : ℕ) → in_words (marking marks n) y ≡ (eqb n y || in_words marks y)
 marks_it marks n h y =
     by_test (eqb n y)
     (λ e. rw (e, sym (eqb-true n y e)) (eq-eqb _ 1 (in_its_word (n % 64) ∙ set_here (get_or marks (n / 64) 0) (n % 64))))
@@ -149,39 +145,32 @@ none_marked [] = refl
 none_marked (n ∷ ns) = rw (and-false (is_used n)) (none_marked ns)
 
 -- with no mark at first, that is a number held twice
-pub again_twice : (ns : List ℕ) → again (λ _. false) ns ≡ held_twice ns
-again_twice ns = again_is (λ _. false) ns ∙ ap (λ (b : Bool). b || held_twice ns) (none_marked ns)
+pub again_twice : (P : ℕ → Bool) (ns : List ℕ) → ((y : ℕ) → P y ≡ false) → again P ns ≡ held_twice ns
+again_twice P ns none = again_same P (λ _. false) none ns ∙ again_is (λ _. false) ns ∙ ap (λ (b : Bool). b || held_twice ns) (none_marked ns)
 
--- ---- step by step, at a place of the numbers
-
+-- before the first step nothing is marked
 fresh : (k i : ℕ) → ◌≡◌ {A = ℕ} (get_or (replicate k 0) i 0) 0
 fresh zero i = refl
 fresh (suc k) zero = refl
 fresh (suc k) (suc i) = fresh k i
 
--- before the first step nothing is marked
-pub none_yet : (s : List ℕ) (k : ℕ) → held_twice s ≡ again (marked (replicate k 0)) s
-none_yet s k =
-    sym (again_same (marked (replicate k 0)) (λ _. false) (λ y. ap (λ (v : ℕ). eqb (v / 2 ^ (y % 64) % 2) 1) (fresh k (y / 64)) ∙ ap (λ (v : ℕ). eqb (v % 2) 1) (zero-div (2 ^ (y % 64)))) s ∙ again_twice s)
+pub none_yet : (k y : ℕ) → in_words (replicate k 0) y ≡ false
+none_yet k y = ap (λ (v : ℕ). eqb (v / 2 ^ (y % 64) % 2) 1) (fresh k (y / 64)) ∙ ap (λ (v : ℕ). eqb (v % 2) 1) (zero-div (2 ^ (y % 64)))
 
-module _ (s : List ℕ) (i : ℕ) (h : i < length s) (marks : List ℕ) (x : ℕ) (is : x ≡ get_or s i 0) where
-  at_it : again (marked marks) (drop i s) ≡ again (marked marks) (x ∷ drop (i + 1) s)
-  at_it = ap (again (marked marks)) (rest_is s i h ∙ ap (λ (n : ℕ). n ∷ drop (i + 1) s) (sym is))
+-- ---- step by step, with the marks as a test of numbers
 
-  pub second_time : (x ≡ 0 → ⊥) → marked marks x ≡ true → again (marked marks) (drop i s) ≡ true
+module _ (P : ℕ → Bool) (x : ℕ) (ns : List ℕ) where
+  pub second_time : (x ≡ 0 → ⊥) → P x ≡ true → again P (x ∷ ns) ≡ true
   unfolding again
-  second_time u e = at_it ∙ rw (ne_eqb x 0 u, e)
+  second_time u e = rw (ne_eqb x 0 u, e)
 
-  pub first_time : (x ≡ 0 → ⊥) → marked marks x ≡ false → x / 64 < length marks
-      → again (marked marks) (drop i s) ≡ again (marked (marking marks x)) (drop (i + 1) s)
+  pub first_time : (Q : ℕ → Bool) → (x ≡ 0 → ⊥) → P x ≡ false → ((y : ℕ) → Q y ≡ (eqb x y || P y)) → again P (x ∷ ns) ≡ again Q ns
   unfolding again
-  first_time u e room =
-      at_it
-      ∙ rw (ne_eqb x 0 u, e) (again_same (λ y. eqb x y || marked marks y) (marked (marking marks x)) (λ y. sym (marks_it marks x room y)) (drop (i + 1) s))
+  first_time Q u e now = rw (ne_eqb x 0 u, e) (again_same (λ y. eqb x y || P y) Q (λ y. sym (now y)) ns)
 
-  pub passed : x ≡ 0 → again (marked marks) (drop i s) ≡ again (marked marks) (drop (i + 1) s)
+  pub passed : x ≡ 0 → again P (x ∷ ns) ≡ again P ns
   unfolding again
-  passed e = at_it ∙ rw (eq-eqb x 0 e)
+  passed e = rw (eq-eqb x 0 e)
 
 pub met_none : (P : ℕ → Bool) → again P [] ≡ false
 unfolding again
