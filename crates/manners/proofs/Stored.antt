@@ -38,7 +38,7 @@ count_listed p (Some rule) = refl
 
 -- ---- the list, breach after breach
 
-module _ {A : Type 0} {words : List A → List ℕ} {is_whole : List A → Type 0} {said : List Breach → List A} {width : ℕ} (laws : LentLaws words is_whole said width)
+module _ {A : Type 0} {said : List Breach → List A} {width : ℕ} (laws : LentLaws said width)
     {all : List Breach} {entry : List A} where
   pub begun : Filling said width all all entry 0 entry
   begun = record { counted = omega arith; front = ap (λ (j : ℕ). take j entry ++ said all) (zero-mul width); behind = refl; long = refl }

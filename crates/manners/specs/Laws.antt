@@ -1,12 +1,11 @@
 -- Each kind of line and list keeps the laws of Lent.antt: 16-bit numbers, a word each, and bytes, two a word. Assumes nothing.
-use Prim.Native.Nat.{ℕ, ◌*◌, ◌/◌, ◌%◌, ◌≤◌}
+use Prim.Native.Nat.{ℕ, ◌*◌, ◌/◌, ◌%◌}
 use mathlib.Core.Path.{◌≡◌, refl, ap, ◌∙◌}
 use mathlib.Core.List.{List, [], ◌∷◌, ◌++◌}
 use native.Mathlib.Omega.{arith}
 use lib.ListN.{length}
-use Rattle.lines.specs.Line.{most}
-use Rattle.lines.specs.Bytes.{most_bytes, words_in, bytes_of}
-use Rattle.lines.proofs.ByteWords.{words_length, bytes_length}
+use Rattle.lines.specs.Bytes.{bytes_of}
+use Rattle.lines.proofs.ByteWords.{bytes_length}
 use Rattle.manners.specs.Numbers.{rule_number}
 use Rattle.manners.specs.Breaches.{Breach, numbers_of}
 use Rattle.manners.specs.Lent.{LentLaws}
@@ -26,14 +25,13 @@ unfolding numbers_of
 numbers_length [] = refl
 numbers_length (b ∷ bs) = let h = numbers_length bs in omega arith
 
-pub wide_laws : LentLaws (λ (line : List ℕ). line) (λ line. length line ≤ most) numbers_of 2
+pub wide_laws : LentLaws numbers_of 2
 unfolding numbers_of
-wide_laws = record { short = λ line h. h; some = omega arith; none = refl; joins = numbers_append; each = numbers_length }
+wide_laws = record { some = omega arith; none = refl; joins = numbers_append; each = numbers_length }
 
-pub byte_laws : LentLaws words_in (λ line. (length line ≤ most_bytes) × (length line % 2 ≡ 0)) (λ bs. bytes_of (numbers_of bs)) 4
+pub byte_laws : LentLaws (λ bs. bytes_of (numbers_of bs)) 4
 unfolding numbers_of bytes_of
 byte_laws = record {
-  short = λ line h. let n = words_length line in let m = h.0 in omega arith;
   some = omega arith;
   none = refl;
   joins = λ cs bs. ap bytes_of (numbers_append cs bs) ∙ bytes_append (numbers_of cs) (numbers_of bs);

@@ -1,14 +1,14 @@
 // The manners of a line that is lent as bytes, two a word, high byte first. The list is bytes too: four a breach.
 // Relies on line_reader for the outcome at a place, listing for the list.
-ghost use Rattle.std.specs.Prelude.{◌≡◌, ◌%◌, ◌≤◌, length};
+ghost use Rattle.std.specs.Prelude.{◌≡◌};
 ghost use Rattle.reports.specs.Altitude.{form_of};
-ghost use Rattle.lines.specs.Bytes.{most_bytes, words_in, bytes_of};
+ghost use Rattle.lines.specs.Bytes.{words_in, bytes_of};
 ghost use Rattle.manners.specs.Breaches.{numbers_of};
 ghost use Rattle.manners.specs.Listing.{ListsBytes};
 ghost use Rattle.manners.specs.Laws.{byte_laws};
 
-use crate::lent::Lent;
-use crate::{LINK, NotListed, Rule, listing};
+use crate::lent::{Lent, Line};
+use crate::{LINK, NotListed, Rule};
 use line_reader::bytes;
 use lines::{MOST_BYTES, Outcome};
 use refusals::LineRefusal;
@@ -17,7 +17,7 @@ use reports::altitude::Form;
 impl Lent for u8 {
     ghost words = { words_in };
 
-    ghost IsWhole = { λ line. (length line ≤ most_bytes) × (length line % 2 ≡ 0) };
+    ghost held_in = { 2 };
 
     ghost said = { λ breaches. bytes_of (numbers_of breaches) };
 
@@ -55,5 +55,5 @@ pub fn list(line: &[u8], form: Form, list: &mut [u8]) -> Result<usize, NotListed
     if line.len() % 2 == 1 {
         return Err(NotListed::Line(LineRefusal::OddByteCount));
     }
-    listing::list(line, form, list)
+    Line { held: line, form }.list(list)
 }

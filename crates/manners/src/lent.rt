@@ -2,7 +2,7 @@
 // Relies on lines for what an outcome is; specs/Lent.antt has the laws.
 ghost use Rattle.std.specs.Prelude.{◌≡◌, ℕ, [], ◌∷◌, ◌+◌, ◌*◌, ◌≤◌, ◌<◌, List, length};
 ghost use Rattle.reports.specs.Altitude.{form_of};
-ghost use Rattle.lines.specs.Line.{read_at};
+ghost use Rattle.lines.specs.Line.{most, read_at};
 ghost use Rattle.manners.specs.Breaches.{Breach, breach};
 ghost use Rattle.manners.specs.Lent.{LentLaws, stored};
 
@@ -11,11 +11,10 @@ use lines::Outcome;
 use reports::altitude::Form;
 
 pub trait Lent: Copy {
-    // The words of a line.
+    // The words of a line, each held in so many.
     ghost words: { List Self → List ℕ };
 
-    // It has no more words than a line may have, and no part of a word.
-    ghost IsWhole: { List Self → Type 0 };
+    ghost held_in: { ℕ };
 
     // Breaches as they stand in a list, each so many wide.
     ghost said: { List Breach → List Self };
@@ -25,12 +24,12 @@ pub trait Lent: Copy {
     const WIDTH: usize;
 
     fn count_words(line: &[Self]) -> usize
-        requires { IsWhole line.now }
         ensures { result ≡ length (words line.now) };
 
     // The outcome at a place, counted in words.
     fn outcome_at(line: &[Self], place: usize, form: Form) -> Outcome
-        requires { IsWhole line.now }
+        requires short { length (words line.now) ≤ most }
+        requires whole { length (words line.now) * held_in ≡ length line.now }
         ensures { result ≡ read_at (form_of form) (words line.now) place };
 
     // Stores a breach behind the k that stand in the list.
@@ -39,5 +38,14 @@ pub trait Lent: Copy {
         requires in_line { place < 65536 }
         ensures { list.new ≡ stored list.old (k * WIDTH) (said (breach place rule ∷ [])) };
 
-    ghost laws: { LentLaws words IsWhole said WIDTH };
+    ghost laws: { LentLaws said WIDTH };
+}
+
+// A line that is not too long and has no part of a word, and the form in which its altitudes are read.
+#[derive(Drop)]
+pub struct Line<'a, L: Lent> {
+    pub held: &'a [L],
+    pub form: Form,
+    ghost short: { length (L.words held.now) ≤ most },
+    ghost whole: { length (L.words held.now) * L.held_in ≡ length held.now },
 }

@@ -1,14 +1,13 @@
 // The manners of a line that is lent as 16-bit numbers, a word each. The list has two such numbers a breach.
 // Relies on line_reader for the outcome at a place, listing for the list.
-ghost use Rattle.std.specs.Prelude.{◌≡◌, ◌≤◌, length};
+ghost use Rattle.std.specs.Prelude.{◌≡◌};
 ghost use Rattle.reports.specs.Altitude.{form_of};
-ghost use Rattle.lines.specs.Line.{most};
 ghost use Rattle.manners.specs.Breaches.{numbers_of};
 ghost use Rattle.manners.specs.Listing.{Lists};
 ghost use Rattle.manners.specs.Laws.{wide_laws};
 
-use crate::lent::Lent;
-use crate::{LINK, NotListed, Rule, listing};
+use crate::lent::{Lent, Line};
+use crate::{LINK, NotListed, Rule};
 use line_reader::wide;
 use lines::{MOST, Outcome};
 use refusals::LineRefusal;
@@ -17,7 +16,7 @@ use reports::altitude::Form;
 impl Lent for u16 {
     ghost words = { λ line. line };
 
-    ghost IsWhole = { λ line. length line ≤ most };
+    ghost held_in = { 1 };
 
     ghost said = { numbers_of };
 
@@ -49,5 +48,5 @@ pub fn list(line: &[u16], form: Form, list: &mut [u16]) -> Result<usize, NotList
     if MOST < line.len() {
         return Err(NotListed::Line(LineRefusal::LineTooLong));
     }
-    listing::list(line, form, list)
+    Line { held: line, form }.list(list)
 }
