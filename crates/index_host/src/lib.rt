@@ -13,6 +13,7 @@ use index::{Entry, IndexRefusal, Indexed, entering, seen};
 use reports::altitude::Form;
 
 // ---- an answer as one number: what was done, and behind it, counted in 256, the entry where it was done. A refusal is its number.
+// What was done stays a number: the C interface needs it (include/siamrung.h has these numbers).
 
 const ENTERED: u32 = 123;
 

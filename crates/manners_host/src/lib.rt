@@ -12,6 +12,7 @@ use manners::NotListed;
 use reports::altitude::Form;
 
 // ---- an answer as one number: what was done, and behind it, counted in 256, how many breaches the line has
+// What was done stays a number: the C interface needs it (include/siamrung.h has it).
 
 const LISTED: u32 = 128;
 
