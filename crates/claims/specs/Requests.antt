@@ -1,7 +1,7 @@
 -- The change requests of document 02 that have landed, sentence by sentence. Each sentence stands in document 02's words; the definition under it says
 -- it, by the definitions and claims of the crates below. Requests, at the end, gathers all, and proofs/Requests.antt proves it as one value.
 -- Statements only.
-use Rattle.std.specs.Prelude.{ℕ, ◌≤◌, ◌<◌, ◌≡◌, List, []}
+use Rattle.std.specs.Prelude.{ℕ, ◌≤◌, ◌<◌, ◌≡◌, List, [], Result}
 use Rattle.words.specs.Claims as words
 use Rattle.reports.specs.Claims as reports
 use Rattle.fields.specs.declared.Direction.{Direction}
@@ -16,6 +16,7 @@ use Rattle.lines.specs.Links.{last_link, read_bytes_on}
 use Rattle.lines.specs.Claims as lines
 use Rattle.index.specs.declared.Entry.{Entry}
 use Rattle.index.specs.declared.Indexed.{Indexed}
+use Rattle.index.specs.declared.IndexRefusal.{IndexRefusal}
 use Rattle.index.specs.Entries.{uncorrelated, number_in, entry_of}
 use Rattle.index.specs.Indexing.{Indexes}
 use Rattle.index.specs.Claims as index
@@ -143,7 +144,7 @@ pub record Ticket2 : Type 0 where
 abbrev pub OneAnswerOneTable : Type 0
 OneAnswerOneTable =
     (table : List Entry) (e : Entry) →
-    (a : Indexed) × (exit : List Entry) × Indexes table e a exit × ((b : Indexed) (left : List Entry) → Indexes table e b left → (b ≡ a) × (left ≡ exit))
+    (a : Result Indexed IndexRefusal) × (exit : List Entry) × Indexes table e a exit × ((b : Result Indexed IndexRefusal) (left : List Entry) → Indexes table e b left → (b ≡ a) × (left ≡ exit))
 
 -- "It takes accepted ATCRBS, MTD and RDAS reports, substitution included; any other outcome leaves it as it is. File number 0 means uncorrelated and is
 -- never entered; it marks an unused entry." The number of an accepted run is said by the printed bits (number). A refused run and the end have none

@@ -11,6 +11,7 @@ use lib.Dec.{eqb}
 use lib.ListN.{length, take, drop, length-append, take-append-drop}
 use lib.Seq.{drop_at, length-take-le}
 use borrow.Author.Tests.{eqb-true, eqb-false, eq-eqb, ne_eqb, ltb-false}
+use Rattle.std.specs.Prelude.{Option, Some, None, Result, Ok, Err, is_ok}
 use Rattle.rows.specs.Rows.{Row, first_of}
 use Rattle.rows.proofs.Claims as law
 use Rattle.words.proofs.Tests.{picked, passed, by_test}
@@ -32,8 +33,7 @@ use Rattle.lines.proofs.Outcomes.{alone_free, one_each}
 use Rattle.index.specs.declared.Entry.{Entry}
 use Rattle.index.specs.declared.Indexed.{Indexed}
 use Rattle.index.specs.declared.Indexed.TheVariants as I
-use Rattle.index.specs.declared.Found.{Found}
-use Rattle.index.specs.declared.Found.TheVariants as F
+use Rattle.index.specs.declared.IndexRefusal.{IndexRefusal}
 use Rattle.index.specs.declared.IndexRefusal.TheVariants.{TableBroken, TableFull}
 use Rattle.index.specs.Entries.{uncorrelated, file_of, entry_of}
 use Rattle.index.specs.Table.{most, numbers_of, holds, place_of, used_in, broken_rows, is_broken}
@@ -101,31 +101,14 @@ number_as_printed form ws r e =
 
 -- ---- the refusals
 
--- an answer that is no refusal
-abbrev enters : Indexed → Bool
-enters (I.Entered i) = true
-enters (I.Replaced i) = true
-enters I.Left = true
-enters (I.Refused q) = false
-
-taken_enters : (held : Bool) (i j : ℕ) → enters (cond held (I.Replaced i) (I.Entered j)) ≡ true
-taken_enters true i j = refl
-taken_enters false i j = refl
-
 pub enter_refuses : EnterRefuses
 unfolding indexed
-enter_refuses table x q =
-    let ns = numbers_of table in
-    law.refused_exactly Indexed enters (enter_rows table x) (taken ns x) (I.Refused q) (taken_enters (holds x ns) (place_of x ns) (place_of uncorrelated ns)) refl
-
-abbrev finds : Found → Bool
-finds (F.At i) = true
-finds F.Missing = true
-finds (F.Refused q) = false
+enter_refuses table x q = law.refused_exactly (Result Indexed IndexRefusal) is_ok (enter_rows table x) (Ok (taken (numbers_of table) x)) (Err q) refl refl
 
 pub find_refuses : FindRefuses
 unfolding found
-find_refuses table x q = law.refused_exactly Found finds (find_rows table x) (F.At (place_of x (numbers_of table))) (F.Refused q) refl refl
+find_refuses table x q =
+    law.refused_exactly (Result (Option ℕ) IndexRefusal) is_ok (find_rows table x) (Ok (Some (place_of x (numbers_of table)))) (Err q) refl refl
 
 -- where no row behind those of 50 answers as they do, which is said as 0 ≡ 1, their answer is given exactly for a broken table
 exactly : {A : Type 0} (broken : A) (table : List Entry) (more : List (Row A)) (other : A) → (first_of more other ≡ broken → ◌≡◌ {A = ℕ} 0 1)
@@ -136,14 +119,12 @@ exactly broken table more other never =
       λ t. k ∙ picked _ _ t,
     )
 
-enter_other : (a b c : Bool) (i j : ℕ)
-    → cond a I.Left (cond b (I.Refused TableFull) (cond c (I.Replaced i) (I.Entered j))) ≡ I.Refused TableBroken → ◌≡◌ {A = ℕ} 0 1
-enter_other true b c i j e = cc
-enter_other false true c i j e = cc
-enter_other false false true i j e = cc
-enter_other false false false i j e = cc
+enter_other : (a b : Bool) (t : Indexed) → cond a (Ok I.Left) (cond b (Err TableFull) (Ok t)) ≡ Err TableBroken → ◌≡◌ {A = ℕ} 0 1
+enter_other true b t e = cc
+enter_other false true t e = cc
+enter_other false false t e = cc
 
-find_other : (a b : Bool) (i : ℕ) → cond a F.Missing (cond b F.Missing (F.At i)) ≡ F.Refused TableBroken → ◌≡◌ {A = ℕ} 0 1
+find_other : (a b : Bool) (i : ℕ) → ◌≡◌ {A = Result (Option ℕ) IndexRefusal} (cond a (Ok None) (cond b (Ok None) (Ok (Some i)))) (Err TableBroken) → ◌≡◌ {A = ℕ} 0 1
 find_other true b i e = cc
 find_other false true i e = cc
 find_other false false i e = cc
@@ -152,14 +133,14 @@ pub broken_exactly : BrokenExactly
 unfolding indexed found
 broken_exactly table x =
     let ns = numbers_of table in (
-      exactly (I.Refused TableBroken) table (drop 3 (enter_rows table x)) (taken ns x)
-          (enter_other (eqb x uncorrelated) (not (holds x ns || holds uncorrelated ns)) (holds x ns) (place_of x ns) (place_of uncorrelated ns)),
-      exactly (F.Refused TableBroken) table (drop 3 (find_rows table x)) (F.At (place_of x ns))
+      exactly (Err TableBroken) table (drop 3 (enter_rows table x)) (Ok (taken ns x))
+          (enter_other (eqb x uncorrelated) (not (holds x ns || holds uncorrelated ns)) (taken ns x)),
+      exactly (Err TableBroken) table (drop 3 (find_rows table x)) (Ok (Some (place_of x ns)))
           (find_other (eqb x uncorrelated) (not (holds x ns)) (place_of x ns)),
     )
 
 -- 51 is given only where none of the tests before it holds
-full_when : (broken zero' held room : Bool) (ns : List ℕ) (x : ℕ) → answer_by broken zero' held room ns x ≡ I.Refused TableFull
+full_when : (broken zero' held room : Bool) (ns : List ℕ) (x : ℕ) → answer_by broken zero' held room ns x ≡ Err TableFull
     → (broken ≡ false) × (zero' ≡ false) × (held ≡ false) × (room ≡ false)
 full_when true z h r ns x e = (cc, cc, cc, cc)
 full_when false true h r ns x e = (cc, cc, cc, cc)
@@ -177,7 +158,7 @@ full_exactly table x =
       λ k. a ∙ rw (k.0, ne_eqb x uncorrelated k.1, k.2, k.3),
     )
 
-entered_when : (b z h r : Bool) (ns : List ℕ) (x i : ℕ) → answer_by b z h r ns x ≡ I.Entered i
+entered_when : (b z h r : Bool) (ns : List ℕ) (x i : ℕ) → answer_by b z h r ns x ≡ Ok (I.Entered i)
     → (b ≡ false) × (z ≡ false) × (h ≡ false) × (r ≡ true) × (place_of uncorrelated ns ≡ i)
 entered_when true z h r ns x i e = (cc, cc, cc, cc, cc)
 entered_when false true h r ns x i e = (cc, cc, cc, cc, cc)
@@ -195,7 +176,7 @@ entered_exactly table x i =
       λ k. a ∙ rw (k.0, ne_eqb x uncorrelated k.1, k.2, k.3, k.4),
     )
 
-replaced_when : (b z h r : Bool) (ns : List ℕ) (x i : ℕ) → answer_by b z h r ns x ≡ I.Replaced i → (b ≡ false) × (z ≡ false) × (h ≡ true) × (place_of x ns ≡ i)
+replaced_when : (b z h r : Bool) (ns : List ℕ) (x i : ℕ) → answer_by b z h r ns x ≡ Ok (I.Replaced i) → (b ≡ false) × (z ≡ false) × (h ≡ true) × (place_of x ns ≡ i)
 replaced_when true z h r ns x i e = (cc, cc, cc, cc)
 replaced_when false true h r ns x i e = (cc, cc, cc, cc)
 replaced_when false false true r ns x i e = (cc, cc, cc, cc)
@@ -212,7 +193,7 @@ replaced_exactly table x i =
       λ k. a ∙ rw (k.0, ne_eqb x uncorrelated k.1, k.2, k.3),
     )
 
-found_when : (b z h : Bool) (p i : ℕ) → cond b (F.Refused TableBroken) (cond z F.Missing (cond (not h) F.Missing (F.At p))) ≡ F.At i
+found_when : (b z h : Bool) (p i : ℕ) → cond b (Err TableBroken) (cond z (Ok None) (cond (not h) (Ok None) (Ok (Some p)))) ≡ Ok (Some i)
     → (b ≡ false) × (z ≡ false) × (h ≡ true) × (p ≡ i)
 found_when true z h p i e = (cc, cc, cc, cc)
 found_when false true h p i e = (cc, cc, cc, cc)
@@ -223,14 +204,14 @@ pub found_exactly : FoundExactly
 unfolding found
 found_exactly table x i =
     let ns = numbers_of table in
-    let a = behind (F.Refused TableBroken) table (drop 3 (find_rows table x)) (F.At (place_of x ns)) in (
+    let a = behind (Err TableBroken) table (drop 3 (find_rows table x)) (Ok (Some (place_of x ns))) in (
       λ e.
           let k = found_when (is_broken table) (eqb x uncorrelated) (holds x ns) (place_of x ns) i (sym a ∙ e) in
           (k.0, eqb-false x uncorrelated k.1, k.2, k.3),
       λ k. a ∙ rw (k.0, ne_eqb x uncorrelated k.1, k.2, k.3),
     )
 
-missing_when : (b z h : Bool) (p : ℕ) → cond b (F.Refused TableBroken) (cond z F.Missing (cond (not h) F.Missing (F.At p))) ≡ F.Missing
+missing_when : (b z h : Bool) (p : ℕ) → cond b (Err TableBroken) (cond z (Ok None) (cond (not h) (Ok None) (Ok (Some p)))) ≡ Ok None
     → (b ≡ false) × ((z ≡ true) ⊎ (h ≡ false))
 missing_when true z h p e = absurd (let n : ◌≡◌ {A = ℕ} 0 1 = cc in omega arith)
 missing_when false true h p e = (refl, inl refl)
@@ -238,7 +219,7 @@ missing_when false false true p e = absurd (let n : ◌≡◌ {A = ℕ} 0 1 = cc
 missing_when false false false p e = (refl, inr refl)
 
 when_missing : (b z h : Bool) (p : ℕ) → b ≡ false → (z ≡ true) ⊎ (h ≡ false)
-    → cond b (F.Refused TableBroken) (cond z F.Missing (cond (not h) F.Missing (F.At p))) ≡ F.Missing
+    → cond b (Err TableBroken) (cond z (Ok None) (cond (not h) (Ok None) (Ok (Some p)))) ≡ Ok None
 when_missing b true h p e k = rw e
 when_missing b false h p e (inl k) = absurd (let n : ◌≡◌ {A = ℕ} 0 1 = cc in omega arith)
 when_missing b false h p e (inr k) = rw (e, k)
@@ -247,7 +228,7 @@ pub missing_exactly : MissingExactly
 unfolding found
 missing_exactly table x =
     let ns = numbers_of table in
-    let a = behind (F.Refused TableBroken) table (drop 3 (find_rows table x)) (F.At (place_of x ns)) in (
+    let a = behind (Err TableBroken) table (drop 3 (find_rows table x)) (Ok (Some (place_of x ns))) in (
       λ e.
           let k = missing_when (is_broken table) (eqb x uncorrelated) (holds x ns) (place_of x ns) (sym a ∙ e) in
           (k.0, ⊎_elim (λ z. inl (eqb-true x uncorrelated z)) inr k.1),
@@ -262,7 +243,7 @@ missing_exactly table x =
           (⊎_elim (λ z. inl (eq-eqb x uncorrelated z)) inr k.1),
     )
 
-left_when : (b z h r : Bool) (ns : List ℕ) (x : ℕ) → answer_by b z h r ns x ≡ I.Left → (b ≡ false) × (z ≡ true)
+left_when : (b z h r : Bool) (ns : List ℕ) (x : ℕ) → answer_by b z h r ns x ≡ Ok I.Left → (b ≡ false) × (z ≡ true)
 left_when true z h r ns x e = (cc, cc)
 left_when false true h r ns x e = (cc, cc)
 left_when false false true r ns x e = (cc, cc)

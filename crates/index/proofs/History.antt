@@ -9,10 +9,12 @@ use native.Mathlib.Omega.{arith}
 use lib.Dec.{eqb}
 use lib.ListN.{length, length-append}
 use lib.Seq.{append_snoc, set_at}
+use Rattle.std.specs.Prelude.{Result, Ok, Err}
 use Rattle.words.proofs.Tests.{passed, by_test}
 use Rattle.index.specs.declared.Entry.{Entry}
 use Rattle.index.specs.declared.Indexed.{Indexed}
 use Rattle.index.specs.declared.Indexed.TheVariants as I
+use Rattle.index.specs.declared.IndexRefusal.{IndexRefusal}
 use Rattle.index.specs.declared.IndexRefusal.TheVariants.{TableFull}
 use Rattle.index.specs.Entries.{uncorrelated}
 use Rattle.index.specs.Table.{most, numbers_of, holds, place_of, is_broken}
@@ -38,7 +40,7 @@ record Takes (seen first now : List Entry) (e : Entry) : Type 0 where
 
 -- a call that is refused: its report would not fit
 record Full (seen first now : List Entry) (e : Entry) : Type 0 where
-  refused : indexed now e.number ≡ I.Refused TableFull
+  refused : indexed now e.number ≡ Err TableFull
   over : length first < length (afresh (seen ++ (e ∷ [])))
 
 module _ (first : List Entry) (small : length first ≤ most) where
@@ -51,7 +53,7 @@ module _ (first : List Entry) (small : length first ≤ most) where
 
   module _ (seen now : List Entry) (e : Entry) (s : Stands (afresh seen) first now) where
     -- a call with an answer that is no refusal
-    takes : (a : Indexed) → indexed now e.number ≡ a → ((es : List Entry) → unless_refused a e es ≡ e ∷ es)
+    takes : (a : Result Indexed IndexRefusal) → indexed now e.number ≡ a → ((es : List Entry) → unless_refused a e es ≡ e ∷ es)
         → Stands (afresh (seen ++ (e ∷ []))) first (left_as a now e)
         → Takes seen first now e ⊎ Full seen first now e
     takes a q c st = inl (record { counted = λ es. rw q (c es); stands = rw q st })
@@ -68,7 +70,7 @@ module _ (first : List Entry) (small : length first ≤ most) where
       again : holds e.number (numbers_of (afresh seen)) ≡ true → Takes seen first now e ⊎ Full seen first now e
       again h =
           let k = replaces (afresh seen) s.rest e h in
-          takes (I.Replaced (place_of e.number (numbers_of now))) (answered now e.number ∙ rw (stays_sound seen now s, z, held, h)) (λ es. refl)
+          takes (Ok (I.Replaced (place_of e.number (numbers_of now)))) (answered now e.number ∙ rw (stays_sound seen now s, z, held, h)) (λ es. refl)
           (rw more
           (record { old = s.old; rest = s.rest; was = s.was; many = s.many ∙ sym k.1; is = rw s.is k.0; unused = s.unused }))
 
@@ -90,7 +92,7 @@ module _ (first : List Entry) (small : length first ≤ most) where
           let some : holds uncorrelated (numbers_of now) ≡ true = rw (s.is, r) there.0 in
           let place : place_of uncorrelated (numbers_of now) ≡ length (afresh seen) = rw (s.is, r) there.1 in
           let m = s.many in
-          takes (I.Entered (length (afresh seen))) (answered now e.number ∙ rw (stays_sound seen now s, z, held, l, some, place)) (λ es. refl)
+          takes (Ok (I.Entered (length (afresh seen)))) (answered now e.number ∙ rw (stays_sound seen now s, z, held, l, some, place)) (λ es. refl)
           (rw (more, appends (afresh seen) e l)
           (record {
             old = s.old ++ (x ∷ []);
@@ -104,7 +106,7 @@ module _ (first : List Entry) (small : length first ≤ most) where
     step : Takes seen first now e ⊎ Full seen first now e
     step =
         by_test (eqb e.number uncorrelated)
-        (λ z. takes I.Left (answered now e.number ∙ rw (stays_sound seen now s, z)) (λ es. refl) (rw (afresh_more seen e, z) s))
+        (λ z. takes (Ok I.Left) (answered now e.number ∙ rw (stays_sound seen now s, z)) (λ es. refl) (rw (afresh_more seen e, z) s))
         (λ z. by_test (holds e.number (numbers_of (afresh seen))) (again z) (λ l. new z l s.rest refl))
 
   -- ---- a history of calls

@@ -1,138 +1,164 @@
--- What the proofs of the two calls say of lists: a store where the answer says, the numbers put over an array one after the other, and that what is
--- decided of the array is what is answered of the table. Assumes nothing.
-use Prim.Native.Nat.{ℕ, zero, suc, ◌<◌, ◌≤◌, ◌+◌, ◌^◌}
-use mathlib.Core.Bool.{Bool, true, false, not, cond, ◌||◌}
-use mathlib.Core.List.{List, [], ◌∷◌}
-use mathlib.Core.Path.{◌≡◌, refl, sym, ap, ◌∙◌}
-use native.Mathlib.Numerals.{add-one}
+-- A lent table: what the searches in it find is what a look answers, and what a look answers is what the two calls answer. Assumes nothing.
+use Prim.Native.Nat.{ℕ, ◌<◌, ◌≤◌}
+use mathlib.Core.Bool.{true, false, not, cond}
+use mathlib.Core.List.{List}
+use mathlib.Core.Path.{◌≡◌, sym, ap, ◌∙◌}
 use native.Mathlib.Omega.{arith}
-use borrow.Author.Tests.{lt-ltb, le-ltb, ltb-false}
-use lib.Dec.{ltb}
-use lib.ListN.{length, set, take, get_or, replicate, length-replicate}
-use lib.Seq.{set_out, take-length}
+use borrow.Author.Tests.{lt-ltb, le-ltb, eq-eqb, ne_eqb}
+use lib.Dec.{eqb}
+use lib.ListN.{length, take, drop}
+use Rattle.std.specs.Prelude.{Option, Some, None, Result, Ok, Err}
+use Rattle.std.specs.Option.{unwrap_or, ok_or}
 use Rattle.words.proofs.Tests.{by_test}
 use Rattle.index.specs.declared.Entry.{Entry}
-use Rattle.index.specs.declared.Indexed.{Indexed}
 use Rattle.index.specs.declared.Indexed.TheVariants as I
-use Rattle.index.specs.declared.Found.TheVariants as F
+use Rattle.index.specs.declared.IndexRefusal.{IndexRefusal}
 use Rattle.index.specs.declared.IndexRefusal.TheVariants.{TableBroken, TableFull}
-use Rattle.index.specs.declared.judging.Looked.{Looked}
-use Rattle.index.specs.declared.judging.Looked.TheVariants as L
-use Rattle.index.specs.Table.{most, numbers_of, holds, place_of, used_after_unused, held_twice}
-use Rattle.index.specs.Indexing.{indexed, left_as, found}
-use Rattle.index.specs.Steps.{blank, onto, bounded as bounded_of, looked_in, indexed_by, judged, spot_of, nowhere, found_by, sought}
-use Rattle.index.proofs.Looks.{held_place}
+use Rattle.index.specs.declared.judging.Sound.{Sound}
+use Rattle.index.specs.Entries.{uncorrelated}
+use Rattle.index.specs.Table.{most, numbers_of, any_used, holds, place_of, used_after_unused, held_twice, is_broken}
+use Rattle.index.specs.Indexing.{indexed, find_rows, found}
+use Rattle.index.specs.Steps.{placed, some_used, looked_in, IsWithin}
+use Rattle.index.proofs.Looks.{as_many, held_place, gap_is, front_twice, front_numbers, rest_numbers, some_is, placed_is}
+use Rattle.index.proofs.Sound.{behind, answered}
 
--- ---- a store
+-- ---- a search
 
--- the entry is stored where the answer says
-pub stores : (r : Indexed) (ys : List Entry) (e : Entry) → length ys < 2 ^ 64 → set ys (spot_of r) e ≡ left_as r ys e
-stores (I.Entered i) ys e h = refl
-stores (I.Replaced i) ys e h = refl
-stores I.Left ys e h = set_out ys nowhere e (omega arith)
-stores (I.Refused q) ys e h = set_out ys nowhere e (omega arith)
+module _ (x : ℕ) (table : List Entry) where
+  -- a number that is held is found where it stands
+  pub placed_some : {i : ℕ} → placed x table ≡ Some i → (holds x (numbers_of table) ≡ true) × (place_of x (numbers_of table) ≡ i)
+  placed_some {i} h =
+      by_test (holds x (numbers_of table))
+      (λ t.
+      let is : ◌≡◌ {A = Option ℕ} (Some (place_of x (numbers_of table))) (Some i) = rw t at (sym (placed_is x table) ∙ h) in
+      let at : place_of x (numbers_of table) ≡ i = cc in
+      (t, at))
+      (λ t. let no : ◌≡◌ {A = Option ℕ} None (Some i) = rw t at (sym (placed_is x table) ∙ h) in (cc, cc))
 
--- ---- numbers put over an array
+  pub placed_none : placed x table ≡ None → holds x (numbers_of table) ≡ false
+  placed_none h =
+      by_test (holds x (numbers_of table))
+      (λ t. let no : ◌≡◌ {A = Option ℕ} (Some (place_of x (numbers_of table))) None = rw t at (sym (placed_is x table) ∙ h) in cc)
+      (λ t. t)
 
-pub onto_length : {A : Type 0} (xs ys : List A) → length (onto xs ys) ≡ length ys
-unfolding onto
-onto_length [] ys = refl
-onto_length (x ∷ xs) [] = refl
-onto_length (x ∷ xs) (y ∷ ys) = ap suc (onto_length xs ys)
+  -- in the table
+  pub placed_within : length table ≤ most → IsWithin (length table) (placed x table)
+  placed_within m =
+      by_test (holds x (numbers_of table))
+      (λ t. rw (placed_is x table, t) (omega (arith, (held_place x (numbers_of table)).0 t, as_many table), m))
+      (λ t. rw (placed_is x table, t) tt)
 
-one_more : (i : ℕ) (ys : List Entry) (ns : List ℕ) → i < length ys → i < length ns
-    → set (onto (numbers_of (take i ys)) ns) i (get_or ys i blank).number ≡ onto (numbers_of (take (suc i) ys)) ns
-unfolding onto numbers_of
-one_more i [] ns h g = absurd (omega arith)
-one_more i (y ∷ ys) [] h g = absurd (omega arith)
-one_more zero (y ∷ ys) (n ∷ ns) h g = refl
-one_more (suc i) (y ∷ ys) (n ∷ ns) h g = ap (λ (l : List ℕ). y.number ∷ l) (one_more i ys ns (omega arith) (omega arith))
+-- a place that is there, or the refusal
+pub had_some : (q : IndexRefusal) {i : ℕ} (o : Option ℕ) → ◌≡◌ {A = Result ℕ IndexRefusal} (Ok i) (ok_or o q) → o ≡ Some i
+had_some q (Some j) e = cc
+had_some q None e = cc
 
--- the number of one more entry
-pub numbers_next : (i : ℕ) (ys : List Entry) (ns : List ℕ) → i < length ys → i < length ns
-    → set (onto (numbers_of (take i ys)) ns) i (get_or ys i blank).number ≡ onto (numbers_of (take (i + 1) ys)) ns
-numbers_next i ys ns h g = rw add-one (one_more i ys ns h g)
+pub had_none : (q : IndexRefusal) {r : IndexRefusal} (o : Option ℕ) → ◌≡◌ {A = Result ℕ IndexRefusal} (Err r) (ok_or o q) → (o ≡ None) × (r ≡ q)
+had_none q (Some j) e = (cc, cc)
+had_none q None e = (cc, cc)
 
-pub numbers_none : (ns : List ℕ) → onto (numbers_of []) ns ≡ ns
-unfolding onto numbers_of
-numbers_none ns = refl
+-- ---- a look, by the first unused entry
 
--- ---- what is decided of the array is what is answered of the table
+module _ (table : List Entry) where
+  up_to_is : unwrap_or (placed uncorrelated table) (length table) ≡ place_of uncorrelated (numbers_of table)
+  up_to_is =
+      by_test (holds uncorrelated (numbers_of table))
+      (λ t. rw (placed_is uncorrelated table, t))
+      (λ t. rw (placed_is uncorrelated table, t) (sym ((held_place uncorrelated (numbers_of table)).1 t ∙ as_many table)))
 
--- the entries of a table of 512 and below
-bounded_all : (n : ℕ) → n ≤ 512 → bounded_of n ≡ n
-bounded_all n h =
-    by_test (ltb n 512)
-    (λ l. rw l)
-    (λ g. rw g (omega (arith, ltb-false n 512 g)))
+  pub long_broken : most < length table → is_broken table ≡ true
+  long_broken h = rw (lt-ltb most (length table) h)
 
-pub numbers_length : (ys : List Entry) → length (numbers_of ys) ≡ length ys
-unfolding numbers_of
-numbers_length [] = refl
-numbers_length (y ∷ ys) = ap suc (numbers_length ys)
+  module _ (free : ℕ) (is : free ≡ unwrap_or (placed uncorrelated table) (length table)) (short : length table ≤ most) where
+    gap_there : used_after_unused (numbers_of table) ≡ some_used (drop free table)
+    gap_there =
+        rw (is, up_to_is)
+        (gap_is (numbers_of table) ∙ sym (some_is (drop (place_of uncorrelated (numbers_of table)) table) ∙ ap any_used (rest_numbers (place_of uncorrelated (numbers_of table)) table)))
 
-onto_front : (xs ys : List ℕ) → length xs ≤ length ys → take (length xs) (onto xs ys) ≡ xs
-unfolding onto
-onto_front [] ys h = refl
-onto_front (x ∷ xs) [] h = absurd (omega arith)
-onto_front (x ∷ xs) (y ∷ ys) h = ap (λ (l : List ℕ). x ∷ l) (onto_front xs ys (omega arith))
+    pub gap_broken : some_used (drop free table) ≡ true → is_broken table ≡ true
+    gap_broken u = rw (le-ltb most (length table) short, gap_there ∙ u)
 
--- the array's front has the numbers of the table
-front_is : (ys : List Entry) → length ys ≤ 512 → take (length ys) (onto (numbers_of (take (bounded_of (length ys)) ys)) (replicate 512 0)) ≡ numbers_of ys
-front_is ys h =
-    rw
-    (bounded_all (length ys) h, take-length ys, ← numbers_length ys)
-    (onto_front (numbers_of ys) (replicate 512 0) (omega (arith, numbers_length ys, length-replicate {A = ℕ} 512 0)))
+    twice_there : some_used (drop free table) ≡ false → held_twice (numbers_of table) ≡ held_twice (numbers_of (take free table))
+    twice_there u =
+        let p = place_of uncorrelated (numbers_of table) in
+        let none : any_used (drop p (numbers_of table)) ≡ false = sym (gap_is (numbers_of table)) ∙ gap_there ∙ u in
+        rw (is, up_to_is) (sym (ap held_twice (front_numbers p table) ∙ front_twice (numbers_of table) none))
 
--- a number has a place in front of the end exactly where it is held
-held_is : (x : ℕ) (ns : List ℕ) → ltb (place_of x ns) (length ns) ≡ holds x ns
-held_is x ns =
-    by_test (holds x ns)
-    (λ h. lt-ltb (place_of x ns) (length ns) ((held_place x ns).0 h) ∙ sym h)
-    (λ h. le-ltb (place_of x ns) (length ns) (omega (arith, (held_place x ns).1 h)) ∙ sym h)
+    pub twice_broken : some_used (drop free table) ≡ false → held_twice (numbers_of (take free table)) ≡ true → is_broken table ≡ true
+    twice_broken u t = rw (le-ltb most (length table) short, gap_there ∙ u, twice_there u ∙ t)
 
--- three answers by two truth values, in the order of the code and in that of the rows
-reordered : {A : Type 0} (held free : Bool) (replaced entered full : A)
-    → cond held replaced (cond free entered full) ≡ cond (not (held || free)) full (cond held replaced entered)
-reordered true free replaced entered full = refl
-reordered false true replaced entered full = refl
-reordered false false replaced entered full = refl
+    pub not_broken : some_used (drop free table) ≡ false → held_twice (numbers_of (take free table)) ≡ false → is_broken table ≡ false
+    not_broken u t = rw (le-ltb most (length table) short, gap_there ∙ u, twice_there u ∙ t)
 
-turned : {A : Type 0} (held : Bool) (at missing : A) → cond held at missing ≡ cond (not held) missing at
-turned true at missing = refl
-turned false at missing = refl
+module _ (table : List Entry) (x : ℕ) where
+  pub looks_broken : is_broken table ≡ true → looked_in table x ≡ Err TableBroken
+  unfolding looked_in
+  looks_broken b = rw b
 
--- the rows of 50 behind the first, with any answer, are what a look finds
-looks_broken : {A : Type 0} (f : Looked → A) (ns : List ℕ) (x : ℕ)
-    → f (looked_in ns x) ≡ cond (used_after_unused ns) (f L.Broken) (cond (held_twice ns) (f L.Broken) (f (L.Sound (place_of 0 ns) (place_of x ns))))
-unfolding looked_in
-looks_broken f ns x = go (used_after_unused ns) (held_twice ns) (L.Sound (place_of 0 ns) (place_of x ns))
-  where
-    go : (gap twice : Bool) (sound : Looked) → f (cond (gap || twice) L.Broken sound) ≡ cond gap (f L.Broken) (cond twice (f L.Broken) (f sound))
-    go true twice sound = refl
-    go false true sound = refl
-    go false false sound = refl
+  pub looks_sound : is_broken table ≡ false → looked_in table x ≡ Ok (record { free = placed uncorrelated table; at = placed x table })
+  unfolding looked_in
+  looks_sound b = rw b
 
--- the same of any answer that goes by a look, over 512 entries and below
-of_table : {A : Type 0} (broken : A) (f : Looked → ℕ → A) (ys : List Entry) (x : ℕ)
-    → cond (ltb most (length ys)) broken (f (looked_in (take (length ys) (onto (numbers_of (take (bounded_of (length ys)) ys)) (replicate 512 0))) x) (length ys))
-    ≡ cond (ltb most (length ys)) broken (f (looked_in (numbers_of ys) x) (length (numbers_of ys)))
-of_table broken f ys x =
-    by_test (ltb most (length ys))
-    (λ l. rw l)
-    (λ g. rw g (rw (front_is ys (ltb-false most (length ys) g), numbers_length ys)))
+  -- ---- the calls, by what a look answers
 
-module _ (ys : List Entry) (x : ℕ) where
-  pub answered : judged (onto (numbers_of (take (bounded_of (length ys)) ys)) (replicate 512 0)) (length ys) x ≡ indexed ys x
-  unfolding judged indexed
-  answered =
-      let ns = numbers_of ys in
-      of_table (I.Refused TableBroken) (λ l n. indexed_by l n x) ys x
-      ∙ ap (cond (ltb most (length ys)) (I.Refused TableBroken)) (looks_broken (λ l. indexed_by l (length ns) x) ns x ∙ rw (held_is x ns, held_is 0 ns, reordered (holds x ns) (holds 0 ns) (I.Replaced (place_of x ns)) (I.Entered (place_of 0 ns)) (I.Refused TableFull)))
+  refused_both : is_broken table ≡ true → (indexed table x ≡ Err TableBroken) × (found table x ≡ Err TableBroken)
+  unfolding found
+  refused_both b =
+      (answered table x ∙ rw b, behind (Err TableBroken) table (drop 3 (find_rows table x)) (Ok (Some (place_of x (numbers_of table)))) ∙ rw b)
 
-  pub sought_is : sought (onto (numbers_of (take (bounded_of (length ys)) ys)) (replicate 512 0)) (length ys) x ≡ found ys x
-  unfolding sought found
-  sought_is =
-      let ns = numbers_of ys in
-      of_table (F.Refused TableBroken) (λ l n. found_by l n x) ys x
-      ∙ ap (cond (ltb most (length ys)) (F.Refused TableBroken)) (looks_broken (λ l. found_by l (length ns) x) ns x ∙ rw (held_is x ns, turned (holds x ns) (F.At (place_of x ns)) F.Missing))
+  pub refused : {q : IndexRefusal} → looked_in table x ≡ Err q → (indexed table x ≡ Err q) × (found table x ≡ Err q)
+  unfolding looked_in
+  refused {q} h =
+      by_test (is_broken table)
+      (λ b. let is : ◌≡◌ {A = Result Sound IndexRefusal} (Err TableBroken) (Err q) = rw b at h in let k = refused_both b in (let e = k.0 in cc, let e = k.1 in cc))
+      (λ b. let no : ◌≡◌ {A = Result Sound IndexRefusal} (Ok (record { free = placed uncorrelated table; at = placed x table })) (Err q) = rw b at h in (cc, cc))
+
+  module _ {s : Sound} (h : looked_in table x ≡ Ok s) where
+    -- it is not broken, and the two places are what is found
+    is_sound : (is_broken table ≡ false) × (s ≡ record { free = placed uncorrelated table; at = placed x table })
+    unfolding looked_in
+    is_sound =
+        by_test (is_broken table)
+        (λ b. let no : ◌≡◌ {A = Result Sound IndexRefusal} (Err TableBroken) (Ok s) = rw b at h in (cc, cc))
+        (λ b. let is : ◌≡◌ {A = Result Sound IndexRefusal} (Ok (record { free = placed uncorrelated table; at = placed x table })) (Ok s) = rw b at h in (b, cc))
+
+    pub at_place : {i : ℕ} → s.at ≡ Some i → (holds x (numbers_of table) ≡ true) × (place_of x (numbers_of table) ≡ i)
+    at_place e = placed_some x table (sym (ap (λ (s : Sound). s.at) is_sound.1) ∙ e)
+
+    pub free_place : {i : ℕ} → s.free ≡ Some i
+        → (holds uncorrelated (numbers_of table) ≡ true) × (place_of uncorrelated (numbers_of table) ≡ i)
+    free_place e = placed_some uncorrelated table (sym (ap (λ (s : Sound). s.free) is_sound.1) ∙ e)
+
+    not_held : s.at ≡ None → holds x (numbers_of table) ≡ false
+    not_held e = placed_none x table (sym (ap (λ (s : Sound). s.at) is_sound.1) ∙ e)
+
+    not_free : s.free ≡ None → holds uncorrelated (numbers_of table) ≡ false
+    not_free e = placed_none uncorrelated table (sym (ap (λ (s : Sound). s.free) is_sound.1) ∙ e)
+
+    pub left : x ≡ uncorrelated → indexed table x ≡ Ok I.Left
+    left z = answered table x ∙ rw (is_sound.0, eq-eqb x uncorrelated z)
+
+    pub replaced : {i : ℕ} → (x ≡ uncorrelated → ⊥) → s.at ≡ Some i → indexed table x ≡ Ok (I.Replaced i)
+    replaced z e = let k = at_place e in answered table x ∙ rw (is_sound.0, ne_eqb x uncorrelated z, k.0, k.1)
+
+    pub entered : {i : ℕ} → (x ≡ uncorrelated → ⊥) → s.at ≡ None → s.free ≡ Some i → indexed table x ≡ Ok (I.Entered i)
+    entered z e f = let k = free_place f in answered table x ∙ rw (is_sound.0, ne_eqb x uncorrelated z, not_held e, k.0, k.1)
+
+    pub full : (x ≡ uncorrelated → ⊥) → s.at ≡ None → s.free ≡ None → indexed table x ≡ Err TableFull
+    full z e f = answered table x ∙ rw (is_sound.0, ne_eqb x uncorrelated z, not_held e, not_free f)
+
+    -- of a number that is looked for
+    shown_by : found table x ≡ cond (eqb x uncorrelated) (Ok None) (cond (not (holds x (numbers_of table))) (Ok None) (Ok (Some (place_of x (numbers_of table)))))
+    unfolding found
+    shown_by = behind (Err TableBroken) table (drop 3 (find_rows table x)) (Ok (Some (place_of x (numbers_of table)))) ∙ rw is_sound.0
+
+    pub none_found : x ≡ uncorrelated → found table x ≡ Ok None
+    none_found z = shown_by ∙ rw (eq-eqb x uncorrelated z)
+
+    pub finds : (x ≡ uncorrelated → ⊥) → found table x ≡ Ok s.at
+    finds z =
+        shown_by
+        ∙ rw (ne_eqb x uncorrelated z)
+        (by_test (holds x (numbers_of table))
+        (λ t. rw (t, is_sound.1, placed_is x table, t))
+        (λ t. rw (t, is_sound.1, placed_is x table, t)))

@@ -1,7 +1,7 @@
 pub mod Looks
-pub mod Marks
-pub mod Lent
+pub mod Twice
 pub mod Afresh
 pub mod Sound
 pub mod History
 pub mod Claims
+pub mod Lent

@@ -1,49 +1,20 @@
--- Laws of the numbers of a table that the searches need: what is found at a place by what stands there, and a look at the front alone. Assumes
--- nothing.
-use Prim.Native.Nat.{ℕ, suc, ◌+◌, ◌<◌, ◌≤◌}
-use mathlib.Core.Bool.{Bool, true, false, ◌||◌, true≢false}
+-- Laws of a table that the searches need: what stands where a search goes, and a look at the front alone. Assumes nothing.
+use Prim.Native.Nat.{ℕ, zero, suc, ◌+◌, ◌<◌}
+use mathlib.Core.Bool.{Bool, true, false, not, cond, ◌||◌, true≢false}
 use mathlib.Core.List.{List, [], ◌∷◌}
 use mathlib.Core.Path.{◌≡◌, refl, sym, ap, ◌∙◌}
-use native.Mathlib.Numerals.{add-one}
+use native.Mathlib.Numerals.{add-one, one-add}
 use native.Mathlib.Omega.{arith}
-use borrow.Author.Tests.{eq-eqb, ne_eqb, eqb-true, eqb-false}
+use borrow.Author.Tests.{lt-ltb, le-ltb, ne_eqb, eqb-true, eqb-false}
 use lib.Dec.{eqb}
 use lib.ListN.{length, take, drop, get_or}
 use lib.Seq.{drop-cons}
+use Rattle.std.specs.Prelude.{Some, None}
+use Rattle.std.specs.List.{position_or_len}
 use Rattle.words.proofs.Tests.{by_test}
-use Rattle.index.specs.declared.judging.Looked.TheVariants as L
-use Rattle.index.specs.Steps.{looked_in}
-use Rattle.index.specs.Table.{any_used, holds, place_of, used_after_unused, held_twice}
-
--- ---- at a place
-
-module _ (s : List ℕ) (i : ℕ) (h : i < length s) where
-  pub rest_is : drop i s ≡ get_or s i 0 ∷ drop (i + 1) s
-  rest_is = rw add-one (drop-cons s i 0 h)
-
-  pub place_here : (x : ℕ) → get_or s i 0 ≡ x → place_of x (drop i s) ≡ 0
-  unfolding place_of
-  place_here x e = rw (rest_is, eq-eqb (get_or s i 0) x e)
-
-  pub place_on : (x : ℕ) → (get_or s i 0 ≡ x → ⊥) → place_of x (drop i s) ≡ suc (place_of x (drop (i + 1) s))
-  unfolding place_of
-  place_on x e = rw (rest_is, ne_eqb (get_or s i 0) x e)
-
-  pub used_here : (get_or s i 0 ≡ 0 → ⊥) → any_used (drop i s) ≡ true
-  unfolding any_used
-  used_here e = rw (rest_is, ne_eqb (get_or s i 0) 0 e)
-
-  pub used_on : get_or s i 0 ≡ 0 → any_used (drop i s) ≡ any_used (drop (i + 1) s)
-  unfolding any_used
-  used_on e = rw (rest_is, eq-eqb (get_or s i 0) 0 e)
-
-pub place_most : (x : ℕ) (s : List ℕ) → place_of x s ≤ length s
-unfolding place_of
-place_most x [] = omega arith
-place_most x (n ∷ s) =
-    by_test (eqb n x)
-    (λ e. rw e (omega arith))
-    (λ e. rw e (omega (arith, place_most x s)))
+use Rattle.index.specs.declared.Entry.{Entry}
+use Rattle.index.specs.Steps.{placed, some_used}
+use Rattle.index.specs.Table.{numbers_of, any_used, holds, place_of, used_after_unused, held_twice}
 
 -- a number stands at a place exactly where it is held
 pub held_place : (x : ℕ) (s : List ℕ) → (holds x s ≡ true → place_of x s < length s) × (holds x s ≡ false → place_of x s ≡ length s)
@@ -114,33 +85,51 @@ front_twice (n ∷ s) h =
     let g : any_used (drop (place_of 0 s) s) ≡ false = rw e at h in
     rw (e, e) (ap (λ (b : Bool). b || held_twice (take (place_of 0 s) s)) (front_holds s n (eqb-false n 0 e) g) ∙ ap (λ (b : Bool). holds n s || b) (front_twice s g)))
 
--- ---- what a look finds, by the first unused entry
+-- ---- the entries, and their numbers
 
-module _ (s : List ℕ) (x free : ℕ) (is : free ≡ place_of 0 s) where
-  gap_there : used_after_unused s ≡ any_used (drop free s)
-  gap_there = rw is (gap_is s)
+pub as_many : (es : List Entry) → length (numbers_of es) ≡ length es
+unfolding numbers_of
+as_many [] = refl
+as_many (e ∷ es) = ap suc (as_many es)
 
-  pub finds_gap : any_used (drop free s) ≡ true → looked_in s x ≡ L.Broken
-  unfolding looked_in
-  finds_gap u = rw (gap_there ∙ u)
+-- the numbers from a place on: that of the entry there, and those behind it
+pub from_place : (es : List Entry) (i : ℕ) (d : Entry) → i < length es → numbers_of (drop i es) ≡ (get_or es i d).number ∷ numbers_of (drop (i + 1) es)
+unfolding numbers_of
+from_place es i d h = rw add-one (ap numbers_of (drop-cons es i d h))
 
-  twice_there : any_used (drop free s) ≡ false → held_twice s ≡ held_twice (take free s)
-  twice_there u = rw is (sym (front_twice s (rw is at u)))
+pub front_numbers : (k : ℕ) (es : List Entry) → numbers_of (take k es) ≡ take k (numbers_of es)
+unfolding numbers_of
+front_numbers zero es = refl
+front_numbers (suc k) [] = refl
+front_numbers (suc k) (e ∷ es) = ap (λ (l : List ℕ). e.number ∷ l) (front_numbers k es)
 
-  pub finds_twice : any_used (drop free s) ≡ false → held_twice (take free s) ≡ true → looked_in s x ≡ L.Broken
-  unfolding looked_in
-  finds_twice u t = rw (gap_there ∙ u, twice_there u ∙ t)
+pub rest_numbers : (k : ℕ) (es : List Entry) → numbers_of (drop k es) ≡ drop k (numbers_of es)
+unfolding numbers_of
+rest_numbers zero es = refl
+rest_numbers (suc k) [] = refl
+rest_numbers (suc k) (e ∷ es) = rest_numbers k es
 
-  pub finds_none : any_used (drop free s) ≡ false → held_twice (take free s) ≡ false → looked_in s x ≡ L.Sound free (place_of x s)
-  unfolding looked_in
-  finds_none u t = rw (gap_there ∙ u, twice_there u ∙ t, is)
+-- ---- the searches
 
--- ---- an empty list
+pub some_is : (es : List Entry) → some_used es ≡ any_used (numbers_of es)
+unfolding any_used numbers_of
+some_is [] = refl
+some_is (e ∷ es) = ap (λ (b : Bool). not (eqb e.number 0) || b) (some_is es)
 
-pub place_none : (x : ℕ) → place_of x [] ≡ 0
-unfolding place_of
-place_none x = refl
+place_is : (x : ℕ) (es : List Entry) → position_or_len (λ (e : Entry). eqb e.number x) es ≡ place_of x (numbers_of es)
+unfolding place_of numbers_of
+place_is x [] = refl
+place_is x (e ∷ es) = by_test (eqb e.number x) (λ t. rw t) (λ t. rw (t, one-add) (ap suc (place_is x es)))
 
-pub used_none : any_used [] ≡ false
-unfolding any_used
-used_none = refl
+-- a search finds a number exactly where it is held
+pub placed_is : (x : ℕ) (es : List Entry) → placed x es ≡ cond (holds x (numbers_of es)) (Some (place_of x (numbers_of es))) None
+placed_is x es =
+    rw
+    (place_is x es, ← as_many es)
+    (by_test (holds x (numbers_of es))
+    (λ h. rw (h, lt-ltb _ _ ((held_place x (numbers_of es)).0 h)))
+    (λ h. rw (h, (held_place x (numbers_of es)).1 h, le-ltb (length (numbers_of es)) (length (numbers_of es)) (omega arith))))
+
+pub numbers_none : numbers_of [] ≡ []
+unfolding numbers_of
+numbers_none = refl

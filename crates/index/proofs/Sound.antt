@@ -7,6 +7,7 @@ use mathlib.Core.Path.{◌≡◌, refl, sym, ap}
 use lib.Dec.{eqb, ltb}
 use lib.ListN.{length, take, drop, set}
 use borrow.Author.Tests.{le-ltb, not-false, eq-eqb}
+use Rattle.std.specs.Prelude.{Some, None, Result, Ok, Err}
 use Rattle.rows.specs.Rows.{Row, first_of}
 use Rattle.rows.specs.Claims.{NoneHolds}
 use Rattle.rows.proofs.Claims as law
@@ -14,7 +15,7 @@ use Rattle.words.proofs.Tests.{by_test}
 use Rattle.index.specs.declared.Entry.{Entry}
 use Rattle.index.specs.declared.Indexed.{Indexed}
 use Rattle.index.specs.declared.Indexed.TheVariants as I
-use Rattle.index.specs.declared.Found.TheVariants as F
+use Rattle.index.specs.declared.IndexRefusal.{IndexRefusal}
 use Rattle.index.specs.declared.IndexRefusal.TheVariants.{TableBroken, TableFull}
 use Rattle.index.specs.Entries.{uncorrelated}
 use Rattle.index.specs.Table.{most, numbers_of, any_used, holds, place_of, used_in, used_after_unused, held_twice, broken_rows, is_broken}
@@ -105,16 +106,17 @@ behind broken table more other = pick (ltb most (length table)) (used_after_unus
     pick false false false = refl
 
 -- the answer to a call with number x, by whether the table is broken, x is 0, x is in the table, and an entry is unused
-abbrev pub answer_by : Bool → Bool → Bool → Bool → List ℕ → ℕ → Indexed
+abbrev pub answer_by : Bool → Bool → Bool → Bool → List ℕ → ℕ → Result Indexed IndexRefusal
 answer_by broken zero' held room ns x =
-    cond broken (I.Refused TableBroken)
-    (cond zero' I.Left (cond (not (held || room)) (I.Refused TableFull) (cond held (I.Replaced (place_of x ns)) (I.Entered (place_of uncorrelated ns)))))
+    cond broken (Err TableBroken)
+    (cond zero' (Ok I.Left)
+    (cond (not (held || room)) (Err TableFull) (Ok (cond held (I.Replaced (place_of x ns)) (I.Entered (place_of uncorrelated ns))))))
 
 pub answered : (table : List Entry) (x : ℕ)
     → indexed table x
     ≡ answer_by (is_broken table) (eqb x uncorrelated) (holds x (numbers_of table)) (holds uncorrelated (numbers_of table)) (numbers_of table) x
 unfolding indexed
-answered table x = behind (I.Refused TableBroken) table (drop 3 (enter_rows table x)) (taken (numbers_of table) x)
+answered table x = behind (Err TableBroken) table (drop 3 (enter_rows table x)) (Ok (taken (numbers_of table) x))
 
 -- number 0 leaves any table as it is
 pub zero_stays : (table : List Entry) (e : Entry) → e.number ≡ uncorrelated → left_as (indexed table e.number) table e ≡ table
@@ -122,7 +124,7 @@ zero_stays table e z =
     rw (answered table e.number, eq-eqb e.number uncorrelated z) (by_test (is_broken table) (λ b. rw b) (λ b. rw b))
 
 -- an entry that is found is the first with its number
-looked : (x : ℕ) (table : List Entry) → shown (cond (not (holds x (numbers_of table))) F.Missing (F.At (place_of x (numbers_of table)))) table ≡ first_with x table
+looked : (x : ℕ) (table : List Entry) → shown (cond (not (holds x (numbers_of table))) (Ok None) (Ok (Some (place_of x (numbers_of table))))) table ≡ first_with x table
 unfolding first_with holds place_of numbers_of
 looked x [] = refl
 looked x (t ∷ ts) =
@@ -132,7 +134,7 @@ looked x (t ∷ ts) =
 pub found_first : (table : List Entry) (x : ℕ) → is_broken table ≡ false → eqb x uncorrelated ≡ false → shown (found table x) table ≡ first_with x table
 unfolding found
 found_first table x b z =
-    rw (behind (F.Refused TableBroken) table (drop 3 (find_rows table x)) (F.At (place_of x (numbers_of table))), b, z) (looked x table)
+    rw (behind (Err TableBroken) table (drop 3 (find_rows table x)) (Ok (Some (place_of x (numbers_of table)))), b, z) (looked x table)
 
 -- ---- what it stores
 

@@ -1,14 +1,12 @@
 -- The index worked out afresh from the reports seen, without a table and its calls; and the calls one after the other (document 02, Ticket 3: "The
 -- index must equal the one worked out afresh from the reports seen"). Here a report is the entry that its outcome brings; number 0 stands for none.
 -- Definitions only.
-use Rattle.std.specs.Prelude.{ℕ, cond, List, [], ◌∷◌, ◌++◌, map, eqb, length, take, drop, Result}
+use Rattle.std.specs.Prelude.{ℕ, cond, List, [], ◌∷◌, ◌++◌, map, eqb, length, take, drop, Option, Some, None, Result, Ok, Err}
 use Rattle.lines.specs.Line.{what_of}
 use Rattle.lines.specs.Stretches.{Run, runs}
 use Rattle.index.specs.declared.Entry.{Entry}
 use Rattle.index.specs.declared.Indexed.{Indexed}
-use Rattle.index.specs.declared.Indexed.TheVariants as I
-use Rattle.index.specs.declared.Found.{Found}
-use Rattle.index.specs.declared.Found.TheVariants as F
+use Rattle.index.specs.declared.IndexRefusal.{IndexRefusal}
 use Rattle.index.specs.Entries.{uncorrelated, number_in, kind_in}
 use Rattle.index.specs.Indexing.{indexed, left_as}
 use Rattle.reports.specs.declared.Report.{Report}
@@ -48,11 +46,9 @@ after table [] = table
 after table (e ∷ es) = after (left_as (indexed table e.number) table e) es
 
 -- e in front of es, unless its call was refused
-abbrev pub unless_refused : Indexed → Entry → List Entry → List Entry
-unless_refused (I.Entered i) e es = e ∷ es
-unless_refused (I.Replaced i) e es = e ∷ es
-unless_refused I.Left e es = e ∷ es
-unless_refused (I.Refused q) e es = es
+abbrev pub unless_refused : Result Indexed IndexRefusal → Entry → List Entry → List Entry
+unless_refused (Ok a) e es = e ∷ es
+unless_refused (Err q) e es = es
 
 -- of what the calls bring, that of the calls that were not refused
 unfoldable pub not_refused : List Entry → List Entry → List Entry
@@ -60,10 +56,10 @@ not_refused table [] = []
 not_refused table (e ∷ es) = unless_refused (indexed table e.number) e (not_refused (left_as (indexed table e.number) table e) es)
 
 -- the entry that is found: one, or none
-abbrev pub shown : Found → List Entry → List Entry
-shown (F.At i) table = take 1 (drop i table)
-shown F.Missing table = []
-shown (F.Refused q) table = []
+abbrev pub shown : Result (Option ℕ) IndexRefusal → List Entry → List Entry
+shown (Ok (Some i)) table = take 1 (drop i table)
+shown (Ok None) table = []
+shown (Err q) table = []
 
 -- ---- a line
 

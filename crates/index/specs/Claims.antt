@@ -1,5 +1,5 @@
 -- What is claimed of the index (document 02, Ticket 3). Statements only, with what they need to be said; proofs/Claims.antt proves them.
-use Rattle.std.specs.Prelude.{ℕ, ◌≤◌, ◌↔◌, ◌⊎◌, true, false, cond, List, [], ◌++◌, map, ◌≡◌, length, drop, Ok, Result}
+use Rattle.std.specs.Prelude.{ℕ, ◌≤◌, ◌↔◌, ◌⊎◌, true, false, cond, List, [], ◌++◌, map, ◌≡◌, length, drop, Some, None, Ok, Err, Result}
 use Rattle.rows.specs.Claims.{FirstIs}
 use Rattle.words.specs.Word.{bits, bit}
 use Rattle.reports.specs.declared.Report.{Report}
@@ -9,7 +9,6 @@ use Rattle.reports.specs.Runs.{read_run}
 use Rattle.lines.specs.Line.{most as most_words, outcomes}
 use Rattle.index.specs.declared.Entry.{Entry}
 use Rattle.index.specs.declared.Indexed.TheVariants as I
-use Rattle.index.specs.declared.Found.TheVariants as F
 use Rattle.index.specs.declared.IndexRefusal.{IndexRefusal}
 use Rattle.index.specs.declared.IndexRefusal.TheVariants.{TableBroken, TableFull}
 use Rattle.index.specs.Entries.{uncorrelated, file_of, entry_of}
@@ -33,7 +32,7 @@ NumberAsPrinted = (form : AltitudeForm) (ws : List ℕ) (r : Report) → read_ru
 abbrev pub EnteredExactly : Type 0
 EnteredExactly =
     (table : List Entry) (x i : ℕ) →
-    (indexed table x ≡ I.Entered i)
+    (indexed table x ≡ Ok (I.Entered i))
     ↔ ((is_broken table ≡ false)
     × (x ≡ uncorrelated → ⊥)
     × (holds x (numbers_of table) ≡ false)
@@ -44,51 +43,51 @@ EnteredExactly =
 abbrev pub ReplacedExactly : Type 0
 ReplacedExactly =
     (table : List Entry) (x i : ℕ) →
-    (indexed table x ≡ I.Replaced i)
+    (indexed table x ≡ Ok (I.Replaced i))
     ↔ ((is_broken table ≡ false) × (x ≡ uncorrelated → ⊥) × (holds x (numbers_of table) ≡ true) × (place_of x (numbers_of table) ≡ i))
 
 -- found at i exactly where the number is in the table, at i
 abbrev pub FoundExactly : Type 0
 FoundExactly =
     (table : List Entry) (x i : ℕ) →
-    (found table x ≡ F.At i)
+    (found table x ≡ Ok (Some i))
     ↔ ((is_broken table ≡ false) × (x ≡ uncorrelated → ⊥) × (holds x (numbers_of table) ≡ true) × (place_of x (numbers_of table) ≡ i))
 
 -- missing exactly where the number is 0, or not in the table
 abbrev pub MissingExactly : Type 0
 MissingExactly =
     (table : List Entry) (x : ℕ) →
-    (found table x ≡ F.Missing) ↔ ((is_broken table ≡ false) × ((x ≡ uncorrelated) ⊎ (holds x (numbers_of table) ≡ false)))
+    (found table x ≡ Ok None) ↔ ((is_broken table ≡ false) × ((x ≡ uncorrelated) ⊎ (holds x (numbers_of table) ≡ false)))
 
 -- left exactly where the number is 0
 abbrev pub LeftExactly : Type 0
-LeftExactly = (table : List Entry) (x : ℕ) → (indexed table x ≡ I.Left) ↔ ((is_broken table ≡ false) × (x ≡ uncorrelated))
+LeftExactly = (table : List Entry) (x : ℕ) → (indexed table x ≡ Ok I.Left) ↔ ((is_broken table ≡ false) × (x ≡ uncorrelated))
 
 -- ---- the refusals
 
 -- each of 50 and 51 is given exactly where its row is the first that holds
 abbrev pub EnterRefuses : Type 0
-EnterRefuses = (table : List Entry) (x : ℕ) (q : IndexRefusal) → (indexed table x ≡ I.Refused q) ↔ FirstIs (enter_rows table x) (I.Refused q)
+EnterRefuses = (table : List Entry) (x : ℕ) (q : IndexRefusal) → (indexed table x ≡ Err q) ↔ FirstIs (enter_rows table x) (Err q)
 
 abbrev pub FindRefuses : Type 0
-FindRefuses = (table : List Entry) (x : ℕ) (q : IndexRefusal) → (found table x ≡ F.Refused q) ↔ FirstIs (find_rows table x) (F.Refused q)
+FindRefuses = (table : List Entry) (x : ℕ) (q : IndexRefusal) → (found table x ≡ Err q) ↔ FirstIs (find_rows table x) (Err q)
 
 -- 50 is given exactly for a broken table, whatever the number is
 abbrev pub BrokenExactly : Type 0
 BrokenExactly =
     (table : List Entry) (x : ℕ) →
-    ((indexed table x ≡ I.Refused TableBroken) ↔ (is_broken table ≡ true)) × ((found table x ≡ F.Refused TableBroken) ↔ (is_broken table ≡ true))
+    ((indexed table x ≡ Err TableBroken) ↔ (is_broken table ≡ true)) × ((found table x ≡ Err TableBroken) ↔ (is_broken table ≡ true))
 
 -- 51 is given exactly for a table that is not broken and has no unused entry, and a number other than 0 that is not in it
 abbrev pub FullExactly : Type 0
 FullExactly =
     (table : List Entry) (x : ℕ) →
-    (indexed table x ≡ I.Refused TableFull)
+    (indexed table x ≡ Err TableFull)
     ↔ ((is_broken table ≡ false) × (x ≡ uncorrelated → ⊥) × (holds x (numbers_of table) ≡ false) × (holds uncorrelated (numbers_of table) ≡ false))
 
 -- both leave the table as it was
 abbrev pub RefusedStays : Type 0
-RefusedStays = (table : List Entry) (e : Entry) (q : IndexRefusal) → indexed table e.number ≡ I.Refused q → left_as (indexed table e.number) table e ≡ table
+RefusedStays = (table : List Entry) (e : Entry) (q : IndexRefusal) → indexed table e.number ≡ Err q → left_as (indexed table e.number) table e ≡ table
 
 -- number 0 leaves the table as it was
 abbrev pub ZeroStays : Type 0

@@ -1,32 +1,35 @@
 // The two calls on a lent table: what an outcome brought is entered, and a number's entry is found. Any table, any entry and any number are taken. Both
-// read the numbers of the table once and let judging.rt decide; the first then writes at most one entry.
-// Relies on table.rt for the lent table, and on judging.rt for the answers.
+// look at the table once; the first then writes at most one entry.
+// Relies on judging.rt for the look.
 ghost use Rattle.std.specs.Prelude.{◌≡◌};
 ghost use Rattle.index.specs.Indexing.{Indexes, found};
 
-use crate::{Entry, Found, Indexed, judging, table};
+use crate::{Entry, IndexRefusal, Indexed, UNCORRELATED, judging};
 
 // Enters what an outcome brought (seen::entry_of). A refused call, and number 0, leave the table as it was.
-pub fn enter(entries: &mut [Entry], e: Entry) -> Indexed
+pub fn enter(entries: &mut [Entry], e: Entry) -> Result<Indexed, IndexRefusal>
     ensures { Indexes entries.old e result entries.new }
 {
-    let len = entries.len();
-    let n = judging::bounded(len);
-    let none = judging::no_numbers();
-    let ns = table::numbers(entries, n, none);
-    let answer = judging::judge_enter(ns, len, e);
-    let i = judging::spot(answer);
-    table::put(entries, i, e);
-    answer
+    let seen = judging::look(entries, e.number)?;
+    if e.number == UNCORRELATED {
+        return Ok(Indexed::Left);
+    }
+    if let Some(i) = seen.at {
+        entries[i] = e;
+        return Ok(Indexed::Replaced(i as u16));
+    }
+    let i = seen.free.ok_or(IndexRefusal::TableFull)?;
+    entries[i] = e;
+    Ok(Indexed::Entered(i as u16))
 }
 
 // The entry of a number. Nothing is written.
-pub fn find(entries: &[Entry], number: u16) -> Found
+pub fn find(entries: &[Entry], number: u16) -> Result<Option<u16>, IndexRefusal>
     ensures { result ≡ found entries.now number }
 {
-    let len = entries.len();
-    let n = judging::bounded(len);
-    let none = judging::no_numbers();
-    let ns = table::numbers(entries, n, none);
-    judging::judge_find(ns, len, number)
+    let seen = judging::look(entries, number)?;
+    if number == UNCORRELATED {
+        return Ok(None);
+    }
+    Ok(seen.at.map(|i| i as u16))
 }

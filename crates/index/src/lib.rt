@@ -6,8 +6,8 @@
 ghost use Rattle.std.specs.Prelude.{◌≡◌};
 ghost use Rattle.index.specs.Numbers.{index_number};
 
-mod judging; // judging.rt: what the numbers of a table say
-mod table; // table.rt: the lent table, read and written
+mod judging; // judging.rt: what a look at a table finds
+mod marks; // marks.rt: a mark for each number
 pub mod entering; // entering.rt: the two calls
 pub mod seen; // seen.rt: what an outcome brings
 
@@ -20,7 +20,7 @@ const UNCORRELATED: u16 = 0;
 // An entry, as a C program declares it: a file number, the number of the report's kind, the scan number that the caller gave, and the place of the
 // run. There is no gap between the fields and none behind them.
 #[repr(C)]
-#[derive(Clone, Copy)]
+#[derive(Clone, Copy, Debug, PartialEq, Eq)]
 pub struct Entry {
     pub number: u16,
     pub kind: u16,
@@ -28,38 +28,26 @@ pub struct Entry {
     pub place: usize,
 }
 
-// Why a call is refused, in the order of document 02.
-#[derive(Clone, Copy)]
+// Why a call is refused, by its number in document 02.
+#[derive(Clone, Copy, Debug, PartialEq, Eq)]
 pub enum IndexRefusal {
-    TableBroken,
-    TableFull,
+    TableBroken = 50,
+    TableFull = 51,
 }
 
-impl IndexRefusal {
-    pub fn number(self) -> u8
-        ensures { result ≡ index_number self }
-    {
-        match self {
-            IndexRefusal::TableBroken => 50,
-            IndexRefusal::TableFull => 51,
-        }
+impl From<IndexRefusal> for u8 {
+    ghost from_gives = { λ why n. n ≡ index_number why };
+
+    fn from(why: IndexRefusal) -> u8 {
+        why as u8
     }
 }
 
-// What entering a report answers: a new number's entry; the entry of a number that was there; the table is left as it is, because the outcome has no
-// number to enter; or why it is refused.
-#[derive(Clone, Copy)]
+// What entering a report does: a new number takes an entry; the entry of a number that was there is replaced; the table is left as it is, because the
+// outcome has no number to enter.
+#[derive(Clone, Copy, Debug, PartialEq, Eq)]
 pub enum Indexed {
     Entered(u16),
     Replaced(u16),
     Left,
-    Refused(IndexRefusal),
-}
-
-// What looking for a number answers.
-#[derive(Clone, Copy)]
-pub enum Found {
-    At(u16),
-    Missing,
-    Refused(IndexRefusal),
 }

@@ -14,12 +14,7 @@ fn file_of(report: Report) -> u16
         Report::Atcrbs(a) => a.file,
         Report::Mtd(m) => m.file,
         Report::Rdas(r) => r.file,
-        Report::Search(_) => UNCORRELATED,
-        Report::Strobe(_) => UNCORRELATED,
-        Report::Map(_) => UNCORRELATED,
-        Report::Status(_) => UNCORRELATED,
-        Report::Rtqc(_) => UNCORRELATED,
-        Report::Dabs(_) => UNCORRELATED,
+        _ => UNCORRELATED,
     }
 }
 
@@ -28,8 +23,7 @@ fn number_in(what: What) -> u16
 {
     match what {
         What::Accepted(report) => file_of(report),
-        What::Refused(_) => UNCORRELATED,
-        What::End => UNCORRELATED,
+        What::Refused(_) | What::End => UNCORRELATED,
     }
 }
 
@@ -37,23 +31,18 @@ fn kind_in(what: What) -> u16
     ensures { result ≡ kind_in what }
 {
     match what {
-        What::Accepted(report) => u8::from(kinds::kind_of(report)) as u16,
-        What::Refused(_) => 0,
-        What::End => 0,
+        What::Accepted(report) => u16::from(u8::from(kinds::kind_of(report))),
+        What::Refused(_) | What::End => 0,
     }
 }
 
 pub fn entry_of(o: Outcome, scan: u32) -> Entry
     ensures { result ≡ entry_of o scan }
 {
-    let what = o.what;
-    let number = number_in(what);
-    let kind = kind_in(what);
-    let place = o.first;
     Entry {
-        number,
-        kind,
+        number: number_in(o.what),
+        kind: kind_in(o.what),
         scan,
-        place,
+        place: o.first,
     }
 }

@@ -1,10 +1,9 @@
 -- What each call of the index answers, and what the table then holds, from what the crate `index` answers. Definitions only.
-use Rattle.std.specs.Prelude.{ℕ, ◌+◌, ◌*◌, cond, List, ◌≡◌, ltb}
+use Rattle.std.specs.Prelude.{ℕ, ◌+◌, ◌*◌, cond, List, ◌≡◌, ltb, Option, Some, None, Result, Ok, Err}
 use Rattle.index.specs.declared.Entry.{Entry}
 use Rattle.index.specs.declared.Indexed.{Indexed}
 use Rattle.index.specs.declared.Indexed.TheVariants as I
-use Rattle.index.specs.declared.Found.{Found}
-use Rattle.index.specs.declared.Found.TheVariants as F
+use Rattle.index.specs.declared.IndexRefusal.{IndexRefusal}
 use Rattle.index.specs.Numbers.{index_number}
 use Rattle.index.specs.Entries.{uncorrelated, entry_of}
 use Rattle.index.specs.Indexing.{indexed, left_as}
@@ -38,16 +37,16 @@ step = 256
 abbrev pub done_at : ℕ → ℕ → ℕ
 done_at done entry = done + step * entry
 
-abbrev pub answer_number : Indexed → ℕ
-answer_number (I.Entered i) = done_at entered_done i
-answer_number (I.Replaced i) = done_at replaced_done i
-answer_number I.Left = left_done
-answer_number (I.Refused q) = index_number q
+abbrev pub answer_number : Result Indexed IndexRefusal → ℕ
+answer_number (Ok (I.Entered i)) = done_at entered_done i
+answer_number (Ok (I.Replaced i)) = done_at replaced_done i
+answer_number (Ok I.Left) = left_done
+answer_number (Err q) = index_number q
 
-abbrev pub found_number : Found → ℕ
-found_number (F.At i) = done_at found_done i
-found_number F.Missing = missing_done
-found_number (F.Refused q) = index_number q
+abbrev pub found_number : Result (Option ℕ) IndexRefusal → ℕ
+found_number (Ok (Some i)) = done_at found_done i
+found_number (Ok None) = missing_done
+found_number (Err q) = index_number q
 
 -- ---- the calls
 

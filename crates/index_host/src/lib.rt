@@ -6,12 +6,14 @@
 ghost use Rattle.std.specs.Prelude.{◌≡◌};
 ghost use Rattle.index.specs.Indexing.{found};
 ghost use Rattle.reports.specs.Altitude.{chosen};
+ghost use Rattle.index.specs.Numbers.{index_number};
 ghost use Rattle.index_host.specs.Calls.{answer_number, found_number, file_number, entry_at, Enters};
 
-use index::{Entry, Found, Indexed, entering, seen};
+use index::{Entry, IndexRefusal, Indexed, entering, seen};
 use reports::altitude::Form;
 
 // ---- an answer as one number: what was done, and behind it, counted in 256, the entry where it was done. A refusal is its number.
+// What was done stays a number: the C interface needs it (include/siamrung.h has these numbers).
 
 const ENTERED: u32 = 123;
 
@@ -25,24 +27,30 @@ const MISSING: u32 = 127;
 
 const STEP: u32 = 256;
 
-fn answer_number(answer: Indexed) -> u32
+fn refused(why: IndexRefusal) -> u32
+    ensures { result ≡ index_number why }
+{
+    u32::from(u8::from(why))
+}
+
+fn answer_number(answer: Result<Indexed, IndexRefusal>) -> u32
     ensures { result ≡ answer_number answer }
 {
     match answer {
-        Indexed::Entered(i) => ENTERED + STEP * (i as u32),
-        Indexed::Replaced(i) => REPLACED + STEP * (i as u32),
-        Indexed::Left => LEFT,
-        Indexed::Refused(why) => why.number() as u32,
+        Ok(Indexed::Entered(i)) => ENTERED + STEP * u32::from(i),
+        Ok(Indexed::Replaced(i)) => REPLACED + STEP * u32::from(i),
+        Ok(Indexed::Left) => LEFT,
+        Err(why) => refused(why),
     }
 }
 
-fn found_number(answer: Found) -> u32
+fn found_number(answer: Result<Option<u16>, IndexRefusal>) -> u32
     ensures { result ≡ found_number answer }
 {
     match answer {
-        Found::At(i) => FOUND + STEP * (i as u32),
-        Found::Missing => MISSING,
-        Found::Refused(why) => why.number() as u32,
+        Ok(Some(i)) => FOUND + STEP * u32::from(i),
+        Ok(None) => MISSING,
+        Err(why) => refused(why),
     }
 }
 
@@ -53,8 +61,7 @@ fn brought(bytes: &[u8], place: usize, form: u32, link: u32, scan: u32) -> Entry
     ensures { result ≡ entry_at (chosen form) link bytes.now place scan }
 {
     let received = line_reader::bytes::read(bytes, place, Form::from(form), link);
-    let o = received.outcome;
-    seen::entry_of(o, scan)
+    seen::entry_of(received.outcome, scan)
 }
 
 #[unsafe(no_mangle)]
@@ -69,26 +76,21 @@ pub extern "C" fn siamrung_index_enter(
     ensures { Enters (chosen form) link table.old bytes.now place scan result table.new }
 {
     let e = brought(bytes, place, form, link, scan);
-    let answer = entering::enter(table, e);
-    answer_number(answer)
+    answer_number(entering::enter(table, e))
 }
 
 // ---- finding
 
-// An entry's number has sixteen bits.
-const NUMBERS: u32 = 65536;
-
+// An entry's number has sixteen bits. A greater one is in no entry, as 0 is in none.
 fn file_number(number: u32) -> u16
     ensures { result ≡ file_number number }
 {
-    if number < NUMBERS { number as u16 } else { 0 }
+    u16::try_from(number).unwrap_or(0)
 }
 
 #[unsafe(no_mangle)]
 pub extern "C" fn siamrung_index_find(table: &[Entry], number: u32) -> u32
     ensures { result ≡ found_number (found table.now (file_number number)) }
 {
-    let x = file_number(number);
-    let answer = entering::find(table, x);
-    found_number(answer)
+    found_number(entering::find(table, file_number(number)))
 }

@@ -39,10 +39,9 @@ use Rattle.reports.proofs.Tests.{by_cond}
 use Rattle.lines.specs.Line.{placed}
 use Rattle.lines.specs.Stretches.{Run}
 use Rattle.lines.specs.Claims.{outcome_of_run}
+use Rattle.std.specs.Prelude.{Option, Some, None, is_none}
 use Rattle.manners.specs.declared.Rule.{Rule}
 use Rattle.manners.specs.declared.Rule.TheVariants as R
-use Rattle.manners.specs.declared.Found.{Found}
-use Rattle.manners.specs.declared.Found.TheVariants as F
 use Rattle.manners.specs.Numbers.{rule_number}
 use Rattle.manners.specs.Rules.{is_substitution, broken, is_zero, is_sea_level, atcrbs_breaks, dabs_breaks, map_breaks, breaks}
 use Rattle.manners.specs.Breaches.{breach, rules, passing, broken_by, breaches_of, rule_rows, found_of, list_of, brought_by}
@@ -355,26 +354,26 @@ no-radar (H.Cd c n) m e = differ (sym e)
 no-radar (H.Mtd c n) m e = differ (sym e)
 no-radar (H.Rdas c n) m e = differ (sym e)
 
-found_atcrbs : (a : Atcrbs) (rule : Rule) → atcrbs_breaks a rule ≡ true → found_of (T.Atcrbs a) ≡ F.Breach rule
+found_atcrbs : (a : Atcrbs) (rule : Rule) → atcrbs_breaks a rule ≡ true → found_of (T.Atcrbs a) ≡ Some rule
 found_atcrbs a R.SubstitutionMode3a e = picked _ _ e
 found_atcrbs a R.RelayWithoutModeC e = differ (sym e)
 found_atcrbs a R.ModeCAllZeros e = passed _ _ (no-radar a.height a.mode3a e) ∙ picked _ _ e
 found_atcrbs a R.MapStopBelowStart e = differ (sym e)
 
-found_dabs : (d : Dabs) (rule : Rule) → dabs_breaks d rule ≡ true → found_of (T.Dabs d) ≡ F.Breach rule
+found_dabs : (d : Dabs) (rule : Rule) → dabs_breaks d rule ≡ true → found_of (T.Dabs d) ≡ Some rule
 found_dabs d R.SubstitutionMode3a e = differ (sym e)
 found_dabs d R.RelayWithoutModeC e = picked _ _ e
 found_dabs d R.ModeCAllZeros e = differ (sym e)
 found_dabs d R.MapStopBelowStart e = differ (sym e)
 
-found_map : (m : Map) (rule : Rule) → map_breaks m rule ≡ true → found_of (T.Map m) ≡ F.Breach rule
+found_map : (m : Map) (rule : Rule) → map_breaks m rule ≡ true → found_of (T.Map m) ≡ Some rule
 found_map m R.SubstitutionMode3a e = differ (sym e)
 found_map m R.RelayWithoutModeC e = differ (sym e)
 found_map m R.ModeCAllZeros e = differ (sym e)
 found_map m R.MapStopBelowStart e = picked _ _ e
 
 -- a rule that a record breaks is the one that is found
-found_told : (r : Report) (rule : Rule) → breaks r rule ≡ true → found_of r ≡ F.Breach rule
+found_told : (r : Report) (rule : Rule) → breaks r rule ≡ true → found_of r ≡ Some rule
 found_told (T.Atcrbs a) rule e = found_atcrbs a rule e
 found_told (T.Dabs d) rule e = found_dabs d rule e
 found_told (T.Map m) rule e = found_map m rule e
@@ -386,25 +385,21 @@ found_told (T.Mtd m) rule e = differ (sym e)
 found_told (T.Rdas r) rule e = differ (sym e)
 
 -- the rule of a breach; any where there is none
-abbrev rule_in : Found → Rule
-rule_in F.NoBreach = R.SubstitutionMode3a
-rule_in (F.Breach rule) = rule
+abbrev rule_in : Option Rule → Rule
+rule_in None = R.SubstitutionMode3a
+rule_in (Some rule) = rule
 
 pub at_most_one_of_record : AtMostOneOfRecord
 at_most_one_of_record r a b e f = ap rule_in (sym (found_told r a e) ∙ found_told r b f)
 
 -- and what is found is a rule that the record breaks
-abbrev is_none : Found → Bool
-is_none F.NoBreach = true
-is_none (F.Breach rule) = false
-
-found_breaks : (r : Report) (rule : Rule) → found_of r ≡ F.Breach rule → breaks r rule ≡ true
-found_breaks r rule e = by_rows ((law.refused_exactly Found is_none (rule_rows r) F.NoBreach (F.Breach rule) refl refl).0 e)
+found_breaks : (r : Report) (rule : Rule) → found_of r ≡ Some rule → breaks r rule ≡ true
+found_breaks r rule e = by_rows ((law.refused_exactly (Option Rule) is_none (rule_rows r) None (Some rule) refl refl).0 e)
   where
-    held : (a : Rule) → (breaks r a ≡ true) × (F.Breach a ≡ F.Breach rule) → breaks r rule ≡ true
+    held : (a : Rule) → (breaks r a ≡ true) × (◌≡◌ {A = Option Rule} (Some a) (Some rule)) → breaks r rule ≡ true
     held a h = subst (λ (x : Rule). breaks r x ≡ true) (ap rule_in h.1) h.0
 
-    by_rows : FirstIs (rule_rows r) (F.Breach rule) → breaks r rule ≡ true
+    by_rows : FirstIs (rule_rows r) (Some rule) → breaks r rule ≡ true
     by_rows = ⊎_elim (held R.SubstitutionMode3a)
         (λ k. ⊎_elim (held R.RelayWithoutModeC) (λ l. ⊎_elim (held R.ModeCAllZeros) (λ m. ⊎_elim (held R.MapStopBelowStart) (λ n. absurd n.1) m.1) l.1) k.1)
 
@@ -412,7 +407,7 @@ found_breaks r rule e = by_rows ((law.refused_exactly Found is_none (rule_rows r
 
 -- a record's breaches, listed at a place, are the one that is found
 module _ (p : ℕ) where
-  one_listed : (b : Bool) (rule : Rule) → map (breach p) (cond b (rule ∷ []) []) ≡ list_of p (cond b (F.Breach rule) F.NoBreach)
+  one_listed : (b : Bool) (rule : Rule) → map (breach p) (cond b (rule ∷ []) []) ≡ list_of p (cond b (Some rule) None)
   one_listed true rule = refl
   one_listed false rule = refl
 

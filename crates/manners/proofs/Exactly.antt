@@ -45,8 +45,7 @@ use Rattle.lines.proofs.Outcomes.{few_runs}
 use Rattle.lines.proofs.Parts as parts
 use Rattle.manners.specs.declared.Rule.{Rule}
 use Rattle.manners.specs.declared.Rule.TheVariants as R
-use Rattle.manners.specs.declared.Found.{Found}
-use Rattle.manners.specs.declared.Found.TheVariants as F
+use Rattle.std.specs.Prelude.{Option, Some, None}
 use Rattle.manners.specs.Numbers.{rule_number}
 use Rattle.manners.specs.Rules.{is_substitution, broken, breaks}
 use Rattle.manners.specs.Breaches.{Breach, breach, rules, passing, broken_by, breaches_of, breaches, numbers_of, manners_link, found_in, list_of, brought_by}
@@ -488,15 +487,15 @@ abbrev kept : Bool → Bool → List Breach → List Breach → List Breach
 kept s t new rest = cond s (new ++ rest) (cond t rest (new ++ rest))
 
 module _ (lo hi : ℕ) where
-  one_outside : (p : ℕ) (x : Found) (rest : List Breach) → outside lo hi (list_of p x ++ rest) ≡ kept (ltb p lo) (ltb p hi) (list_of p x) (outside lo hi rest)
+  one_outside : (p : ℕ) (x : Option Rule) (rest : List Breach) → outside lo hi (list_of p x ++ rest) ≡ kept (ltb p lo) (ltb p hi) (list_of p x) (outside lo hi rest)
   unfolding outside
-  one_outside p F.NoBreach rest = either (ltb p lo) (ltb p hi)
+  one_outside p None rest = either (ltb p lo) (ltb p hi)
     where
       either : (s t : Bool) → outside lo hi rest ≡ kept s t [] (outside lo hi rest)
       either true t = refl
       either false true = refl
       either false false = refl
-  one_outside p (F.Breach rule) rest = refl
+  one_outside p (Some rule) rest = refl
 
   brought_kept : (s t : Bool) (o : Outcome) (os : List Outcome) → gathered brought_by (cond s (o ∷ os) (cond t os (o ∷ os))) ≡ kept s t (brought_by o) (gathered brought_by os)
   unfolding gathered

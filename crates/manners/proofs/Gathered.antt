@@ -1,7 +1,8 @@
 -- The breaches from a place on, outcome by outcome, as the loops gather them. Assumes nothing.
-use Prim.Native.Nat.{ℕ, ◌+◌, ◌%◌, ◌≤◌, ◌<◌}
+use Prim.Native.Nat.{ℕ, ◌+◌, ◌≤◌, ◌<◌}
 use mathlib.Core.Path.{◌≡◌, refl, ap, sym, ◌∙◌, subst}
 use mathlib.Core.List.{List, [], ◌++◌}
+use mathlib.Core.Bool.{cond}
 use mathlib.Core.Logic.{⊎_elim}
 use native.Mathlib.Omega.{arith}
 use lib.ListN.{length, length-append}
@@ -9,23 +10,24 @@ use Rattle.reports.specs.declared.altitude.Form.{Form}
 use Rattle.reports.specs.Altitude.{form_of}
 use Rattle.reports.specs.Runs.{read_run}
 use Rattle.lines.specs.declared.Outcome.{Outcome}
-use Rattle.reports.specs.Records.{report_of}
 use Rattle.lines.specs.Line.{most, read_by}
-use Rattle.lines.specs.Bytes.{most_bytes, words_in, read_bytes}
 use Rattle.lines.specs.Stretches.{gathered}
 use Rattle.lines.specs.Claims.{Answer}
-use Rattle.lines.proofs.ByteWords.{words_length, bytes_as_words}
 use Rattle.lines.proofs.Walked.{next_run, none_left, step_by_step}
-use Rattle.manners.specs.declared.Found.{Found}
-use Rattle.manners.specs.declared.Found.TheVariants as F
-use Rattle.manners.specs.Breaches.{Breach, breaches_of, breaches, found_in, brought_by}
+use Rattle.std.specs.Prelude.{Option, Some, None, is_some}
+use Rattle.manners.specs.declared.Rule.{Rule}
+use Rattle.manners.specs.Breaches.{Breach, breaches_of, breaches, found_in, list_of, brought_by}
 use Rattle.manners.specs.Steps.{count_of, breaches_at}
 use Rattle.manners.proofs.Stored.{count_listed}
 use Rattle.manners.proofs.Broken.{brought}
 
-pub one_at_most : (f : Found) → count_of f ≤ 1
-one_at_most F.NoBreach = omega arith
-one_at_most (F.Breach rule) = omega arith
+one_at_most : (x : Option Rule) → count_of x ≤ 1
+one_at_most None = omega arith
+one_at_most (Some rule) = omega arith
+
+pub one_for_some : (x : Option Rule) → count_of x ≡ cond (is_some x) 1 0
+one_for_some None = refl
+one_for_some (Some rule) = refl
 
 abbrev answer : Form → Answer
 answer f = read_run (form_of f)
@@ -58,13 +60,6 @@ step f line place o m h e =
     brings : breaches_at (form_of f) line place ≡ brought_by (read_by (answer f) line place) ++ breaches_at (form_of f) line (read_by (answer f) line place).after
     brings = step_by_step (answer f) line m Breach (breaches_of (form_of f)) brought_by refl (brought f) place h
 
--- the same in bytes, few enough and even in number: the place is one of the words that they hold
-pub byte_step : (f : Form) (bytes : List ℕ) (place : ℕ) (o : Outcome) → length bytes ≤ most_bytes → length bytes % 2 ≡ 0 → place ≤ length (words_in bytes)
-    → o ≡ read_bytes (form_of f) bytes place → Step f (words_in bytes) place o
-byte_step f bytes place o m even h e =
-    let n = words_length bytes in
-    step f (words_in bytes) place o (omega arith) h (e ∙ (bytes_as_words (form_of f) bytes place (report_of (form_of f) []) m even).0)
-
 -- behind the last word none is left
 none_behind : (f : Form) (line : List ℕ) → breaches_at (form_of f) line (length line) ≡ []
 unfolding gathered
@@ -86,11 +81,10 @@ pub record Counted (f : Form) (line : List ℕ) (place k : ℕ) : Type 0 where
 pub counted_none : (f : Form) (line : List ℕ) → Counted f line 0 0
 counted_none f line = record { inside = omega arith; few = omega arith; together = omega arith }
 
-pub counted_more : {f : Form} {line : List ℕ} {place k j : ℕ} {o : Outcome} {x : Found} → Counted f line place k → place < length line → Step f line place o
-    → x ≡ found_in o.what → j ≡ count_of x → Counted f line o.after (k + j)
-counted_more {f} {line} {place} {k} {j} {o} {x} c h s found count =
+pub counted_more : {f : Form} {line : List ℕ} {place k j : ℕ} {o : Outcome} → Counted f line place k → place < length line → Step f line place o
+    → count_of (found_in o.what) ≡ j → Counted f line o.after (k + j)
+counted_more {f} {line} {place} {k} {j} {o} c h s is =
     let few = c.few in
-    let is = count ∙ ap count_of found in
     let one = one_at_most (found_in o.what) in
     let on = s.onward h in
     let n = ap length s.brings ∙ length-append (brought_by o) (breaches_at (form_of f) line o.after) in
@@ -104,11 +98,11 @@ counted_all {f} {line} {place} {k} c h =
     let t = c.together in
     omega arith
 
--- what an outcome brings is among those that are left
-pub among_left : {f : Form} {line : List ℕ} {place : ℕ} {o : Outcome} {x : Found} → Step f line place o → x ≡ found_in o.what
-    → count_of x ≤ length (breaches_at (form_of f) line place)
-among_left {f} {line} {place} {o} {x} s found =
-    let n = ap length s.brings ∙ length-append (brought_by o) (breaches_at (form_of f) line o.after) in
-    let b = count_listed o.first (found_in o.what) in
-    let e = ap count_of found in
-    omega arith
+-- what an outcome brings is the next of those that are left
+pub next_is : {f : Form} {line : List ℕ} {place : ℕ} {o : Outcome} {x : Option Rule} → Step f line place o → found_in o.what ≡ x
+    → breaches_at (form_of f) line place ≡ list_of o.first x ++ breaches_at (form_of f) line o.after
+next_is {f} {line} {place} {o} s e = s.brings ∙ ap (λ (y : Option Rule). list_of o.first y ++ breaches_at (form_of f) line o.after) e
+
+pub one_left : {f : Form} {line : List ℕ} {place : ℕ} {o : Outcome} {rule : Rule} → Step f line place o → found_in o.what ≡ Some rule
+    → 1 ≤ length (breaches_at (form_of f) line place)
+one_left {f} {line} {place} {o} s e = let n = ap length (next_is s e) in omega arith

@@ -1,5 +1,5 @@
 -- The breaches of a line (document 02, Ticket 6), over its runs, their words and bits; and the same from what the reader answers. Definitions only.
-use Rattle.std.specs.Prelude.{ℕ, Bool, cond, List, [], ◌∷◌, map}
+use Rattle.std.specs.Prelude.{ℕ, Bool, cond, List, [], ◌∷◌, map, Option, Some, None}
 use Rattle.rows.specs.Rows.{Row, row, first_of}
 use Rattle.reports.specs.declared.Report.{Report}
 use Rattle.reports.specs.Altitude.{AltitudeForm}
@@ -10,8 +10,6 @@ use Rattle.lines.specs.declared.Outcome.{Outcome}
 use Rattle.lines.specs.Stretches.{Run, runs, gathered}
 use Rattle.manners.specs.declared.Rule.{Rule}
 use Rattle.manners.specs.declared.Rule.TheVariants as R
-use Rattle.manners.specs.declared.Found.{Found}
-use Rattle.manners.specs.declared.Found.TheVariants as F
 use Rattle.manners.specs.Numbers.{rule_number}
 use Rattle.manners.specs.Rules.{broken, breaks}
 
@@ -58,21 +56,21 @@ abbrev pub manners_link : ℕ
 manners_link = 0
 
 -- the first rule that a record breaks; AtMostOneOfRecord (Claims.antt) says that it breaks no other
-abbrev pub rule_rows : Report → List (Row Found)
-rule_rows r = map (λ rule. row (breaks r rule) (F.Breach rule)) rules
+abbrev pub rule_rows : Report → List (Row (Option Rule))
+rule_rows r = map (λ rule. row (breaks r rule) (Some rule)) rules
 
-abbrev pub found_of : Report → Found
-found_of r = first_of (rule_rows r) F.NoBreach
+abbrev pub found_of : Report → Option Rule
+found_of r = first_of (rule_rows r) None
 
 -- a refused run, a line that is not taken and the end have no breach
-abbrev pub found_in : What → Found
+abbrev pub found_in : What → Option Rule
 found_in (W.Accepted r) = found_of r
-found_in (W.Refused q) = F.NoBreach
-found_in W.End = F.NoBreach
+found_in (W.Refused q) = None
+found_in W.End = None
 
-abbrev pub list_of : ℕ → Found → List Breach
-list_of place F.NoBreach = []
-list_of place (F.Breach rule) = breach place rule ∷ []
+abbrev pub list_of : ℕ → Option Rule → List Breach
+list_of place None = []
+list_of place (Some rule) = breach place rule ∷ []
 
 -- what an outcome brings to the list
 abbrev pub brought_by : Outcome → List Breach

@@ -1,5 +1,5 @@
 -- What is claimed of manners (document 02, Ticket 6). Statements only, with what they need to be said. Proved in proofs/: the file is named at each.
-use Rattle.std.specs.Prelude.{ℕ, ◌+◌, ◌*◌, ◌/◌, ◌%◌, ◌≤◌, Bool, true, false, cond, List, [], ◌∷◌, ◌++◌, map, ◌↔◌, ◌⊎◌, ◌≡◌, ltb, length, take, drop, Ok}
+use Rattle.std.specs.Prelude.{ℕ, ◌+◌, ◌*◌, ◌/◌, ◌%◌, ◌≤◌, Bool, true, false, cond, List, [], ◌∷◌, ◌++◌, map, ◌↔◌, ◌⊎◌, ◌≡◌, ltb, length, take, drop, Some, Result, Ok, Err}
 use Rattle.rows.specs.Claims.{FirstIs}
 use Rattle.words.specs.Word.{idle}
 use Rattle.reports.specs.declared.Report.{Report}
@@ -14,9 +14,7 @@ use Rattle.lines.specs.Links.{last_link, received_on, read_on, outcomes_on}
 use Rattle.lines.specs.Stretches.{Run, runs, gathered}
 use Rattle.lines.specs.Claims.{EndsIdle, BeginsIdle}
 use Rattle.manners.specs.declared.Rule.{Rule}
-use Rattle.manners.specs.declared.Found.TheVariants as F
-use Rattle.manners.specs.declared.Listed.{Listed}
-use Rattle.manners.specs.declared.Listed.TheVariants as L
+use Rattle.manners.specs.declared.NotListed.{NotListed}
 use Rattle.manners.specs.Numbers.{rule_number}
 use Rattle.manners.specs.Rules.{broken, breaks}
 use Rattle.manners.specs.Breaches.{Breach, breach, rules, breaches_of, breaches, numbers_of, found_of, manners_link, brought_by}
@@ -39,7 +37,7 @@ AtMostOneOfRecord = (r : Report) (a b : Rule) → breaks r a ≡ true → breaks
 abbrev pub FoundExactly : Type 0
 FoundExactly =
     (f : Form) (ws : List ℕ) (r : Report) → read_run (form_of f) ws ≡ Ok r → (rule : Rule) →
-    (found_of r ≡ F.Breach rule) ↔ (broken rule ws ≡ true)
+    (found_of r ≡ Some rule) ↔ (broken rule ws ≡ true)
 
 -- ---- the list (proofs/Exactly.antt)
 
@@ -94,9 +92,9 @@ pub record NoMore : Type 0 where
   pub in_words : (form : AltitudeForm) (line : List ℕ) → length (breaches form line) ≤ most_in (length line)
   pub in_any : (form : AltitudeForm) (line : List ℕ) → length line ≤ most → length (breaches form line) ≤ most_breaches
   pub enough : (form : AltitudeForm) (line : List ℕ) (room : ℕ) → length line ≤ most → most_breaches * 2 ≤ room
-      → listed form line room ≡ L.Breaches (length (breaches form line))
+      → listed form line room ≡ Ok (length (breaches form line))
   pub enough_bytes : (form : AltitudeForm) (bytes : List ℕ) (room : ℕ) → length bytes ≤ most_bytes → length bytes % 2 ≡ 0 → most_breaches * 4 ≤ room
-      → listed_bytes form bytes room ≡ L.Breaches (length (breaches form (words_in bytes)))
+      → listed_bytes form bytes room ≡ Ok (length (breaches form (words_in bytes)))
 
 -- worked runs (proofs/Worked.antt). At 1 an ATCRBS-CD report with bit 5 set. At 9 a relayed DABS report with bit 6 zero, and at 17 a DABS-CD report of
 -- that kind. At 25 a Map with its stop below its start, refused for an even word. At 31 an ATCRBS report with bit 6 one and bits 79-90 all zeros, and at
@@ -144,32 +142,31 @@ Replaced =
 -- ---- the calls (proofs/Answered.antt)
 
 -- all breaches are in the list
-abbrev pub is_listed : Listed → Bool
-is_listed (L.Breaches n) = true
-is_listed (L.LineRefused q) = false
-is_listed (L.Refused q n) = false
+abbrev pub is_listed : Result ℕ NotListed → Bool
+is_listed (Ok n) = true
+is_listed (Err q) = false
 
 -- each of 2, 14 and 52 is given exactly where its row is the first that holds
 abbrev pub ListRefuses : Type 0
 ListRefuses =
-    (form : AltitudeForm) (line : List ℕ) (room : ℕ) (a : Listed) → is_listed a ≡ false →
+    (form : AltitudeForm) (line : List ℕ) (room : ℕ) (a : Result ℕ NotListed) → is_listed a ≡ false →
     (listed form line room ≡ a) ↔ FirstIs (list_rows form line room) a
 
 abbrev pub ByteListRefuses : Type 0
 ByteListRefuses =
-    (form : AltitudeForm) (bytes : List ℕ) (room : ℕ) (a : Listed) → is_listed a ≡ false →
+    (form : AltitudeForm) (bytes : List ℕ) (room : ℕ) (a : Result ℕ NotListed) → is_listed a ≡ false →
     (listed_bytes form bytes room ≡ a) ↔ FirstIs (byte_list_rows form bytes room) a
 
 -- how many breaches: exactly where the line is short enough, and the list has two numbers for each, or four bytes
 abbrev pub ListedExactly : Type 0
 ListedExactly =
     (form : AltitudeForm) (line : List ℕ) (room n : ℕ) →
-    (listed form line room ≡ L.Breaches n) ↔ ((length line ≤ most) × (length (breaches form line) * 2 ≤ room) × (length (breaches form line) ≡ n))
+    (listed form line room ≡ Ok n) ↔ ((length line ≤ most) × (length (breaches form line) * 2 ≤ room) × (length (breaches form line) ≡ n))
 
 abbrev pub ByteListedExactly : Type 0
 ByteListedExactly =
     (form : AltitudeForm) (bytes : List ℕ) (room n : ℕ) →
-    (listed_bytes form bytes room ≡ L.Breaches n)
+    (listed_bytes form bytes room ≡ Ok n)
     ↔ ((length bytes ≤ most_bytes)
     × (length bytes % 2 ≡ 0)
     × (length (breaches form (words_in bytes)) * 4 ≤ room)
@@ -177,8 +174,8 @@ ByteListedExactly =
 
 -- a refused call leaves the list as it was
 pub record RefusedStays : Type 0 where
-  pub words : (form : AltitudeForm) (line list : List ℕ) (a : Listed) (exit : List ℕ) → Lists form line list a exit → is_listed a ≡ false → exit ≡ list
-  pub bytes : (form : AltitudeForm) (bytes list : List ℕ) (a : Listed) (exit : List ℕ) → ListsBytes form bytes list a exit → is_listed a ≡ false
+  pub words : (form : AltitudeForm) (line list : List ℕ) (a : Result ℕ NotListed) (exit : List ℕ) → Lists form line list a exit → is_listed a ≡ false → exit ≡ list
+  pub bytes : (form : AltitudeForm) (bytes list : List ℕ) (a : Result ℕ NotListed) (exit : List ℕ) → ListsBytes form bytes list a exit → is_listed a ≡ false
       → exit ≡ list
 
 -- "What stands behind the list stays": the front of the list is the numbers of all breaches, two a breach, or their bytes, four a breach. The rest of it
@@ -189,9 +186,9 @@ pub record Fills (numbers : List ℕ) (front : ℕ) (list exit : List ℕ) : Typ
   pub long : length exit ≡ length list
 
 pub record BehindStays : Type 0 where
-  pub words : (form : AltitudeForm) (line list : List ℕ) (n : ℕ) (exit : List ℕ) → Lists form line list (L.Breaches n) exit
+  pub words : (form : AltitudeForm) (line list : List ℕ) (n : ℕ) (exit : List ℕ) → Lists form line list (Ok n) exit
       → Fills (numbers_of (breaches form line)) (n * 2) list exit
-  pub bytes : (form : AltitudeForm) (bytes list : List ℕ) (n : ℕ) (exit : List ℕ) → ListsBytes form bytes list (L.Breaches n) exit
+  pub bytes : (form : AltitudeForm) (bytes list : List ℕ) (n : ℕ) (exit : List ℕ) → ListsBytes form bytes list (Ok n) exit
       → Fills (bytes_of (numbers_of (breaches form (words_in bytes)))) (n * 4) list exit
 
 -- bytes that are few enough and even in number are answered as the words that they hold, with half as many numbers of room as bytes

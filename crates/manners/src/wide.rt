@@ -1,110 +1,52 @@
 // The manners of a line that is lent as 16-bit numbers, a word each. The list has two such numbers a breach.
-// Relies on line_reader for the outcome at a place, rules for the rule that a report breaks. The line is gone through once if the list has room for as
-// many breaches as the line can have, or if there is none; else once to count and once to write.
-ghost use Rattle.std.specs.Prelude.{◌≡◌, [], ◌∷◌, ◌++◌, ◌+◌, ◌*◌, ◌≤◌, ◌<◌, length, drop};
+// Relies on line_reader for the outcome at a place, listing for the list.
+ghost use Rattle.std.specs.Prelude.{◌≡◌};
 ghost use Rattle.reports.specs.Altitude.{form_of};
-ghost use Rattle.lines.specs.Line.{most};
-ghost use Rattle.lines.specs.Links.{read_on};
-ghost use Rattle.lines.specs.Claims.{put as put_at};
-ghost use Rattle.manners.specs.Breaches.{manners_link, breaches, list_of, numbers_of};
+ghost use Rattle.manners.specs.Breaches.{numbers_of};
 ghost use Rattle.manners.specs.Listing.{Lists};
-ghost use Rattle.manners.specs.Steps.{count_of};
+ghost use Rattle.manners.specs.Laws.{wide_laws};
 
-use crate::{Found, LINK, Listed, MannersRefusal, most_in, rules};
+use crate::lent::{Lent, Line};
+use crate::{LINK, NotListed, Rule};
 use line_reader::wide;
 use lines::{MOST, Outcome};
 use refusals::LineRefusal;
 use reports::altitude::Form;
 
-// The outcome at a place.
-fn outcome_at(line: &[u16], place: usize, form: Form) -> Outcome
-    ensures { result ≡ (read_on (form_of form) manners_link line.now place).outcome }
-{
-    let received = wide::read(line, place, form, LINK);
-    received.outcome
-}
+impl Lent for u16 {
+    ghost words = { λ line. line };
 
-// How many breaches the line has.
-fn count(line: &[u16], form: Form) -> usize
-    requires { length line.now ≤ most }
-    ensures { result ≡ length (breaches (form_of form) line.now) }
-{
-    let mut place: usize = 0;
-    let mut k: usize = 0;
-    while place < line.len() {
-        let o = outcome_at(line, place, form);
-        let what = o.what;
-        let after = o.after;
-        k += rules::count_of(rules::found_in(what));
-        place = after;
+    ghost held_in = { 1 };
+
+    ghost said = { numbers_of };
+
+    ghost WIDTH = { 2 };
+
+    const WIDTH: usize = 2;
+
+    fn count_words(line: &[u16]) -> usize {
+        line.len()
     }
-    k
-}
 
-// A place and a rule's number, behind the k breaches that stand in the list. Answers how many stand in it then.
-fn put_breach(list: &mut [u16], k: usize, place: usize, number: u16) -> usize
-    requires { ((k + 1) * 2 ≤ length list.old) × (place < 65536) }
-    ensures { (result ≡ k + 1) × (list.new ≡ put_at list.old (k * 2) (place ∷ number ∷ [])) }
-{
-    let at = k * 2;
-    list[at] = (place % 65536) as u16;
-    list[at + 1] = number;
-    k + 1
-}
-
-// What was found at a place, in the same way.
-fn put(list: &mut [u16], k: usize, place: usize, found: Found) -> usize
-    requires { ((k + count_of found) * 2 ≤ length list.old) × (place < 65536) }
-    ensures { (result ≡ k + count_of found) × (list.new ≡ put_at list.old (k * 2) (numbers_of (list_of place found))) }
-{
-    match found {
-        Found::NoBreach => k,
-        Found::Breach(rule) => {
-            let number = rule.number();
-            put_breach(list, k, place, number)
-        }
+    fn outcome_at(line: &[u16], place: usize, form: Form) -> Outcome {
+        wide::read(line, place, form, LINK).outcome
     }
-}
 
-// All breaches of the line into the list, which has room for them. Answers how many there are.
-fn fill(line: &[u16], form: Form, list: &mut [u16]) -> usize
-    requires { (length line.now ≤ most) × (length (breaches (form_of form) line.now) * 2 ≤ length list.old) }
-    ensures { (result ≡ length (breaches (form_of form) line.now))
-        × (list.new ≡ numbers_of (breaches (form_of form) line.now) ++ drop (result * 2) list.old) }
-{
-    let mut place: usize = 0;
-    let mut k: usize = 0;
-    while place < line.len() {
-        let o = outcome_at(line, place, form);
-        let what = o.what;
-        let first = o.first;
-        let after = o.after;
-        let found = rules::found_in(what);
-        k = put(list, k, first, found);
-        place = after;
+    fn put(list: &mut [u16], k: usize, place: usize, rule: Rule) {
+        let at = k * 2;
+        list[at] = place as u16;
+        list[at + 1] = u16::from(rule);
     }
-    k
+
+    ghost laws = { wide_laws };
 }
 
-// The breaches of a line, from the start of the list on; altitudes are read in the form. Where the list has room for as many as the line can have,
-// nothing has to be counted first.
-pub fn list(line: &[u16], form: Form, list: &mut [u16]) -> Listed
+// The breaches of a line, from the start of the list on; altitudes are read in the form.
+pub fn list(line: &[u16], form: Form, list: &mut [u16]) -> Result<usize, NotListed>
     ensures { Lists (form_of form) line.now list.old result list.new }
 {
     if MOST < line.len() {
-        return Listed::LineRefused(LineRefusal::LineTooLong);
+        return Err(NotListed::Line(LineRefusal::LineTooLong));
     }
-    if most_in(line.len()) <= list.len() / 2 {
-        let k = fill(line, form, list);
-        return Listed::Breaches(k);
-    }
-    let all = count(line, form);
-    if list.len() / 2 < all {
-        return Listed::Refused(MannersRefusal::ListTooSmall, all);
-    }
-    if all == 0 {
-        return Listed::Breaches(0);
-    }
-    let k = fill(line, form, list);
-    Listed::Breaches(k)
+    Line { held: line, form }.list(list)
 }

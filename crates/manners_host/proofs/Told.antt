@@ -7,14 +7,15 @@ use native.Mathlib.Omega.{arith}
 use lib.Dec.{eqb, ltb}
 use lib.ListN.{length}
 use borrow.Author.Tests.{ltb-false}
+use Rattle.std.specs.Prelude.{Result, Ok, Err}
 use Rattle.refusals.specs.declared.LineRefusal.{LineRefusal}
 use Rattle.refusals.specs.declared.LineRefusal.TheVariants as L
 use Rattle.refusals.specs.Numbers.{line_number}
 use Rattle.reports.specs.Altitude.{AltitudeForm}
 use Rattle.lines.specs.Bytes.{most_bytes, words_in, bytes_of}
 use Rattle.lines.proofs.ByteWords.{words_length}
-use Rattle.manners.specs.declared.Listed.{Listed}
-use Rattle.manners.specs.declared.Listed.TheVariants as A
+use Rattle.manners.specs.declared.NotListed.{NotListed}
+use Rattle.manners.specs.declared.NotListed.TheVariants as N
 use Rattle.manners.specs.declared.MannersRefusal.{MannersRefusal}
 use Rattle.manners.specs.declared.MannersRefusal.TheVariants as M
 use Rattle.manners.specs.Numbers.{manners_number}
@@ -24,11 +25,11 @@ use Rattle.manners.proofs.Exactly.{no_more}
 use Rattle.manners_host.specs.Calls.{step}
 use Rattle.manners_host.specs.Claims.{TakenApart}
 
-abbrev Few : Listed → Type 0
+abbrev Few : Result ℕ NotListed → Type 0
 Few a = count_in a ≤ most_breaches
 
 by_rows : (a b c : Bool) (n : ℕ) → (a ≡ false → n ≤ most_breaches)
-    → Few (cond a (A.LineRefused L.LineTooLong) (cond b (A.LineRefused L.OddByteCount) (cond c (A.Refused M.ListTooSmall n) (A.Breaches n))))
+    → Few (cond a (Err (N.Line L.LineTooLong)) (cond b (Err (N.Line L.OddByteCount)) (cond c (Err (N.List M.ListTooSmall n)) (Ok n))))
 by_rows true b c n h = omega arith
 by_rows false true c n h = omega arith
 by_rows false false true n h = h refl
@@ -64,6 +65,6 @@ line_under_step L.ValueTooLarge = omega arith
 line_under_step L.NoRoom = omega arith
 
 pub taken_apart : TakenApart
-taken_apart (A.Breaches n) = (omega arith, omega arith)
-taken_apart (A.LineRefused q) = let u = line_under_step q in (omega arith, omega arith)
-taken_apart (A.Refused q n) = let u = under_step q in (omega arith, omega arith)
+taken_apart (Ok n) = (omega arith, omega arith)
+taken_apart (Err (N.Line q)) = let u = line_under_step q in (omega arith, omega arith)
+taken_apart (Err (N.List q n)) = let u = under_step q in (omega arith, omega arith)

@@ -1,10 +1,10 @@
 -- What the call of manners answers, and what the list then holds, from what the crate `manners` answers. Definitions only.
-use Rattle.std.specs.Prelude.{ℕ, ◌+◌, ◌*◌, List, ◌≡◌, length}
+use Rattle.std.specs.Prelude.{ℕ, ◌+◌, ◌*◌, List, ◌≡◌, length, Result, Ok, Err}
 use Rattle.refusals.specs.Numbers.{line_number}
 use Rattle.reports.specs.Altitude.{AltitudeForm}
 use Rattle.lines.specs.Bytes.{words_in, bytes_of}
-use Rattle.manners.specs.declared.Listed.{Listed}
-use Rattle.manners.specs.declared.Listed.TheVariants as L
+use Rattle.manners.specs.declared.NotListed.{NotListed}
+use Rattle.manners.specs.declared.NotListed.TheVariants as N
 use Rattle.manners.specs.Numbers.{manners_number}
 use Rattle.manners.specs.Breaches.{breaches, numbers_of}
 use Rattle.manners.specs.Listing.{left_as, listed_bytes}
@@ -23,10 +23,10 @@ step = 256
 abbrev pub done_with : ℕ → ℕ → ℕ
 done_with done count = done + step * count
 
-abbrev pub answer_number : Listed → ℕ
-answer_number (L.Breaches n) = done_with listed_done n
-answer_number (L.LineRefused q) = line_number q
-answer_number (L.Refused q n) = done_with (manners_number q) n
+abbrev pub answer_number : Result ℕ NotListed → ℕ
+answer_number (Ok n) = done_with listed_done n
+answer_number (Err (N.Line q)) = line_number q
+answer_number (Err (N.List q n)) = done_with (manners_number q) n
 
 -- ---- the call
 

@@ -8,10 +8,11 @@ ghost use Rattle.reports.specs.Altitude.{chosen};
 ghost use Rattle.manners.specs.Listing.{most_breaches, count_in};
 ghost use Rattle.manners_host.specs.Calls.{done_with, answer_number, GivesNumber};
 
-use manners::Listed;
+use manners::NotListed;
 use reports::altitude::Form;
 
 // ---- an answer as one number: what was done, and behind it, counted in 256, how many breaches the line has
+// What was done stays a number: the C interface needs it (include/siamrung.h has it).
 
 const LISTED: u32 = 128;
 
@@ -24,14 +25,14 @@ fn done_with(done: u32, count: usize) -> u32
     done + STEP * (count as u32)
 }
 
-fn answer_number(answer: Listed) -> u32
+fn answer_number(answer: Result<usize, NotListed>) -> u32
     requires { count_in answer ≤ most_breaches }
     ensures { result ≡ answer_number answer }
 {
     match answer {
-        Listed::Breaches(n) => done_with(LISTED, n),
-        Listed::LineRefused(why) => u8::from(why) as u32,
-        Listed::Refused(why, n) => done_with(why.number() as u32, n),
+        Ok(n) => done_with(LISTED, n),
+        Err(NotListed::Line(why)) => u32::from(u8::from(why)),
+        Err(NotListed::List(why, n)) => done_with(u32::from(u8::from(why)), n),
     }
 }
 

@@ -1,29 +1,46 @@
--- `index::entering::enter` meets its contract: what is decided of the array of numbers is what is answered of the table, and the entry is stored where the
--- answer says. Assumes nothing.
-use Rattle.std.proofs.Common.{◌≡◌, ℕ, List, length, take, ap, ◌∙◌, arith}
-use lib.ListN.{set}
-use Rattle.index.specs.Indexing.{indexed, left_as}
-use Rattle.index.specs.declared.Indexed.{Indexed}
-use Rattle.index.specs.Table.{numbers_of}
-use Rattle.index.specs.Steps.{onto, judged}
-use Rattle.index.proofs.Lent.{answered, stores}
+-- `index::entering::enter` meets its contract: each return by what the look found. Assumes nothing.
+use Rattle.std.proofs.Common.{rules, sym, ◌∙◌}
+use Rattle.index.proofs.Lent.{had_some, had_none, refused, left, replaced, entered, full}
 use Rattle.index.proofs.entering.enter.Goals as goal
+
+pub returns-in_err-seen : goal.returns-in_err-seen
+returns-in_err-seen c =
+    let is = (refused c.args.entries.now c.args.e.number (sym c.look.ensures.found ∙ c.in_err-seen.was)).0 in
+    record { answers = rw is (search rules); leaves = rw is }
+
+pub returns-then-e-eq-UNCORRELATED : goal.returns-then-e-eq-UNCORRELATED
+returns-then-e-eq-UNCORRELATED c =
+    let is = left c.args.entries.now c.args.e.number (sym c.look.ensures.found ∙ c.in_ok-seen.was) c.if-e-eq-UNCORRELATED.true in
+    record { answers = sym is; leaves = rw is }
+
+pub returns-in-Some : goal.returns-in-Some
+returns-in-Some c =
+    let is = replaced c.args.entries.now c.args.e.number (sym c.look.ensures.found ∙ c.in_ok-seen.was) c.if-e-eq-UNCORRELATED.false c.in-Some.is in
+    record { answers = sym is; leaves = rw is }
+
+pub returns-in_err-i : goal.returns-in_err-i
+returns-in_err-i c =
+    let none = had_none _ c.in_ok-seen.seen.free c.in_err-i.ensures.value in
+    let is =
+    full
+    c.args.entries.now
+    c.args.e.number
+    (sym c.look.ensures.found ∙ c.in_ok-seen.was)
+    c.if-e-eq-UNCORRELATED.false
+    c.in_default.is
+    none.0
+    in
+    record { answers = rw is (search rules); leaves = rw is }
 
 pub returns : goal.returns
 returns c =
-    let ys = c.args.entries.now in
-    let e = c.args.e in
-    let is : c.judge_enter-answer.result ≡ indexed ys e.number =
-    c.judge_enter-answer.ensures
-    ∙ ap (λ (ns : List ℕ). judged ns (length ys) e.number) c.numbers-ns.ensures
-    ∙ ap (λ (n : ℕ). judged (onto (numbers_of (take n ys)) c.no_numbers-none.result) (length ys) e.number) c.bounded-n.ensures
-    ∙ rw c.no_numbers-none.ensures (answered ys e.number)
+    let is =
+    entered
+    c.args.entries.now
+    c.args.e.number
+    (sym c.look.ensures.found ∙ c.in_ok-seen.was)
+    c.if-e-eq-UNCORRELATED.false
+    c.in_default.is
+    (had_some _ c.in_ok-seen.seen.free c.in_ok-i.ensures.value)
     in
-    record {
-      answers = is;
-      leaves =
-          c.put.ensures
-          ∙ ap (λ (i : ℕ). set ys i e) c.spot-i.ensures
-          ∙ stores c.judge_enter-answer.result ys e (omega arith)
-          ∙ ap (λ (r : Indexed). left_as r ys e) is;
-    }
+    record { answers = sym is; leaves = rw is }

@@ -1,14 +1,15 @@
--- `index::entering::find` meets its contract: what is decided of the array of numbers is what is answered of the table. Assumes nothing.
-use Rattle.std.proofs.Common.{ℕ, List, length, take, ap, ◌∙◌}
-use Rattle.index.specs.Table.{numbers_of}
-use Rattle.index.specs.Steps.{onto, sought}
-use Rattle.index.proofs.Lent.{sought_is}
+-- `index::entering::find` meets its contract: each return by what the look found. Assumes nothing.
+use Rattle.std.proofs.Common.{rules, sym, ap, ◌∙◌, Ok}
+use Rattle.index.proofs.Lent.{refused, none_found, finds}
 use Rattle.index.proofs.entering.find.Goals as goal
+
+pub returns-in_err-seen : goal.returns-in_err-seen
+returns-in_err-seen c = rw (refused c.args.entries.now c.args.number (sym c.look.ensures.found ∙ c.in_err-seen.was)).1 (search rules)
+
+pub returns-then-number-eq-UNCORRELATED : goal.returns-then-number-eq-UNCORRELATED
+returns-then-number-eq-UNCORRELATED c =
+    sym (none_found c.args.entries.now c.args.number (sym c.look.ensures.found ∙ c.in_ok-seen.was) c.if-number-eq-UNCORRELATED.true)
 
 pub returns : goal.returns
 returns c =
-    let ys = c.args.entries.now in
-    c.judge_find.ensures
-    ∙ ap (λ (ns : List ℕ). sought ns (length ys) c.args.number) c.numbers-ns.ensures
-    ∙ ap (λ (n : ℕ). sought (onto (numbers_of (take n ys)) c.no_numbers-none.result) (length ys) c.args.number) c.bounded-n.ensures
-    ∙ rw c.no_numbers-none.ensures (sought_is ys c.args.number)
+    rw (finds c.args.entries.now c.args.number (sym c.look.ensures.found ∙ c.in_ok-seen.was) c.if-number-eq-UNCORRELATED.false) (ap Ok (search rules))
