@@ -111,7 +111,11 @@ pub struct Measured {
 
 impl Measured {
     // From the counts, of seven words or of four.
-    pub fn of<const R: u16, const A: u16>(range: Range<R>, azimuth: Azimuth<A>, time: Time) -> Measured
+    pub fn of<const R: u16, const A: u16>(
+        range: Range<R>,
+        azimuth: Azimuth<A>,
+        time: Time,
+    ) -> Measured
         ensures { AllExact (range.entry.0 * R) (azimuth.entry.0 * A) (time.0 * weight.time) result }
     {
         Measured {

@@ -1,6 +1,6 @@
 // The bits of a report by the document's numbers, which go on over all its words with the parity bits counted.
 // Private to the crate. Relies on nothing; specs/Word.antt of words says what each answer means, under the same names.
-ghost use Rattle.std.specs.Prelude.{◌≡◌};
+ghost use Rattle.std.specs.Prelude.{◌≡◌, ◌<◌, ◌+◌};
 ghost use Rattle.words.specs.Word.{bits, bit, bits_then};
 ghost use Rattle.report_reader.specs.Reading.{InOneWord};
 
@@ -11,6 +11,14 @@ pub fn bits(words: &[u16; 7], first: usize, last: usize) -> u16
 {
     let word = words[(first - 1) / 13];
     (word >> (12 - (last - 1) % 13)) % (1 << (last + 1 - first))
+}
+
+// The same of at most eight bits.
+pub fn byte(words: &[u16; 7], first: usize, last: usize) -> u8
+    requires { InOneWord first last × (last < first + 8) }
+    ensures { result ≡ bits words.now first last }
+{
+    bits(words, first, last) as u8
 }
 
 // Whether one bit is one.

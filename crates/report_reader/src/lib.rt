@@ -1,5 +1,5 @@
 // A run's words to a report or a refusal. The conditions stand in the order of document 01's table, and each test is one of its rows.
-// Relies on records for the fields; what each test means stands in specs/Conditions.antt of reports.
+// Relies on bits and records for what words hold; what each test means stands in specs/Conditions.antt of reports.
 #![tactic(auto)]
 
 ghost use Rattle.std.specs.Prelude.{◌≡◌, ◌<◌, true, false, MatchOption};
@@ -11,7 +11,7 @@ ghost use Rattle.reports.specs.Records.{four_of, height_of, seven_of, report_of}
 ghost use Rattle.reports.specs.Runs.{judged};
 ghost use Rattle.report_reader.specs.Reading.{tested};
 
-use bits::{bit, bits};
+use bits::{bit, bits, byte};
 use measures::RunLength;
 use refusals::LineRefusal;
 use reports::altitude::Form;
@@ -63,15 +63,15 @@ fn height_of(words: &[u16; 7], form: Form) -> (Height, u16)
     let mode_c = bit(words, 6);
     match radar_code(words) {
         Some(forms::CD_CODE) => {
-            let run = RunLength(bits(words, 79, 81) as u8);
+            let run = RunLength(byte(words, 79, 81));
             (Height::Cd { mode_c, run }, bits(words, 82, 87))
         }
         Some(forms::MTD_CODE) => {
-            let quality = bits(words, 79, 80) as u8;
+            let quality = byte(words, 79, 80);
             (Height::Mtd { mode_c, quality }, bits(words, 81, 87))
         }
         Some(forms::RDAS_CODE) => {
-            let quality = bits(words, 79, 82) as u8;
+            let quality = byte(words, 79, 82);
             (Height::Rdas { mode_c, quality }, bits(words, 83, 87))
         }
         _ if mode_c => (
