@@ -1,5 +1,5 @@
 // A run's words to a report or a refusal. The conditions stand in the order of document 01's table, and each test is one of its rows.
-// Relies on records for the fields; what each test means stands in specs/Conditions.antt of reports.
+// Relies on bits and records for what words hold; what each test means stands in specs/Conditions.antt of reports.
 #![tactic(auto)]
 
 ghost use Rattle.std.specs.Prelude.{◌≡◌, ◌<◌, true, false, MatchOption};
@@ -9,9 +9,9 @@ ghost use Rattle.reports.specs.Forms.{is_four, is_seven, word_count};
 ghost use Rattle.reports.specs.Conditions.{unknown_form, unassigned, minus_zero, four_zeros, height_spares, seven_spares, zeros};
 ghost use Rattle.reports.specs.Records.{four_of, height_of, seven_of, report_of};
 ghost use Rattle.reports.specs.Runs.{judged};
-ghost use Rattle.report_reader.specs.Rows.{tested};
+ghost use Rattle.report_reader.specs.Reading.{tested};
 
-use bits::{bit, bits};
+use bits::{bit, bits, byte};
 use measures::RunLength;
 use refusals::LineRefusal;
 use reports::altitude::Form;
@@ -49,11 +49,7 @@ fn four_of(words: &[u16; 7]) -> (Report, u16)
 fn radar_code(words: &[u16; 7]) -> Option<u16>
     ensures { MatchOption result (bit words.now 12 ≡ false) (λ code. (bit words.now 12 ≡ true) × (code ≡ bits words.now 88 90)) }
 {
-    if bit(words, 12) {
-        Some(bits(words, 88, 90))
-    } else {
-        None
-    }
+    bit(words, 12).then(|| bits(words, 88, 90))
 }
 
 // Of bits 6, 12 and 79 to 90 of DABS and ATCRBS.
@@ -67,15 +63,15 @@ fn height_of(words: &[u16; 7], form: Form) -> (Height, u16)
     let mode_c = bit(words, 6);
     match radar_code(words) {
         Some(forms::CD_CODE) => {
-            let run = RunLength(bits(words, 79, 81) as u8);
+            let run = RunLength(byte(words, 79, 81));
             (Height::Cd { mode_c, run }, bits(words, 82, 87))
         }
         Some(forms::MTD_CODE) => {
-            let quality = bits(words, 79, 80) as u8;
+            let quality = byte(words, 79, 80);
             (Height::Mtd { mode_c, quality }, bits(words, 81, 87))
         }
         Some(forms::RDAS_CODE) => {
-            let quality = bits(words, 79, 82) as u8;
+            let quality = byte(words, 79, 82);
             (Height::Rdas { mode_c, quality }, bits(words, 83, 87))
         }
         _ if mode_c => (

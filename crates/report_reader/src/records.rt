@@ -3,7 +3,7 @@
 ghost use Rattle.std.specs.Prelude.{◌≡◌};
 ghost use Rattle.reports.specs.Records.{search_of, strobe_of, map_of, status_of, rtqc_of, dabs_of, atcrbs_of, mtd_of, rdas_of};
 
-use crate::bits::{bit, bits, bits_then};
+use crate::bits::{bit, bits, bits_then, byte};
 use measures::{Azimuth, Range, RunLength, Time};
 use reports::{Atcrbs, Dabs, Height, Map, Mtd, Rdas, Rtqc, Search, Status, Strobe};
 
@@ -19,9 +19,9 @@ pub fn search_of(words: &[u16; 7]) -> Search
         range: Range(bits(words, 14, 24)),
         azimuth: Azimuth(bits(words, 27, 38)),
         aims: bit(words, 40),
-        code: bits(words, 41, 42) as u8,
-        run: RunLength(bits(words, 43, 45) as u8),
-        time: Time(bits(words, 46, 51) as u8),
+        code: byte(words, 41, 42),
+        run: RunLength(byte(words, 43, 45)),
+        time: Time(byte(words, 46, 51)),
     }
 }
 
@@ -34,8 +34,8 @@ pub fn strobe_of(words: &[u16; 7]) -> Strobe
         af: bit(words, 12),
         range: Range(bits(words, 14, 24)),
         azimuth: Azimuth(bits(words, 27, 38)),
-        run: RunLength(bits(words, 40, 46) as u8),
-        time: Time(bits(words, 47, 51) as u8),
+        run: RunLength(byte(words, 40, 46)),
+        time: Time(byte(words, 47, 51)),
     }
 }
 
@@ -44,7 +44,7 @@ pub fn map_of(words: &[u16; 7]) -> Map
 {
     Map {
         test: bit(words, 1),
-        variation: bits(words, 9, 10) as u8,
+        variation: byte(words, 9, 10),
         faa: bit(words, 11),
         af: bit(words, 12),
         start: Range(bits(words, 14, 24)),
@@ -74,8 +74,8 @@ pub fn rtqc_of(words: &[u16; 7]) -> Rtqc
         af: bit(words, 12),
         range: Range(bits(words, 14, 24)),
         azimuth: Azimuth(bits(words, 27, 38)),
-        run: RunLength(bits(words, 40, 46) as u8),
-        time: Time(bits(words, 47, 51) as u8),
+        run: RunLength(byte(words, 40, 46)),
+        time: Time(byte(words, 47, 51)),
     }
 }
 
@@ -96,7 +96,7 @@ pub fn dabs_of(words: &[u16; 7], height: Height) -> Dabs
         azimuth: Azimuth(bits_then(words, 30, 38, 40, 43) as u16),
         alert: bit(words, 44),
         relay: bit(words, 47),
-        time: Time(bits(words, 48, 51) as u8),
+        time: Time(byte(words, 48, 51)),
         address: bits_then(words, 53, 64, 66, 77),
         height,
     }
@@ -119,7 +119,7 @@ pub fn atcrbs_of(words: &[u16; 7], height: Height) -> Atcrbs
         transition: bit(words, 45),
         false_target: bit(words, 46),
         relay: bit(words, 47),
-        time: Time(bits(words, 48, 51) as u8),
+        time: Time(byte(words, 48, 51)),
         code: bits(words, 53, 64),
         file: bits(words, 66, 77),
         height,
@@ -135,12 +135,12 @@ pub fn mtd_of(words: &[u16; 7]) -> Mtd
         range: Range(bits_then(words, 14, 25, 27, 29) as u16),
         azimuth: Azimuth(bits_then(words, 30, 38, 40, 43) as u16),
         aims: bit(words, 44),
-        time: Time(bits(words, 46, 51) as u8),
-        doppler1: bits(words, 53, 58) as u8,
-        doppler2: bits(words, 59, 64) as u8,
+        time: Time(byte(words, 46, 51)),
+        doppler1: byte(words, 53, 58),
+        doppler2: byte(words, 59, 64),
         file: bits(words, 66, 77),
-        quality: bits(words, 79, 80) as u8,
-        confidence: bits(words, 81, 84) as u8,
+        quality: byte(words, 79, 80),
+        confidence: byte(words, 81, 84),
         false_target: bit(words, 85),
         ground_traffic: bit(words, 86),
     }
@@ -155,9 +155,9 @@ pub fn rdas_of(words: &[u16; 7]) -> Rdas
         range: Range(bits_then(words, 14, 25, 27, 29) as u16),
         azimuth: Azimuth(bits_then(words, 30, 38, 40, 43) as u16),
         aims: bit(words, 44),
-        time: Time(bits(words, 46, 51) as u8),
+        time: Time(byte(words, 46, 51)),
         file: bits(words, 66, 77),
-        quality: bits(words, 79, 82) as u8,
+        quality: byte(words, 79, 82),
         false_target: bit(words, 85),
     }
 }

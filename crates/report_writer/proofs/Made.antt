@@ -1,109 +1,80 @@
 -- The words that the writer makes of a layout's data are the layout's words where every value fits, and 11 where one does not.
 -- Assumes nothing.
-use Rattle.std.specs.Prelude.{Ok, Err, Result}
-use Prim.Native.Nat.{ℕ, ◌+◌, ◌/◌, ◌≤◌}
-use mathlib.Core.Path.{◌≡◌, refl, ◌∙◌}
-use mathlib.Core.Bool.{Bool, true, false, cond}
-use mathlib.Core.List.{List, [], ◌∷◌}
+use Rattle.std.specs.Prelude.{ℕ, ◌≡◌, Bool, true, false, not, cond, ◌||◌, List, [], ◌∷◌, map, length, eqb, Ok, Err, Result, MatchResult, IsOkAnd}
+use Rattle.std.specs.List.{list_any}
+use Rattle.std.specs.Result.{result_map_both}
+use mathlib.Core.Path.{refl, ap}
 use native.Mathlib.Omega.{arith}
-use borrow.Author.Tests.{eqb-true, eq-eqb, ne_eqb}
-use lib.Dec.{eqb}
-use lib.ListN.{get_or}
+use borrow.Author.Tests.{eqb-true, le-leb, lt-leb}
+use Rattle.refusals.specs.declared.LineRefusal.{LineRefusal}
 use Rattle.refusals.specs.declared.LineRefusal.TheVariants.{ValueTooLarge}
 use Rattle.words.specs.Word.{word_of}
-use Rattle.words.specs.Layout.{Field, span, joined, fitting_all, words_by, fitting_by, twelve_each}
-use Rattle.words.proofs.Layouts.{both, joined_small}
-use Rattle.reports.specs.declared.Report.{Report}
-use Rattle.reports.specs.declared.Report.TheVariants as R
-use Rattle.reports.specs.Altitude.{AltitudeForm}
-use Rattle.reports.specs.Layouts.{layout_of, as_written, written}
-use Rattle.reports.proofs.Widths.{twelve}
-use Rattle.report_writer.specs.Data.{data_or_more, data_by, from_data}
-use Rattle.report_writer.proofs.Overruns.{fit_data, unfit_data}
-use Rattle.refusals.specs.declared.LineRefusal.{LineRefusal}
+use Rattle.words.specs.Layout.{Field, span, fitting_all, words_by, fitting_by, twelve_each}
+use Rattle.words.proofs.Layouts.{both, joined_small, words_length}
+use Rattle.reports.specs.Layouts.{as_written}
 use Rattle.reports.specs.declared.Words.{Words}
 use Rattle.reports.specs.declared.Words.TheVariants.{Four, Seven}
+use Rattle.report_writer.specs.Data.{data_or_more, too_large, words_or_11, data_by}
+use Rattle.report_writer.specs.declared.Data.{Data}
+use Rattle.report_writer.specs.declared.Data.TheVariants as D
+use Rattle.report_writer.proofs.Overruns.{fit_data, unfit_data}
 
--- ---- what the numbers have above 4095
+-- a word's number is too large exactly where a value does not fit
+one_large : (fs : List Field) → span fs ≡ 12 → too_large (data_or_more fs) ≡ not (fitting_all fs)
+one_large fs t = go (fitting_all fs) refl
+  where
+    go : (b : Bool) → fitting_all fs ≡ b → too_large (data_or_more fs) ≡ not b
+    go true h = lt-leb 4096 (data_or_more fs) (omega (arith, fit_data fs h, joined_small fs t h))
+    go false h = le-leb 4096 (data_or_more fs) (omega (arith, unfit_data fs h))
 
-overs : List (List Field) → ℕ
-overs [] = 0
-overs (fs ∷ l) = data_or_more fs / 4096 + overs l
+-- the words, where every value fits
+each_word : (l : List (List Field)) → fitting_by l ≡ true → map word_of (map data_or_more l) ≡ words_by l
+each_word [] h = refl
+each_word (fs ∷ l) h = let k = both (fitting_all fs) (fitting_by l) h in cc (fit_data fs k.0, each_word l k.1)
 
--- every number is its word's data
-Each : List (List Field) → Type 0
-Each [] = Unit {0}
-Each (fs ∷ l) = (data_or_more fs ≡ joined fs) × Each l
-
-fit_each : (l : List (List Field)) → fitting_by l ≡ true → Each l
-unfolding Each
-fit_each [] h = tt
-fit_each (fs ∷ l) h = let k = both (fitting_all fs) (fitting_by l) h in (fit_data fs k.0, fit_each l k.1)
-
-fit_overs : (l : List (List Field)) → twelve_each l ≡ true → fitting_by l ≡ true → overs l ≡ 0
-unfolding overs
-fit_overs [] t h = refl
-fit_overs (fs ∷ l) t h =
-    let k = both (fitting_all fs) (fitting_by l) h in
+some_large : (l : List (List Field)) → twelve_each l ≡ true → list_any too_large (map data_or_more l) ≡ not (fitting_by l)
+some_large [] t = refl
+some_large (fs ∷ l) t =
     let s = both (eqb (span fs) 12) (twelve_each l) t in
-    omega (arith, fit_data fs k.0, joined_small fs (eqb-true (span fs) 12 s.0) k.0, fit_overs l s.1 k.1)
-
-unfit_overs : (l : List (List Field)) → fitting_by l ≡ false → 1 ≤ overs l
-unfolding overs
-unfit_overs [] h = absurd (let z : ◌≡◌ {A = ℕ} 0 1 = cc in omega arith)
-unfit_overs (fs ∷ l) h = go (fitting_all fs) refl (λ k. unfit_overs l k)
+    go (fitting_all fs) (one_large fs (eqb-true (span fs) 12 s.0)) (some_large l s.1)
   where
-    go : (b : Bool) → fitting_all fs ≡ b → (fitting_by l ≡ false → 1 ≤ overs l) → 1 ≤ data_or_more fs / 4096 + overs l
-    go true e more = let m = more (simp e at h) in omega arith
-    go false e more = let m = unfit_data fs e in omega arith
+    go : (b : Bool) → too_large (data_or_more fs) ≡ not b → list_any too_large (map data_or_more l) ≡ not (fitting_by l)
+        → (too_large (data_or_more fs) || list_any too_large (map data_or_more l)) ≡ not (cond b (fitting_by l) false)
+    go true e r = rw (e, r)
+    go false e r = rw e
 
--- ---- four words, and seven
-
-abbrev Made : List (List Field) → Type 0
-Made l = from_data (data_by l) ≡ cond (fitting_by l) (as_written (words_by l)) (Err ValueTooLarge)
-
--- where n is what the numbers have above 4095: what is made where that is 0 is made where every value fits
-sorted : (l : List (List Field)) (n : ℕ) (x y : Result Words LineRefusal) → twelve_each l ≡ true → n ≡ overs l → (Each l → x ≡ y)
-    → cond (eqb n 0) x (Err ValueTooLarge) ≡ cond (fitting_by l) y (Err ValueTooLarge)
-sorted l n x y t e same = go (fitting_by l) refl
+-- as data of four words or of seven
+made : (l : List (List Field)) → twelve_each l ≡ true
+    → words_or_11 (map data_or_more l) ≡ cond (fitting_by l) (Ok (words_by l)) (Err ValueTooLarge)
+made l t = rw (some_large l t) (go (fitting_by l) refl)
   where
-    go : (b : Bool) → fitting_by l ≡ b → cond (eqb n 0) x (Err ValueTooLarge) ≡ cond b y (Err ValueTooLarge)
-    go true h = rw (eq-eqb n 0 (e ∙ fit_overs l t h)) (same (fit_each l h))
-    go false h = rw (ne_eqb n 0 (λ z. omega (arith, unfit_overs l h)))
+    go : (b : Bool) → fitting_by l ≡ b → cond (not b) (Err ValueTooLarge) (Ok (map word_of (map data_or_more l))) ≡ cond b (Ok (words_by l)) (Err ValueTooLarge)
+    go true h = ap Ok (each_word l h)
+    go false h = refl
 
-four_made : (a b c d : List Field) → twelve_each (a ∷ b ∷ c ∷ d ∷ []) ≡ true → Made (a ∷ b ∷ c ∷ d ∷ [])
-unfolding overs Each
-four_made a b c d t =
-    sorted (a ∷ b ∷ c ∷ d ∷ []) (data_or_more a / 4096 + data_or_more b / 4096 + data_or_more c / 4096 + data_or_more d / 4096) _ _ t (omega arith)
-    (λ k i. Ok (Four (word_of (k.0 i) ∷ word_of (k.1.0 i) ∷ word_of (k.1.1.0 i) ∷ word_of (k.1.1.1.0 i) ∷ [])))
+-- ---- four words or seven
 
-seven_made : (a b c d e f g : List Field) → twelve_each (a ∷ b ∷ c ∷ d ∷ e ∷ f ∷ g ∷ []) ≡ true → Made (a ∷ b ∷ c ∷ d ∷ e ∷ f ∷ g ∷ [])
-unfolding overs Each
-seven_made a b c d e f g t =
-    sorted (a ∷ b ∷ c ∷ d ∷ e ∷ f ∷ g ∷ []) (data_or_more a / 4096 + data_or_more b / 4096 + data_or_more c / 4096 + data_or_more d / 4096 + data_or_more e / 4096 + data_or_more f / 4096 + data_or_more g / 4096) _ _ t (omega arith)
-    (λ k i. Ok (Seven (word_of (k.0 i) ∷ word_of (k.1.0 i) ∷ word_of (k.1.1.0 i) ∷ word_of (k.1.1.1.0 i) ∷ word_of (k.1.1.1.1.0 i) ∷ word_of (k.1.1.1.1.1.0 i) ∷ word_of (k.1.1.1.1.1.1.0 i) ∷ [])))
+-- what the writer hands out of the data
+abbrev pub handed : Data → Result Words LineRefusal
+handed (D.Four each) = result_map_both Four (λ e. e) (words_or_11 each)
+handed (D.Seven each) = result_map_both Seven (λ e. e) (words_or_11 each)
 
--- ---- every report
+either : (f : List ℕ → Words) (b : Bool) (ws : List ℕ)
+    → result_map_both f (λ e. e) (cond b (Ok ws) (Err ValueTooLarge)) ≡ cond b (Ok (f ws)) (Err ValueTooLarge)
+either f true ws = refl
+either f false ws = refl
 
-abbrev first_four : List (List Field) → List (List Field)
-first_four l = get_or l 0 [] ∷ get_or l 1 [] ∷ get_or l 2 [] ∷ get_or l 3 [] ∷ []
+pub handed_out : (l : List (List Field)) → twelve_each l ≡ true → handed (data_by l) ≡ cond (fitting_by l) (as_written (words_by l)) (Err ValueTooLarge)
+handed_out l t = rw (words_length l) (go (eqb (length l) 4))
+  where
+    go : (b : Bool) → handed (cond b (D.Four (map data_or_more l)) (D.Seven (map data_or_more l)))
+        ≡ cond (fitting_by l) (Ok (cond b (Four (words_by l)) (Seven (words_by l)))) (Err ValueTooLarge)
+    go true = rw (made l t) (either Four (fitting_by l) (words_by l))
+    go false = rw (made l t) (either Seven (fitting_by l) (words_by l))
 
-abbrev first_seven : List (List Field) → List (List Field)
-first_seven l = get_or l 0 [] ∷ get_or l 1 [] ∷ get_or l 2 [] ∷ get_or l 3 [] ∷ get_or l 4 [] ∷ get_or l 5 [] ∷ get_or l 6 [] ∷ []
-
-by_four : (l : List (List Field)) → twelve_each (first_four l) ≡ true → Made (first_four l)
-by_four l t = four_made (get_or l 0 []) (get_or l 1 []) (get_or l 2 []) (get_or l 3 []) t
-
-by_seven : (l : List (List Field)) → twelve_each (first_seven l) ≡ true → Made (first_seven l)
-by_seven l t = seven_made (get_or l 0 []) (get_or l 1 []) (get_or l 2 []) (get_or l 3 []) (get_or l 4 []) (get_or l 5 []) (get_or l 6 []) t
-
-pub made : (form : AltitudeForm) (r : Report) → from_data (data_by (layout_of form r)) ≡ written form r
-made form (R.Search s) = by_four (layout_of form (R.Search s)) refl
-made form (R.Strobe s) = by_four (layout_of form (R.Strobe s)) refl
-made form (R.Map m) = by_four (layout_of form (R.Map m)) refl
-made form (R.Status s) = by_four (layout_of form (R.Status s)) refl
-made form (R.Rtqc s) = by_four (layout_of form (R.Rtqc s)) refl
-made form (R.Dabs d) = by_seven (layout_of form (R.Dabs d)) (twelve form (R.Dabs d))
-made form (R.Atcrbs a) = by_seven (layout_of form (R.Atcrbs a)) (twelve form (R.Atcrbs a))
-made form (R.Mtd m) = by_seven (layout_of form (R.Mtd m)) refl
-made form (R.Rdas r) = by_seven (layout_of form (R.Rdas r)) refl
+-- a call of `map`
+pub mapped : (f : List ℕ → Words) (r : Result (List ℕ) LineRefusal) (s : Result Words LineRefusal)
+    → MatchResult r (λ x. IsOkAnd s (λ y. y ≡ f x)) (λ e. s ≡ Err e) → s ≡ result_map_both f (λ e. e) r
+mapped f (Ok x) (Ok y) h = ap Ok h
+mapped f (Ok x) (Err e) h = absurd h
+mapped f (Err e) s h = h

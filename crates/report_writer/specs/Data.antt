@@ -1,13 +1,12 @@
 -- The data of a report's words as the writer's private functions compute it. Definitions only; no promise of a public function names them.
-use Rattle.std.specs.Prelude.{ℕ, ◌+◌, ◌*◌, ◌/◌, ◌^◌, cond, List, [], ◌∷◌, eqb, length, get_or, Ok, Err, Result}
+use Rattle.std.specs.Prelude.{ℕ, ◌+◌, ◌-◌, ◌*◌, ◌/◌, ◌^◌, Bool, cond, List, [], ◌∷◌, map, eqb, leb, length, Ok, Err, Result, Some, None, Option}
+use Rattle.std.specs.List.{list_any}
 use Rattle.refusals.specs.declared.LineRefusal.TheVariants.{ValueTooLarge}
 use Rattle.words.specs.Word.{word_of}
-use Rattle.words.specs.Layout.{Field, flag, count, rest, fixed, joined}
+use Rattle.words.specs.Layout.{Field, flag, count, rest, fixed, value, joined}
 use Rattle.report_writer.specs.declared.Data.{Data}
 use Rattle.report_writer.specs.declared.Data.TheVariants as D
 use Rattle.refusals.specs.declared.LineRefusal.{LineRefusal}
-use Rattle.reports.specs.declared.Words.{Words}
-use Rattle.reports.specs.declared.Words.TheVariants.{Four, Seven}
 
 -- ---- one word: where a value does not fit its field, the number is pushed above 4095, so that code finds it without a branch
 
@@ -26,22 +25,24 @@ overrun_all (f ∷ fs) = overrun f + overrun_all fs
 abbrev pub data_or_more : List Field → ℕ
 data_or_more fs = joined fs + 4096 * overrun_all fs
 
+-- what a field that ends at a bit adds to the number: its value, weighed, and that 4096
+abbrev pub placed : Field → ℕ → ℕ
+placed f end = value f * 2 ^ (12 - end) + 4096 * overrun f
+
 -- ---- all words
 
--- the data of a word of a layout
-abbrev data_at : List (List Field) → ℕ → ℕ
-data_at l k = data_or_more (get_or l k [])
-
 abbrev pub data_by : List (List Field) → Data
-data_by l =
-    cond (eqb (length l) 4) (D.Four (data_at l 0) (data_at l 1) (data_at l 2) (data_at l 3))
-    (D.Seven (data_at l 0) (data_at l 1) (data_at l 2) (data_at l 3) (data_at l 4) (data_at l 5) (data_at l 6))
+data_by l = cond (eqb (length l) 4) (D.Four (map data_or_more l)) (D.Seven (map data_or_more l))
 
--- the words of such data, or the refusal: no number is above 4095 where the sum of what they have above it is 0
-abbrev pub from_data : Data → Result Words LineRefusal
-from_data (D.Four a b c d) =
-    cond (eqb (a / 4096 + b / 4096 + c / 4096 + d / 4096) 0) (Ok (Four (word_of a ∷ word_of b ∷ word_of c ∷ word_of d ∷ []))) (Err ValueTooLarge)
-from_data (D.Seven a b c d e f g) =
-    cond (eqb (a / 4096 + b / 4096 + c / 4096 + d / 4096 + e / 4096 + f / 4096 + g / 4096) 0)
-    (Ok (Seven (word_of a ∷ word_of b ∷ word_of c ∷ word_of d ∷ word_of e ∷ word_of f ∷ word_of g ∷ [])))
-    (Err ValueTooLarge)
+abbrev pub too_large : ℕ → Bool
+too_large d = leb 4096 d
+
+-- the words of such data, or the refusal
+abbrev pub words_or_11 : List ℕ → Result (List ℕ) LineRefusal
+words_or_11 each = cond (list_any too_large each) (Err ValueTooLarge) (Ok (map word_of each))
+
+-- ---- altitudes
+
+-- twelve bits, or none where a form has 4096 for them
+abbrev pub bits_or_none : ℕ → Option ℕ
+bits_or_none n = cond (eqb n 4096) None (Some n)

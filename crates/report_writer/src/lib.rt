@@ -1,259 +1,128 @@
 // A report to its words, or to refusal 11 where a value is too large for its field.
 // Each word's data is computed without a branch, field by field as its layout has it; a value too large pushes the number above 4095
-// (`data_or_more`), and one function looks at the numbers at the end and makes the words. Relies on words for the parity bit.
+// (`data_or_more`), and one function looks at the numbers at the end and makes the words. Relies on words for the parity bit, measures for the
+// types of counts.
 #![tactic(auto)]
 
-ghost use Rattle.std.specs.Prelude.{◌≡◌, cond, [], ◌∷◌, ◌/◌, ◌<◌, ◌^◌};
+ghost use Rattle.std.specs.Prelude.{◌≡◌, [], ◌∷◌, ◌/◌, ◌<◌, ◌^◌};
 ghost use Rattle.words.specs.Word.{word_of};
 ghost use Rattle.words.specs.Layout.{flag, count, rest, fixed, spare};
 ghost use Rattle.reports.specs.Altitude.{form_of};
-ghost use Rattle.reports.specs.Forms.{four_words, seven_words, map_pattern, cd_code, mtd_code, rdas_code, mtd_search_code, rdas_search_code};
+ghost use Rattle.reports.specs.Forms.{four_words, seven_words};
 ghost use Rattle.reports.specs.Layouts.{last_word, mode_c_of, radar, search_layout, strobe_layout, map_layout, status_layout, rtqc_layout, dabs_layout, atcrbs_layout, mtd_layout, rdas_layout, layout_of, written};
-ghost use Rattle.report_writer.specs.Data.{data_or_more, data_by, from_data};
+ghost use Rattle.report_writer.specs.Data.{data_or_more, data_by, words_or_11};
 
+use altitude::altitude_bits;
+use field::{count, flag, rest};
+use measures::{CoarseRange, FineAzimuth, FineRange, RunLength, Time};
 use refusals::LineRefusal;
 use reports::altitude::Form;
 use reports::{
     Atcrbs, Dabs, Height, Map, Mtd, Rdas, Report, Rtqc, Search, Status, Strobe, Words, forms,
 };
-use weights::*;
+use words::weights;
 
 mod altitude; // altitude.rt: the twelve bits of an altitude, in each form
-mod weights; // weights.rt: the data bits of a word by name
+mod field; // field.rt: what a field adds to the data of its word
 
 // The data of a report's words, each 4096 or more where a value in it is too large.
 #[derive(Clone, Copy)]
 enum Data {
-    Four(u32, u32, u32, u32),
-    Seven(u32, u32, u32, u32, u32, u32, u32),
+    Four([u32; 4]),
+    Seven([u32; 7]),
 }
 
-// What a value that does not fit adds, for each of its field's spans that it overruns: it reaches above the twelve data bits.
-const TOO_LARGE: u32 = TWELVE_BITS;
+// What no twelve bits are.
+const TOO_LARGE: u16 = weights::TWELVE_BITS;
 
-// Bits 2-3 of the first word of seven, in their place.
-const SEVEN: u32 = forms::SEVEN_WORDS as u32 * DATA_3;
+// ---- words that several reports have
 
-fn bit(b: bool) -> u32
-    ensures { (result ≡ cond b 1 0) × (result < 2) }
+// The first word of four.
+fn first_of_four(test: bool, pattern: u16, faa: bool, af: bool) -> u32
+    ensures { result ≡ data_or_more (flag test ∷ fixed 2 four_words ∷ fixed 7 pattern ∷ flag faa ∷ flag af ∷ []) }
 {
-    if b { 1 } else { 0 }
+    flag::<1>(test) + count::<7, 10>(pattern.into()) + flag::<11>(faa) + flag::<12>(af)
 }
 
 // Twelve bits that are one number.
-fn whole(n: u32) -> u32
-    requires { n < 1048577 }
+fn whole(n: u16) -> u32
     ensures { result ≡ data_or_more (count 12 n ∷ []) }
 {
-    n + TOO_LARGE * (n / TWELVE_BITS)
-}
-
-// The lower twelve bits of a number whose upper bits stand in the word before.
-fn lower_twelve(n: u32) -> u32
-    ensures { result ≡ data_or_more (rest 12 n ∷ []) }
-{
-    n % TWELVE_BITS
-}
-
-// ---- the words of four
-
-fn first_of_four(test: bool, pattern: u16, faa: bool, af: bool) -> u32
-    requires { pattern < 128 }
-    ensures { result ≡ data_or_more (flag test ∷ fixed 2 four_words ∷ fixed 7 pattern ∷ flag faa ∷ flag af ∷ []) }
-{
-    bit(test) * DATA_1 + pattern as u32 * DATA_10 + bit(faa) * DATA_11 + bit(af)
-}
-
-fn map_first(test: bool, variation: u8, faa: bool, af: bool) -> u32
-    ensures { result ≡ data_or_more (flag test ∷ fixed 2 four_words ∷ fixed 5 map_pattern ∷ count 2 variation ∷ flag faa ∷ flag af ∷ []) }
-{
-    let variation = variation as u32;
-    bit(test) * DATA_1
-        + variation * DATA_10
-        + bit(faa) * DATA_11
-        + bit(af)
-        + TOO_LARGE * (variation / TWO_BITS)
+    count::<12, 12>(n.into())
 }
 
 // A range of eleven bits, or a Map's range stop, and a zero.
-fn coarse_range(range: u16) -> u32
-    ensures { result ≡ data_or_more (count 11 range ∷ spare 1 ∷ []) }
+fn coarse_range(range: CoarseRange) -> u32
+    ensures { result ≡ data_or_more (count 11 range.0 ∷ spare 1 ∷ []) }
 {
-    let range = range as u32;
-    range * DATA_11 + TOO_LARGE * (range / ELEVEN_BITS)
+    count::<11, 11>(range.0.into())
 }
 
-fn search_last(aims: bool, code: u8, run: u8, time: u8) -> u32
-    ensures { result ≡ data_or_more (flag aims ∷ count 2 code ∷ count 3 run ∷ count 6 time ∷ []) }
+// The last word of Strobe and of RTQC.
+fn strobe_last(run: RunLength, time: Time) -> u32
+    ensures { result ≡ data_or_more (count 7 run.0 ∷ count 5 time.0 ∷ []) }
 {
-    let code = code as u32;
-    let run = run as u32;
-    let time = time as u32;
-    let over = code / TWO_BITS + run / THREE_BITS + time / SIX_BITS;
-    bit(aims) * DATA_1 + code * DATA_3 + run * DATA_6 + time + TOO_LARGE * over
+    count::<7, 7>(run.0.into()) + count::<5, 12>(time.0.into())
 }
-
-fn strobe_last(run: u8, time: u8) -> u32
-    ensures { result ≡ data_or_more (count 7 run ∷ count 5 time ∷ []) }
-{
-    let run = run as u32;
-    let time = time as u32;
-    run * DATA_7 + time + TOO_LARGE * (run / SEVEN_BITS + time / FIVE_BITS)
-}
-
-// ---- the words of seven
 
 // The first word of MTD and RDAS search.
 fn radar_first(test: bool, faa: bool) -> u32
     ensures { result ≡ data_or_more (flag test ∷ fixed 2 seven_words ∷ fixed 1 0 ∷ spare 6 ∷ flag faa ∷ fixed 1 1 ∷ []) }
 {
-    bit(test) * DATA_1 + SEVEN + bit(faa) * DATA_11 + DATA_12
+    flag::<1>(test) + count::<2, 3>(forms::SEVEN_WORDS.into()) + flag::<11>(faa) + flag::<12>(true)
 }
 
 // The end of a range of fifteen bits, and the start of an azimuth of thirteen.
-fn range_azimuth(range: u16, azimuth: u16) -> u32
-    ensures { result ≡ data_or_more (rest 3 range ∷ count 9 (azimuth / 2 ^ 4) ∷ []) }
+fn range_azimuth(range: FineRange, azimuth: FineAzimuth) -> u32
+    ensures { result ≡ data_or_more (rest 3 range.0 ∷ count 9 (azimuth.0 / 2 ^ 4) ∷ []) }
 {
-    let azimuth = azimuth as u32 / FOUR_BITS;
-    range as u32 % THREE_BITS * DATA_3 + azimuth + TOO_LARGE * (azimuth / NINE_BITS)
+    rest::<3>(range.0.into()) + count::<9, 12>((azimuth.0 >> 4).into())
 }
 
-fn dabs_fourth(azimuth: u16, alert: bool, relay: bool, time: u8) -> u32
-    ensures { result ≡ data_or_more (rest 4 azimuth ∷ flag alert ∷ spare 2 ∷ flag relay ∷ count 4 time ∷ []) }
+// The fourth word of MTD and RDAS search.
+fn radar_fourth(azimuth: FineAzimuth, aims: bool, time: Time) -> u32
+    ensures { result ≡ data_or_more (rest 4 azimuth.0 ∷ flag aims ∷ spare 1 ∷ count 6 time.0 ∷ []) }
 {
-    let time = time as u32;
-    azimuth as u32 % FOUR_BITS * DATA_4
-        + bit(alert) * DATA_5
-        + bit(relay) * DATA_8
-        + time
-        + TOO_LARGE * (time / FOUR_BITS)
-}
-
-fn atcrbs_fourth(
-    azimuth: u16,
-    confidence: bool,
-    transition: bool,
-    target: bool,
-    relay: bool,
-    time: u8,
-) -> u32
-    ensures { result ≡ data_or_more (rest 4 azimuth ∷ flag confidence ∷ flag transition ∷ flag target ∷ flag relay ∷ count 4 time ∷ []) }
-{
-    let time = time as u32;
-    let flags = bit(confidence) * DATA_5
-        + bit(transition) * DATA_6
-        + bit(target) * DATA_7
-        + bit(relay) * DATA_8;
-    azimuth as u32 % FOUR_BITS * DATA_4 + flags + time + TOO_LARGE * (time / FOUR_BITS)
-}
-
-fn radar_fourth(azimuth: u16, aims: bool, time: u8) -> u32
-    ensures { result ≡ data_or_more (rest 4 azimuth ∷ flag aims ∷ spare 1 ∷ count 6 time ∷ []) }
-{
-    let time = time as u32;
-    azimuth as u32 % FOUR_BITS * DATA_4 + bit(aims) * DATA_5 + time + TOO_LARGE * (time / SIX_BITS)
-}
-
-fn dopplers(first: u8, second: u8) -> u32
-    ensures { result ≡ data_or_more (count 6 first ∷ count 6 second ∷ []) }
-{
-    let first = first as u32;
-    let second = second as u32;
-    first * DATA_6 + second + TOO_LARGE * (first / SIX_BITS + second / SIX_BITS)
-}
-
-fn mtd_last(quality: u8, confidence: u8, target: bool, ground_traffic: bool) -> u32
-    ensures { result ≡ data_or_more (count 2 quality ∷ count 4 confidence ∷ flag target ∷ flag ground_traffic ∷ spare 1 ∷ fixed 3 mtd_search_code ∷ []) }
-{
-    let quality = quality as u32;
-    let confidence = confidence as u32;
-    let over = quality / TWO_BITS + confidence / FOUR_BITS;
-    quality * DATA_2
-        + confidence * DATA_6
-        + bit(target) * DATA_7
-        + bit(ground_traffic) * DATA_8
-        + forms::MTD_SEARCH_CODE as u32
-        + TOO_LARGE * over
-}
-
-fn rdas_last(quality: u8, target: bool) -> u32
-    ensures { result ≡ data_or_more (count 4 quality ∷ spare 2 ∷ flag target ∷ spare 2 ∷ fixed 3 rdas_search_code ∷ []) }
-{
-    let quality = quality as u32;
-    quality * DATA_4
-        + bit(target) * DATA_7
-        + forms::RDAS_SEARCH_CODE as u32
-        + TOO_LARGE * (quality / FOUR_BITS)
+    rest::<4>(azimuth.0.into()) + flag::<5>(aims) + count::<6, 12>(time.0.into())
 }
 
 // ---- bits 6, 12 and 79 to 90 of DABS and ATCRBS
 
-fn mode_c_of(h: Height) -> u32
-    ensures { (result ≡ cond (mode_c_of h) 1 0) × (result < 2) }
+fn mode_c_of(h: Height) -> bool
+    ensures { result ≡ mode_c_of h }
 {
     match h {
-        Height::Altitude(_) => 1,
-        Height::Carried(_) => 0,
-        Height::Cd { mode_c, run: _ } => bit(mode_c),
-        Height::Mtd { mode_c, quality: _ } => bit(mode_c),
-        Height::Rdas { mode_c, quality: _ } => bit(mode_c),
+        Height::Altitude(_) => true,
+        Height::Carried(_) => false,
+        Height::Cd { mode_c, .. } | Height::Mtd { mode_c, .. } | Height::Rdas { mode_c, .. } =>
+            mode_c,
     }
 }
 
-fn radar_of(h: Height) -> u32
-    ensures { (result ≡ cond (radar h) 1 0) × (result < 2) }
+fn radar_of(h: Height) -> bool
+    ensures { result ≡ radar h }
 {
-    match h {
-        Height::Altitude(_) => 0,
-        Height::Carried(_) => 0,
-        Height::Cd { mode_c: _, run: _ } => 1,
-        Height::Mtd {
-            mode_c: _,
-            quality: _,
-        } => 1,
-        Height::Rdas {
-            mode_c: _,
-            quality: _,
-        } => 1,
-    }
-}
-
-// The last word where a CD, an MTD or an RDAS stands in for the height.
-fn cd_last(run: u8) -> u32
-    ensures { result ≡ data_or_more (count 3 run ∷ spare 6 ∷ fixed 3 cd_code ∷ []) }
-{
-    let run = run as u32;
-    run * DATA_3 + forms::CD_CODE as u32 + TOO_LARGE * (run / THREE_BITS)
-}
-
-fn mtd_quality_last(quality: u8) -> u32
-    ensures { result ≡ data_or_more (count 2 quality ∷ spare 7 ∷ fixed 3 mtd_code ∷ []) }
-{
-    let quality = quality as u32;
-    quality * DATA_2 + forms::MTD_CODE as u32 + TOO_LARGE * (quality / TWO_BITS)
-}
-
-fn rdas_quality_last(quality: u8) -> u32
-    ensures { result ≡ data_or_more (count 4 quality ∷ spare 5 ∷ fixed 3 rdas_code ∷ []) }
-{
-    let quality = quality as u32;
-    quality * DATA_4 + forms::RDAS_CODE as u32 + TOO_LARGE * (quality / FOUR_BITS)
+    !matches!(h, Height::Altitude(_) | Height::Carried(_))
 }
 
 fn height_last(h: Height, form: Form) -> u32
     ensures { result ≡ data_or_more (last_word (form_of form) h) }
 {
     match h {
-        Height::Altitude(z) => whole(altitude::altitude_bits(z, form)),
-        Height::Carried(n) => whole(n as u32),
-        Height::Cd { mode_c: _, run } => cd_last(run.0),
-        Height::Mtd { mode_c: _, quality } => mtd_quality_last(quality),
-        Height::Rdas { mode_c: _, quality } => rdas_quality_last(quality),
+        Height::Altitude(z) => whole(altitude_bits(z, form).unwrap_or(TOO_LARGE)),
+        Height::Carried(n) => whole(n),
+        Height::Cd { run, .. } => count::<3, 3>(run.0.into())
+            + count::<3, 12>(forms::CD_CODE.into()),
+        Height::Mtd { quality, .. } => count::<2, 2>(quality.into())
+            + count::<3, 12>(forms::MTD_CODE.into()),
+        Height::Rdas { quality, .. } => count::<4, 4>(quality.into())
+            + count::<3, 12>(forms::RDAS_CODE.into()),
     }
 }
 
-// The first word of DABS and of ATCRBS; the height tells bits 6 and 12.
-fn beacon_first(
+// What the first word of DABS and of ATCRBS has; the height tells bits 6 and 12.
+#[derive(Clone, Copy)]
+struct Beacon {
     test: bool,
     dabs: bool,
     fifth: bool,
@@ -263,13 +132,25 @@ fn beacon_first(
     code7600: bool,
     faa: bool,
     height: Height,
-) -> u32
-    ensures { result ≡ data_or_more (flag test ∷ fixed 2 seven_words ∷ flag dabs ∷ flag fifth ∷ flag (mode_c_of height) ∷ flag spi ∷ flag reinforced ∷ flag code7700 ∷ flag code7600 ∷ flag faa ∷ flag (radar height) ∷ []) }
-{
-    let first = bit(test) * DATA_1 + SEVEN + bit(dabs) * DATA_4 + bit(fifth) * DATA_5;
-    let middle = mode_c_of(height) * DATA_6 + bit(spi) * DATA_7 + bit(reinforced) * DATA_8;
-    let codes = bit(code7700) * DATA_9 + bit(code7600) * DATA_10;
-    first + middle + codes + bit(faa) * DATA_11 + radar_of(height)
+}
+
+impl Beacon {
+    fn first_word(self) -> u32
+        ensures { result ≡ data_or_more (flag self.test ∷ fixed 2 seven_words ∷ flag self.dabs ∷ flag self.fifth ∷ flag (mode_c_of self.height) ∷ flag self.spi ∷ flag self.reinforced ∷ flag self.code7700 ∷ flag self.code7600 ∷ flag self.faa ∷ flag (radar self.height) ∷ []) }
+    {
+        let first = flag::<1>(self.test)
+            + count::<2, 3>(forms::SEVEN_WORDS.into())
+            + flag::<4>(self.dabs)
+            + flag::<5>(self.fifth);
+        let middle = flag::<6>(mode_c_of(self.height))
+            + flag::<7>(self.spi)
+            + flag::<8>(self.reinforced);
+        let last = flag::<9>(self.code7700)
+            + flag::<10>(self.code7600)
+            + flag::<11>(self.faa)
+            + flag::<12>(radar_of(self.height));
+        first + middle + last
+    }
 }
 
 // ---- the data of each report
@@ -277,146 +158,153 @@ fn beacon_first(
 fn search_data(s: Search) -> Data
     ensures { result ≡ data_by (search_layout s) }
 {
-    Data::Four(
+    Data::Four([
         first_of_four(s.test, forms::SEARCH_PATTERN, s.faa, s.af),
-        coarse_range(s.range.0),
-        whole(s.azimuth.0 as u32),
-        search_last(s.aims, s.code, s.run.0, s.time.0),
-    )
+        coarse_range(s.range),
+        whole(s.azimuth.0),
+        flag::<1>(s.aims)
+            + count::<2, 3>(s.code.into())
+            + count::<3, 6>(s.run.0.into())
+            + count::<6, 12>(s.time.0.into()),
+    ])
 }
 
 fn strobe_data(s: Strobe) -> Data
     ensures { result ≡ data_by (strobe_layout s) }
 {
-    Data::Four(
+    Data::Four([
         first_of_four(s.test, forms::STROBE_PATTERN, s.faa, s.af),
-        coarse_range(s.range.0),
-        whole(s.azimuth.0 as u32),
-        strobe_last(s.run.0, s.time.0),
-    )
+        coarse_range(s.range),
+        whole(s.azimuth.0),
+        strobe_last(s.run, s.time),
+    ])
 }
 
 fn map_data(m: Map) -> Data
     ensures { result ≡ data_by (map_layout m) }
 {
-    Data::Four(
-        map_first(m.test, m.variation, m.faa, m.af),
-        coarse_range(m.start.0),
-        whole(m.azimuth.0 as u32),
-        coarse_range(m.stop.0),
-    )
+    Data::Four([
+        flag::<1>(m.test)
+            + count::<2, 10>(m.variation.into())
+            + flag::<11>(m.faa)
+            + flag::<12>(m.af),
+        coarse_range(m.start),
+        whole(m.azimuth.0),
+        coarse_range(m.stop),
+    ])
 }
 
 fn status_data(s: Status) -> Data
     ensures { result ≡ data_by (status_layout s) }
 {
-    Data::Four(
+    Data::Four([
         first_of_four(s.test, forms::STATUS_PATTERN, s.faa, s.af),
-        whole(s.second as u32),
-        whole(s.third as u32),
-        whole(s.fourth as u32),
-    )
+        whole(s.second),
+        whole(s.third),
+        whole(s.fourth),
+    ])
 }
 
 fn rtqc_data(s: Rtqc) -> Data
     ensures { result ≡ data_by (rtqc_layout s) }
 {
-    Data::Four(
+    Data::Four([
         first_of_four(true, forms::RTQC_PATTERN, s.faa, s.af),
-        coarse_range(s.range.0),
-        whole(s.azimuth.0 as u32),
-        strobe_last(s.run.0, s.time.0),
-    )
+        coarse_range(s.range),
+        whole(s.azimuth.0),
+        strobe_last(s.run, s.time),
+    ])
 }
 
 fn dabs_data(d: Dabs, form: Form) -> Data
     ensures { result ≡ data_by (dabs_layout (form_of form) d) }
 {
-    let height = d.height;
-    let first = beacon_first(
-        d.test,
-        true,
-        d.primary,
-        d.spi,
-        d.reinforced,
-        d.code7700,
-        d.code7600,
-        d.faa,
-        height,
-    );
-    Data::Seven(
-        first,
-        whole(d.range.0 as u32 / THREE_BITS),
-        range_azimuth(d.range.0, d.azimuth.0),
-        dabs_fourth(d.azimuth.0, d.alert, d.relay, d.time.0),
-        whole(d.address / TWELVE_BITS),
-        lower_twelve(d.address),
-        height_last(height, form),
-    )
+    let beacon = Beacon {
+        test: d.test,
+        dabs: true,
+        fifth: d.primary,
+        spi: d.spi,
+        reinforced: d.reinforced,
+        code7700: d.code7700,
+        code7600: d.code7600,
+        faa: d.faa,
+        height: d.height,
+    };
+    Data::Seven([
+        beacon.first_word(),
+        whole(d.range.0 >> 3),
+        range_azimuth(d.range, d.azimuth),
+        rest::<4>(d.azimuth.0.into())
+            + flag::<5>(d.alert)
+            + flag::<8>(d.relay)
+            + count::<4, 12>(d.time.0.into()),
+        count::<12, 12>(d.address >> 12),
+        rest::<12>(d.address),
+        height_last(d.height, form),
+    ])
 }
 
 fn atcrbs_data(a: Atcrbs, form: Form) -> Data
     ensures { result ≡ data_by (atcrbs_layout (form_of form) a) }
 {
-    let height = a.height;
-    let code = whole(a.code as u32);
-    let file = whole(a.file as u32);
-    let first = beacon_first(
-        a.test,
-        false,
-        a.mode3a,
-        a.spi,
-        a.reinforced,
-        a.code7700,
-        a.code7600,
-        a.faa,
-        height,
-    );
-    let fourth = atcrbs_fourth(
-        a.azimuth.0,
-        a.confidence,
-        a.transition,
-        a.false_target,
-        a.relay,
-        a.time.0,
-    );
-    Data::Seven(
-        first,
-        whole(a.range.0 as u32 / THREE_BITS),
-        range_azimuth(a.range.0, a.azimuth.0),
-        fourth,
-        code,
-        file,
-        height_last(height, form),
-    )
+    let beacon = Beacon {
+        test: a.test,
+        dabs: false,
+        fifth: a.mode3a,
+        spi: a.spi,
+        reinforced: a.reinforced,
+        code7700: a.code7700,
+        code7600: a.code7600,
+        faa: a.faa,
+        height: a.height,
+    };
+    let flags = flag::<5>(a.confidence)
+        + flag::<6>(a.transition)
+        + flag::<7>(a.false_target)
+        + flag::<8>(a.relay);
+    Data::Seven([
+        beacon.first_word(),
+        whole(a.range.0 >> 3),
+        range_azimuth(a.range, a.azimuth),
+        rest::<4>(a.azimuth.0.into()) + flags + count::<4, 12>(a.time.0.into()),
+        whole(a.code),
+        whole(a.file),
+        height_last(a.height, form),
+    ])
 }
 
 fn mtd_data(m: Mtd) -> Data
     ensures { result ≡ data_by (mtd_layout m) }
 {
-    Data::Seven(
+    let flags = flag::<7>(m.false_target) + flag::<8>(m.ground_traffic);
+    Data::Seven([
         radar_first(m.test, m.faa),
-        whole(m.range.0 as u32 / THREE_BITS),
-        range_azimuth(m.range.0, m.azimuth.0),
-        radar_fourth(m.azimuth.0, m.aims, m.time.0),
-        dopplers(m.doppler1, m.doppler2),
-        whole(m.file as u32),
-        mtd_last(m.quality, m.confidence, m.false_target, m.ground_traffic),
-    )
+        whole(m.range.0 >> 3),
+        range_azimuth(m.range, m.azimuth),
+        radar_fourth(m.azimuth, m.aims, m.time),
+        count::<6, 6>(m.doppler1.into()) + count::<6, 12>(m.doppler2.into()),
+        whole(m.file),
+        count::<2, 2>(m.quality.into())
+            + count::<4, 6>(m.confidence.into())
+            + flags
+            + count::<3, 12>(forms::MTD_SEARCH_CODE.into()),
+    ])
 }
 
 fn rdas_data(r: Rdas) -> Data
     ensures { result ≡ data_by (rdas_layout r) }
 {
-    Data::Seven(
+    Data::Seven([
         radar_first(r.test, r.faa),
-        whole(r.range.0 as u32 / THREE_BITS),
-        range_azimuth(r.range.0, r.azimuth.0),
-        radar_fourth(r.azimuth.0, r.aims, r.time.0),
+        whole(r.range.0 >> 3),
+        range_azimuth(r.range, r.azimuth),
+        radar_fourth(r.azimuth, r.aims, r.time),
         0,
-        whole(r.file as u32),
-        rdas_last(r.quality, r.false_target),
-    )
+        whole(r.file),
+        count::<4, 4>(r.quality.into())
+            + flag::<7>(r.false_target)
+            + count::<3, 12>(forms::RDAS_SEARCH_CODE.into()),
+    ])
 }
 
 fn data_of(report: Report, form: Form) -> Data
@@ -445,47 +333,26 @@ fn word_of(data: u32) -> u16
     words::word(data as u16) as u16
 }
 
-fn four_words(a: u32, b: u32, c: u32, d: u32) -> Result<Words, LineRefusal>
-    ensures { result ≡ from_data (Data.Four a b c d) }
+// The words of such data, where no number is above 4095.
+fn words_or_refusal<const N: usize>(each: [u32; N]) -> Result<[u16; N], LineRefusal>
+    ensures { result ≡ words_or_11 each.entry }
 {
-    let over = a / TOO_LARGE + b / TOO_LARGE + c / TOO_LARGE + d / TOO_LARGE;
-    if over != 0 {
+    if each.iter().any(|&d| d >= TOO_LARGE.into()) {
         return Err(LineRefusal::ValueTooLarge);
     }
-    Ok(Words::Four([word_of(a), word_of(b), word_of(c), word_of(d)]))
-}
-
-fn seven_words(a: u32, b: u32, c: u32, d: u32, e: u32, f: u32, g: u32) -> Result<Words, LineRefusal>
-    ensures { result ≡ from_data (Data.Seven a b c d e f g) }
-{
-    let over = a / TOO_LARGE
-        + b / TOO_LARGE
-        + c / TOO_LARGE
-        + d / TOO_LARGE
-        + e / TOO_LARGE
-        + f / TOO_LARGE
-        + g / TOO_LARGE;
-    if over != 0 {
-        return Err(LineRefusal::ValueTooLarge);
+    let mut words = [0; N];
+    for (i, word) in words.iter_mut().enumerate() {
+        *word = word_of(each[i]);
     }
-    Ok(Words::Seven([
-        word_of(a),
-        word_of(b),
-        word_of(c),
-        word_of(d),
-        word_of(e),
-        word_of(f),
-        word_of(g),
-    ]))
+    Ok(words)
 }
 
 // A report's words, its altitude in the form; or refusal 11.
 pub fn words_of(report: Report, form: Form) -> Result<Words, LineRefusal>
     ensures { result ≡ written (form_of form) report }
 {
-    let data = data_of(report, form);
-    match data {
-        Data::Four(a, b, c, d) => four_words(a, b, c, d),
-        Data::Seven(a, b, c, d, e, f, g) => seven_words(a, b, c, d, e, f, g),
+    match data_of(report, form) {
+        Data::Four(each) => words_or_refusal(each).map(Words::Four),
+        Data::Seven(each) => words_or_refusal(each).map(Words::Seven),
     }
 }

@@ -1,6 +1,6 @@
 -- The words of a record: the tables' columns once more, by widths, with a word a line. Only DABS and ATCRBS hold an altitude, so only they
 -- take its form. Definitions only.
-use Rattle.std.specs.Prelude.{ℕ, ◌/◌, ◌^◌, ◌≡◌, Bool, true, false, cond, List, [], ◌∷◌, eqb, length, get_or, Err, Ok, Result}
+use Rattle.std.specs.Prelude.{ℕ, ◌/◌, ◌^◌, ◌≡◌, Bool, true, false, cond, List, [], ◌∷◌, eqb, length, Err, Ok, Result}
 use Rattle.refusals.specs.declared.LineRefusal.TheVariants.{ValueTooLarge}
 use Rattle.words.specs.Layout.{Field, flag, count, rest, fixed, spare, words_by, fitting_by}
 use Rattle.reports.specs.declared.Search.{Search}

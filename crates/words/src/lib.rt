@@ -5,7 +5,7 @@
 ghost use Rattle.std.specs.Prelude.{◌≡◌, eqb};
 ghost use Rattle.words.specs.Word.{idle, wider_than_a_word, odd, word_of};
 
-pub mod weights; // weights.rt: the bits of a word by name
+pub mod weights; // weights.rt: how many values bits have
 
 // The idle word, 000 111 111 111 1.
 pub const IDLE: u16 = 1023;
