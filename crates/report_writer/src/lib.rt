@@ -32,7 +32,7 @@ enum Data {
     Seven([u32; 7]),
 }
 
-// What no twelve bits are.
+// The least number that twelve bits cannot hold.
 const TOO_LARGE: u16 = weights::TWELVE_BITS;
 
 // ---- words that several reports have
@@ -105,6 +105,7 @@ fn radar_of(h: Height) -> bool
     !matches!(h, Height::Altitude(_) | Height::Carried(_))
 }
 
+// An altitude that has no twelve bits in the form becomes a number that is too large.
 fn height_last(h: Height, form: Form) -> u32
     ensures { result ≡ data_or_more (last_word (form_of form) h) }
 {
@@ -120,7 +121,7 @@ fn height_last(h: Height, form: Form) -> u32
     }
 }
 
-// What the first word of DABS and of ATCRBS has; the height tells bits 6 and 12.
+// What the first word of DABS and of ATCRBS has: bit 4 tells which of the two, bit 5 is primary or mode 3/A, and the height tells bits 6 and 12.
 #[derive(Clone, Copy)]
 struct Beacon {
     test: bool,
@@ -333,7 +334,7 @@ fn word_of(data: u32) -> u16
     words::word(data as u16) as u16
 }
 
-// The words of such data, where no number is above 4095.
+// The words of such data; refusal 11 where a number is above 4095.
 fn words_or_refusal<const N: usize>(each: [u32; N]) -> Result<[u16; N], LineRefusal>
     ensures { result ≡ words_or_11 each.entry }
 {
