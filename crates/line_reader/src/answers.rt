@@ -46,7 +46,8 @@ fn set_at(first: usize, n: usize, answer: Result<Report, RunRefusal>) -> Outcome
 
 impl Places {
     // The answer to the run, whose first seven words are handed in, with 0 for those past its end; the end where it has no word. Where the run
-    // has a fault its words do not matter. Altitudes are read in the form.
+    // has a fault its words do not matter. Altitudes are read in the form. Inlined, so that the seven words need not go through memory.
+    #[inline(always)]
     pub fn answer(self, words: [u16; 7], form: Form) -> Outcome
         ensures { result ≡ answered (form_of form) self words }
     {

@@ -122,14 +122,6 @@ taken_room why n place form r x e = go (takes form r) refl
 
 -- ---- a call
 
--- what is left where two leaves have put words and an idle word
-pub left_law : {U : Type 0} (into : List U → ℕ → List ℕ → List U) (line mid exit : List U) (place next : ℕ) (ws vs : List ℕ)
-    → ws ≡ vs → next ≡ place + length ws + 1 → mid ≡ into line place ws → exit ≡ into mid (next - 1) (idle ∷ [])
-    → exit ≡ into (into line place vs) (place + length vs) (idle ∷ [])
-left_law into line mid exit place next ws vs e n m x =
-    let k : next - 1 ≡ place + length ws = omega arith in
-    x ∙ (λ i. into (m i) (k i) (idle ∷ [])) ∙ ap (λ (l : List ℕ). into (into line place l) (place + length l) (idle ∷ [])) e
-
 pub wide_writes : (form : AltitudeForm) (line exit : List ℕ) (place : ℕ) (r : Report) (w : Result ℕ NotWritten)
     → w ≡ lent_answer (wide_refused (length line)) (length line) place (written form r)
     → exit ≡ left_by put w line place (handed (written form r)) → Writes form line place r w exit
