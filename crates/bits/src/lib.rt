@@ -213,6 +213,7 @@ fn put_near(s: &mut [u8], before: usize, n: usize, v: u64)
 {
     let mut rest = v;
     let mut k = n;
+    // not a `for`: a step takes as many bits as the byte holds
     while 0 < k {
         let w = in_last(before + k, k);
         put_part(s, before + (k - w), w, rest);

@@ -1,10 +1,8 @@
 -- What the steps of the reader and of the writer leave to the next one; no caller of theirs sees it. Definitions only.
-use Rattle.std.specs.Prelude.{ℕ, ◌+◌, ◌-◌, ◌*◌, ◌/◌, ◌%◌, ◌^◌, ◌≤◌, ◌<◌, ◌≡◌, Bool, false, cond, List, [], ◌∷◌, length, replicate}
+use Rattle.std.specs.Prelude.{ℕ, ◌+◌, ◌-◌, ◌*◌, ◌/◌, ◌%◌, ◌^◌, ◌≤◌, ◌<◌, ◌≡◌, Bool, false, cond, List, [], ◌∷◌, length, replicate, Ok}
 use Rattle.std.specs.Int.Bits.{bit_and, bit_xor}
 use Rattle.bits.specs.Bits.{bits_of}
 use Rattle.fields.specs.declared.Direction.{Direction}
-use Rattle.frames.specs.declared.Wrote.{Wrote}
-use Rattle.frames.specs.declared.Wrote.TheVariants as P
 use Rattle.frames.specs.Stream.{bits_from, put_all, number, digits}
 use Rattle.frames.specs.Check.{preset, feed}
 use Rattle.frames.specs.declared.FrameRefusal.TheVariants as R
@@ -30,11 +28,11 @@ addressed_body b = cond (unknown_address b) (refused R.UnknownAddress) (accepted
 abbrev pub behind_flag : ℕ → List Bool → Found
 behind_flag place s = let o = read_bits false s in found_at (place + o.on) o.answer
 
--- what the writer decides: its answer, and, if it writes, the m bits that it puts between the flags
+-- what the writer decides where it writes: its answer, and the m bits that it puts between the flags
 pub record DecidedIs
-    (len count place : ℕ) (way : Direction) (control : ℕ) (field : List ℕ) (n : ℕ) (wrote : Wrote) (bytes : List ℕ) (m : ℕ) : Type 0 where
-  pub wrote_is : wrote ≡ write_frame len count place way control field n
-  pub between_is : (p : ℕ) → wrote ≡ P.Closing p → bits_from bytes 0 m ≡ between (given way control field n)
+    (len count place : ℕ) (way : Direction) (control : ℕ) (field : List ℕ) (n : ℕ) (closing : ℕ) (bytes : List ℕ) (m : ℕ) : Type 0 where
+  pub closing_is : Ok closing ≡ write_frame len count place way control field n
+  pub between_is : bits_from bytes 0 m ≡ between (given way control field n)
 
 -- ---- inserted zeros, by runs of bits
 
