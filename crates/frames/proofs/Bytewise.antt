@@ -9,7 +9,9 @@ use native.Mathlib.Nat.{zero-mul, zero-add, add-mul, mul_assoc}
 use native.Mathlib.Omega.{arith}
 use lib.Bits.{bit_xor, xor_block, xor_shr, xor_mod, xor_comm, xor_zero_r, xor_lt, xor_shifted}
 use lib.Dec.{T, eqb, eqb→eq}
-use lib.ListN.{length, get_or, replicate, length-append, length-replicate}
+use lib.ListN.{length, get_or, take, replicate, length-append, length-replicate}
+use lib.Seq.{length-take-le}
+use Rattle.std.proofs.lemmas.List.{get_or-take}
 use lib.Pow.{pow-add, shl_lt, shl-shr}
 use Rattle.bits.specs.Bits.{bit_at}
 use Rattle.bits.proofs.Laws.{byte_is}
@@ -170,6 +172,15 @@ byte_on s i x r e l h =
     let n : (i + 1) * 8 ≡ p + 8 = omega arith in
     let b : number (bits_from s p 8) ≡ x = number_bits_from s p 8 ∙ sym (byte_is s i x e l) in
     rw (n, h, ← b) (feed_on s p 8 ∙ byte_fed (feed preset (bits_from s 0 p)) (bits_from s p 8) (sixteen s p) (length-bits_from s p 8))
+
+-- the first m bytes have the bits that they have in all of them
+front : (s : List ℕ) (m p n : ℕ) → p + n ≤ m * 8 → bits_from (take m s) p n ≡ bits_from s p n
+unfolding bits_from bit_at
+front s m p zero h = refl
+front s m p (suc n) h = rw (get_or-take m s (p / 8) 0 (omega arith), front s m (p + 1) n (omega arith)) refl
+
+pub front_fed : (s : List ℕ) (m : ℕ) → m ≤ length s → register_at (take m s) (length (take m s) * 8) ≡ register_at s (m * 8)
+front_fed s m h = rw (length-take-le m s h, front s m 0 (m * 8) (omega arith)) refl
 
 -- and at the end the complement
 pub check_is : (s : List ℕ) (n r : ℕ) → r ≡ register_at s n → 65535 - r ≡ number (check_of (bits_from s 0 n))

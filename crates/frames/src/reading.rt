@@ -8,7 +8,7 @@ ghost use Rattle.frames.specs.Reading.{accepted, begins, control_in, field_in, j
 ghost use Rattle.frames.specs.Steps.{addressed_body, behind_flag};
 
 use crate::check::check;
-use crate::flag::{closing, flag_at, past_flags};
+use crate::flag::Stream;
 use crate::inserted::{Body, body_of};
 use crate::stream::{copy_bits, count_over};
 use crate::{
@@ -90,16 +90,17 @@ fn judged(body: Body, place: usize) -> Found
 }
 
 // What stands at a place where a flag begins.
-fn behind_flag(b: &[u8], count: usize, place: usize) -> Found
-    requires { begins flag (stream_at b.now count place) ≡ true }
-    ensures { result ≡ behind_flag place (stream_at b.now count place) }
+fn behind_flag(stream: Stream, place: usize) -> Found
+    requires { begins flag (stream_at stream.bytes.now stream.count place) ≡ true }
+    ensures { result ≡ behind_flag place (stream_at stream.entry.bytes.now stream.entry.count place) }
 {
-    let from = past_flags(b, count, place);
+    let count = stream.count;
+    let from = stream.past_flags(place);
     if from == count {
         return nothing(What::End, count);
     }
-    let to = closing(b, count, from);
-    let body = body_of(b, from, to);
+    let to = stream.closing(from);
+    let body = body_of(stream.bytes, from, to);
     if body.missing {
         return nothing(What::Refused(FrameRefusal::ZeroMissing), place);
     }
@@ -113,11 +114,9 @@ fn behind_flag(b: &[u8], count: usize, place: usize) -> Found
 pub fn read(b: &[u8], count: usize, place: usize) -> Found
     ensures { result ≡ read_frame b.now count place }
 {
-    if count_over(b.len(), count) {
+    let stream = Stream { bytes: b, count };
+    if count_over(b.len(), count) || !stream.flag_at(place) {
         return nothing(What::Refused(FrameRefusal::CountOrFlag), place);
     }
-    if flag_at(b, count, place) {
-        return behind_flag(b, count, place);
-    }
-    nothing(What::Refused(FrameRefusal::CountOrFlag), place)
+    behind_flag(stream, place)
 }

@@ -12,17 +12,17 @@ use Rattle.frames.proofs.reading.behind_flag.Goals as goal
 use Rattle.frames.proofs.reading.behind_flag.Goals.{After-body_of-body, After-past_flags-from}
 
 -- what the searches gave
-opened : (c : After-past_flags-from) → let a = c.args in Opened a.b.now a.count a.place c.past_flags-from.result
+opened : (c : After-past_flags-from) → let a = c.args in Opened a.stream.bytes.now a.stream.count a.place c.past_flags-from.result
 opened c =
     let f = c.past_flags-from.ensures in
     record { flagged = c.requires; later = f.0; within = f.1; opens = f.2 }
 
 -- whether a zero is missing
 missing : (c : After-body_of-body) → let a = c.args in
-    zero_missing 0 (stretch (stream_at a.b.now a.count a.place)) ≡ c.body_of-body.result.missing
+    zero_missing 0 (stretch (stream_at a.stream.bytes.now a.stream.count a.place)) ≡ c.body_of-body.result.missing
 missing c =
     let f = c.past_flags-from.ensures in
-    let o : Opened c.args.b.now c.args.count c.args.place c.past_flags-from.result =
+    let o : Opened c.args.stream.bytes.now c.args.stream.count c.args.place c.past_flags-from.result =
     record { flagged = c.requires; later = f.0; within = f.1; opens = f.2 } in
     ap (zero_missing 0) (sym (stretch_is o _ c.if-from-count.false c.closing-to.ensures)) ∙ sym c.body_of-body.ensures.missing_is
 

@@ -25,9 +25,9 @@ between_is c = c.with_zeros-between.ensures.0 ∙ ap (with_zeros 0) c.body_of.en
 pub returns-then-count_over-clause-err : goal.returns-then-count_over-clause-err
 returns-then-count_over-clause-err c =
     elim c.then-count_over.branch [
-      then-count_over-via-then-count_over w ↦ bytes_over _ _ _ _ _ _ _ (sym w.if-count_over.ensures)
-    | then-count_over-via-else-count_over+then-count_over-2 w ↦
-      field_over _ _ _ _ _ _ _ (sym w.if-count_over.ensures) (sym w.if-count_over-2.ensures)
+      | then-count_over-via-then-count_over w ↦ bytes_over _ _ _ _ _ _ _ (sym w.if-count_over.ensures)
+      | then-count_over-via-else-count_over+then-count_over-2 w ↦
+          field_over _ _ _ _ _ _ _ (sym w.if-count_over.ensures) (sym w.if-count_over-2.ensures)
     ]
 
 pub returns-then-frame-gt-MOST_OF_FIELD-clause-err : goal.returns-then-frame-gt-MOST_OF_FIELD-clause-err
