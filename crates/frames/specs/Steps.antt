@@ -14,11 +14,11 @@ use Rattle.frames.specs.Writing.{given, write_frame}
 
 -- ---- the reader and the writer
 
--- a stretch without its inserted zeros: how many bits, and the bits in 255 bytes, as many as there is room for; or a zero is missing
-pub record BodyIs (stretch : List Bool) (bytes : List ℕ) (count : ℕ) (missing : Bool) : Type 0 where
-  pub missing_is : missing ≡ zero_missing 0 stretch
-  pub count_is : zero_missing 0 stretch ≡ false → count ≡ length (zeros_out 0 stretch)
-  pub bytes_are : zero_missing 0 stretch ≡ false → bytes ≡ put_all (replicate 255 0) 0 (zeros_out 0 stretch)
+-- a stretch in which no zero is missing, without its inserted zeros: how many bits, and the bits in 255 bytes, as many as there is room for
+pub record BodyIs (stretch : List Bool) (bytes : List ℕ) (count : ℕ) : Type 0 where
+  pub none_missing : zero_missing 0 stretch ≡ false
+  pub count_is : count ≡ length (zeros_out 0 stretch)
+  pub bytes_are : bytes ≡ put_all (replicate 255 0) 0 (zeros_out 0 stretch)
 
 -- the answer of a body whose length and check sequence are right
 abbrev pub addressed_body : List Bool → Answer

@@ -9,7 +9,7 @@ ghost use Rattle.frames.specs.Steps.{DecidedIs};
 
 use crate::check::check;
 use crate::flag::FLAG;
-use crate::inserted::{Stuffed, with_zeros};
+use crate::inserted::{Filled, with_zeros};
 use crate::stream::{copy_bits, count_over};
 use crate::{
     CHECK_BITS, FEWEST, FROM_SENSOR, FrameRefusal, HEAD_BITS, MOST_OF_FIELD, NotWritten, TO_SENSOR,
@@ -53,7 +53,7 @@ fn body_of(frame: Given) -> [u8; 255]
 #[derive(Clone, Copy)]
 struct Decided {
     closing: usize,
-    between: Stuffed,
+    between: Filled<306>,
 }
 
 // What the writer decides, on so many bytes.
@@ -94,13 +94,13 @@ pub fn answer(length: usize, count: usize, place: usize, frame: Given) -> Result
     Ok(deciding(length, count, place, frame)?.closing)
 }
 
-// Puts a frame that has the first n bits of b between its flags; the closing one is at the end.
-fn put_frame(s: &mut [u8], place: usize, end: usize, b: &[u8], n: usize)
-    requires { (place + 8 + n ≡ end) × (end + 8 ≤ length s.old * 8) }
-    ensures { s.new ≡ put_all s.old place (flag ++ (bits_from b.now 0 n ++ flag)) }
+// Puts a frame that has these bits between its flags; the closing one is at the end.
+fn put_frame(s: &mut [u8], place: usize, end: usize, between: &Filled<306>)
+    requires { (place + 8 + between.now.count ≡ end) × (end + 8 ≤ length s.old * 8) }
+    ensures { s.new ≡ put_all s.old place (flag ++ (bits_from between.now.bytes 0 between.now.count ++ flag)) }
 {
     bits::write(s, place, 8, FLAG);
-    copy_bits(s, place + 8, b, 0, n);
+    copy_bits(s, place + 8, &between.bytes, 0, between.count);
     bits::write(s, end, 8, FLAG);
 }
 
@@ -109,7 +109,6 @@ pub fn write(b: &mut [u8], count: usize, place: usize, frame: Given) -> Result<u
     ensures { Writes b.old count place frame.entry.way frame.entry.control frame.entry.field.now frame.entry.count result b.new }
 {
     let decided = deciding(b.len(), count, place, frame)?;
-    let between = decided.between;
-    put_frame(b, place, decided.closing, &between.bytes, between.count);
+    put_frame(b, place, decided.closing, &decided.between);
     Ok(decided.closing)
 }

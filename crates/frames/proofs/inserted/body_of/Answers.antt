@@ -13,8 +13,7 @@ use Rattle.bits.proofs.Laws.{bits_of-lt, whole}
 use Rattle.frames.specs.Stream.{bits_from, put_all}
 use Rattle.frames.specs.Zeros.{zeros_out, zero_missing}
 use Rattle.frames.specs.Reading.{stream_at}
-use Rattle.frames.specs.Steps.{BodyIs, RunIs}
-use Rattle.frames.proofs.Tests.{differ}
+use Rattle.frames.specs.Steps.{RunIs}
 use Rattle.frames.proofs.Streamed.{length-bits_from, stream_cons, stream_none, stream_join}
 use Rattle.frames.proofs.Runs.{run_out, run_missing, run_there}
 use Rattle.frames.proofs.Filled.{filled, filled_read}
@@ -74,41 +73,40 @@ module _ {b : List ℕ} {from to : ℕ} {bytes : List ℕ} {count n p : ℕ} (d 
   unfolding zeros_out
   all_done l = d.out ∙ ap (λ (s : List Bool). d.done ++ zeros_out n s) (stream_none b to p l) ∙ append-nil d.done
 
--- where a zero is missing nothing else is said
-missing-body : {s : List Bool} (bytes : List ℕ) (count : ℕ) → zero_missing 0 s ≡ true → BodyIs s bytes count true
-missing-body bytes count e = record { missing_is = sym e; count_is = λ h. differ (sym e ∙ h); bytes_are = λ h. differ (sym e ∙ h) }
-
 pub loop-p-init : goal.loop-p-init
 unfolding put_all
 loop-p-init c =
-    record { within = (omega arith, omega arith); few = omega arith; done = []; out = refl; missing = refl; count_is = refl; bytes_are = refl }
+    record { within = (omega arith, omega arith); few = omega arith; done = []; out = refl; missing = refl; count_is = c.new-body.ensures.1; bytes_are = c.new-body.ensures.0 }
 
 pub returns-then-bit-eq1 : goal.returns-then-bit-eq1
-returns-then-bit-eq1 c =
-    missing-body _ _ (absent c.loop-p.invariant c.loop-p-test.true c.if-n-eq5.true (sym c.bit.ensures.0 ∙ c.if-bit-eq1.true))
+returns-then-bit-eq1 c = absent c.loop-p.invariant c.loop-p-test.true c.if-ones-eq5.true (sym c.bit.ensures.0 ∙ c.if-bit-eq1.true)
 
-pub loop-p-preserved-then-n-eq5 : goal.loop-p-preserved-then-n-eq5
-loop-p-preserved-then-n-eq5 c =
-    dropped c.loop-p.invariant c.loop-p-test.true c.if-n-eq5.true (λ e. c.if-bit-eq1.false (c.bit.ensures.0 ∙ e))
+pub loop-p-preserved-then-ones-eq5 : goal.loop-p-preserved-then-ones-eq5
+loop-p-preserved-then-ones-eq5 c =
+    dropped c.loop-p.invariant c.loop-p-test.true c.if-ones-eq5.true (λ e. c.if-bit-eq1.false (c.bit.ensures.0 ∙ e))
 
 pub run_of-run-requires : goal.run_of-run-requires
 run_of-run-requires c =
-    let m = c.looked_at-m.ensures in
+    let m = c.min-m.ensures in
     let few = c.loop-p.invariant.few in
-    let ne = c.if-n-eq5.false in
-    (omega (arith, ne), m.0, m.2, rw (c.read-x.ensures ∙ whole _ _ _ (omega (arith, m))) (bits_of-lt _ _ _))
+    let ne = c.if-ones-eq5.false in
+    (omega (arith, ne), omega arith, omega arith, rw (c.read-x.ensures ∙ whole _ _ _ (omega (arith, m))) (bits_of-lt _ _ _))
 
 pub loop-p-preserved : goal.loop-p-preserved
 loop-p-preserved c =
-    let m = c.looked_at-m.ensures in
-    kept c.loop-p.invariant c.looked_at-m.result c.read-x.result _ _ (omega (arith, m, c.loop-p-test.true)) (omega (arith, m)) c.read-x.ensures c.run_of-run.ensures _ c.write.ensures
+    let m = c.min-m.ensures in
+    let e = kept c.loop-p.invariant c.min-m.result c.read-x.result _ _ (omega (arith, m, c.loop-p-test.true)) (omega (arith, m)) c.read-x.ensures c.run_of-run.ensures _ c.put.ensures.0 in
+    rw (sym c.put.ensures.1) at e
 
-pub returns : goal.returns
-returns c =
+pub returns-then-ones-eq5-2 : goal.returns-then-ones-eq5-2
+returns-then-ones-eq5-2 c = at_end c.loop-p.invariant c.loop-p-test.false ∙ eq-eqb _ _ c.if-ones-eq5-2.true
+
+pub returns-else-ones-eq5-2 : goal.returns-else-ones-eq5-2
+returns-else-ones-eq5-2 c =
     let d = c.loop-p.invariant in
     let e = all_done d c.loop-p-test.false in
     record {
-      missing_is = sym (at_end d c.loop-p-test.false);
-      count_is = λ h. d.count_is ∙ ap length (sym e);
-      bytes_are = λ h. d.bytes_are ∙ ap filled (sym e);
+      none_missing = at_end d c.loop-p-test.false ∙ ne_eqb _ _ c.if-ones-eq5-2.false;
+      count_is = d.count_is ∙ ap length (sym e);
+      bytes_are = d.bytes_are ∙ ap filled (sym e);
     }

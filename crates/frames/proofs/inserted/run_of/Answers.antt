@@ -24,5 +24,5 @@ returns-then-five-eq0 c =
 pub overflow_sub-result : goal.overflow_sub-result
 overflow_sub-result c = (run-found ((goal.at.overflow_sub-result c).Else-five-eq0)).0
 
-pub returns : goal.returns
-returns c = (run-found ((goal.at.returns c).Else-five-eq0)).1
+pub returns-else-five-eq0 : goal.returns-else-five-eq0
+returns-else-five-eq0 c = (run-found ((goal.at.returns-else-five-eq0 c).Else-five-eq0)).1

@@ -51,22 +51,24 @@ unfolding put_all
 loop-i-init c =
     let a = c.args in
     let e : a.n - 0 ≡ a.n = omega arith in
-    record { within = (omega arith, omega arith, omega arith); done = []; comes = rw e refl; count_is = refl; bytes_are = refl }
+    record { within = (omega arith, omega arith, omega arith); done = []; comes = rw e refl; count_is = c.new-stuffed.ensures.1; bytes_are = c.new-stuffed.ensures.0 }
 
 pub run_of-run-requires : goal.run_of-run-requires
 run_of-run-requires c =
-    let m = c.looked_at-m.ensures in
-    (c.loop-i.invariant.within.1, m.0, m.2, rw (c.read-x.ensures ∙ whole _ _ _ (omega (arith, m))) (bits_of-lt _ _ _))
+    let m = c.min-m.ensures in
+    (c.loop-i.invariant.within.1, omega arith, omega arith, rw (c.read-x.ensures ∙ whole _ _ _ (omega (arith, m))) (bits_of-lt _ _ _))
 
 pub loop-i-preserved : goal.loop-i-preserved
 loop-i-preserved c =
-    let m = c.looked_at-m.ensures in
-    more c.loop-i.invariant c.looked_at-m.result c.read-x.result _ _ (omega (arith, m, c.loop-i-test.true)) (omega (arith, m)) c.read-x.ensures c.run_of-run.ensures _ c.write.ensures
+    let m = c.min-m.ensures in
+    let e = more c.loop-i.invariant c.min-m.result c.read-x.result _ _ (omega (arith, m, c.loop-i-test.true)) (omega (arith, m)) c.read-x.ensures c.run_of-run.ensures _ c.put.ensures.0 in
+    let n : c.loop-i.stuffed.count + (c.run_of-run.result.bits + c.run_of-run.result.ones / 5) ≡ c.put.new.self.count + c.run_of-run.result.ones / 5 = omega (arith, c.put.ensures.1) in
+    rw n at e
 
 pub returns : goal.returns
 returns c =
     let d = c.loop-i.invariant in
     let w = d.within in
     let few = c.requires in
-    let most : c.loop-i.count ≤ 2448 = omega arith in
+    let most : c.loop-i.stuffed.count ≤ 2448 = omega arith in
     (filled_are 306 d.done _ _ d.bytes_are (sym d.count_is) (omega arith) ∙ sym (all_done d c.loop-i-test.false), most)
