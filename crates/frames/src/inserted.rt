@@ -3,11 +3,11 @@
 // Relies on stream.rt for one bit, bits for many; specs/Zeros.antt says what inserted zeros are, specs/Steps.antt what a run is.
 ghost use Rattle.std.specs.Prelude.{◌≡◌, ◌+◌, ◌-◌, ◌*◌, ◌^◌, ◌≤◌, ◌<◌, true, replicate, MatchOption};
 ghost use Rattle.bits.specs.Bits.{put_bits};
-ghost use Rattle.frames.specs.Stream.{bits_from};
+ghost use Rattle.frames.specs.Stream.{bits_from, put_all};
 ghost use Rattle.frames.specs.Zeros.{with_zeros, zero_missing};
 ghost use Rattle.frames.specs.Steps.{BodyIs, RunIs, fives_in};
 
-use crate::stream::{CHUNK, bit};
+use crate::stream::{CHUNK, bit, copy_bits};
 
 // Bits that are put one behind the other into N bytes of zeros, and how many they are. Past the last byte nothing is put.
 // An array, not a Vec: the memory is fixed.
@@ -33,6 +33,15 @@ impl<const N: usize> Filled<N> {
         ensures { (self.new.bytes ≡ put_bits self.old.bytes self.old.count n x) × (self.new.count ≡ self.old.count + n) }
     {
         bits::write(&mut self.bytes, self.count, n, x);
+        self.count += n;
+    }
+
+    // Puts the first n bits of b.
+    pub fn put_bits_of(&mut self, b: &[u8], n: usize)
+        requires { self.old.count + n < 2 ^ 64 }
+        ensures { (self.new.bytes ≡ put_all self.old.bytes self.old.count (bits_from b.now 0 n)) × (self.new.count ≡ self.old.count + n) }
+    {
+        copy_bits(&mut self.bytes, self.count, b, 0, n);
         self.count += n;
     }
 }
@@ -110,18 +119,18 @@ pub fn body_of(b: &[u8], from: usize, to: usize) -> Option<Filled<255>>
     if ones == 5 { None } else { Some(body) }
 }
 
-// The first n bits of b with their inserted zeros: at most 2040 bits and 408 zeros.
-pub fn with_zeros(b: &[u8], n: usize) -> Filled<306>
-    requires { n ≤ 2040 }
-    ensures { (bits_from result.bytes 0 result.count ≡ with_zeros 0 (bits_from b.now 0 n)) × (result.count ≤ 2448) }
+// A body with its inserted zeros: at most 2040 bits and 408 zeros.
+pub fn with_zeros(body: &Filled<255>) -> Filled<306>
+    requires { body.now.count ≤ 2040 }
+    ensures { (bits_from result.bytes 0 result.count ≡ with_zeros 0 (bits_from body.now.bytes 0 body.now.count)) × (result.count ≤ 2448) }
 {
     let mut stuffed = Filled::new();
     let mut ones = 0;
     let mut i = 0;
     // not a `for`: a step is a run
-    while i < n {
-        let m = (n - i).min(CHUNK);
-        let x = bits::read(b, i, m);
+    while i < body.count {
+        let m = (body.count - i).min(CHUNK);
+        let x = bits::read(&body.bytes, i, m);
         let run = run_of(ones, m, x);
         stuffed.put(run.bits, x >> (m - run.bits));
         // behind five ones a zero, which is there already

@@ -11,9 +11,7 @@ use crate::check::check;
 use crate::flag::FLAG;
 use crate::inserted::{Filled, with_zeros};
 use crate::stream::{copy_bits, count_over};
-use crate::{
-    CHECK_BITS, FEWEST, FROM_SENSOR, FrameRefusal, HEAD_BITS, MOST_OF_FIELD, NotWritten, TO_SENSOR,
-};
+use crate::{CHECK_BITS, FROM_SENSOR, FrameRefusal, MOST_OF_FIELD, NotWritten, TO_SENSOR};
 use fields::Direction;
 
 // A frame as the writer is given it: which way it travels, its control, and its field, the first `count` bits of bytes.
@@ -35,18 +33,17 @@ fn address_of(way: Direction) -> u64
 }
 
 // The body of a frame: address, control, field, check sequence.
-fn body_of(frame: Given) -> [u8; 255]
+fn body_of(frame: Given) -> Filled<255>
     requires { frame.count ≤ 2008 }
-    ensures { bits_from result 0 (frame.entry.count + 32) ≡ body (given frame.entry.way frame.entry.control frame.entry.field.now frame.entry.count) }
+    ensures { (bits_from result.bytes 0 result.count ≡ body (given frame.entry.way frame.entry.control frame.entry.field.now frame.entry.count)) × (result.count ≡ frame.entry.count + 32) }
 {
-    let n = frame.count;
-    let mut bytes = [0u8; 255];
-    bits::write(&mut bytes, 0, 8, address_of(frame.way));
-    bits::write(&mut bytes, 8, 8, frame.control as u64);
-    copy_bits(&mut bytes, HEAD_BITS, frame.field, 0, n);
-    let sequence = check(&bytes, n + HEAD_BITS);
-    bits::write(&mut bytes, n + HEAD_BITS, CHECK_BITS, sequence);
-    bytes
+    let mut body = Filled::new();
+    body.put(8, address_of(frame.way));
+    body.put(8, frame.control as u64);
+    body.put_bits_of(frame.field, frame.count);
+    let sequence = check(&body.bytes, body.count);
+    body.put(CHECK_BITS, sequence);
+    body
 }
 
 // The place of the closing flag, and what stands between the flags.
@@ -73,7 +70,7 @@ fn deciding(length: usize, count: usize, place: usize, frame: Given) -> Result<D
             place,
         });
     }
-    let between = with_zeros(&body_of(frame), frame.count + FEWEST);
+    let between = with_zeros(&body_of(frame));
     // the two flags have sixteen bits
     if count.saturating_sub(place) < between.count + 16 {
         return Err(NotWritten {

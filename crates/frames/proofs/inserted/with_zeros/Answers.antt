@@ -50,7 +50,7 @@ pub loop-i-init : goal.loop-i-init
 unfolding put_all
 loop-i-init c =
     let a = c.args in
-    let e : a.n - 0 ≡ a.n = omega arith in
+    let e : a.body.now.count - 0 ≡ a.body.now.count = omega arith in
     record { within = (omega arith, omega arith, omega arith); done = []; comes = rw e refl; count_is = c.new-stuffed.ensures.1; bytes_are = c.new-stuffed.ensures.0 }
 
 pub run_of-run-requires : goal.run_of-run-requires

@@ -20,7 +20,7 @@ lent-and-full c = (sym c.if-count_over.ensures, sym c.if-count_over-2.ensures)
 -- what stands between the flags
 between_is : (c : After-with_zeros-between) → let f = c.args.frame in
     bits_from c.with_zeros-between.result.bytes 0 c.with_zeros-between.result.count ≡ between (given f.way f.control f.field.now f.count)
-between_is c = c.with_zeros-between.ensures.0 ∙ ap (with_zeros 0) c.body_of.ensures
+between_is c = c.with_zeros-between.ensures.0 ∙ ap (with_zeros 0) c.body_of.ensures.0
 
 pub returns-then-count_over-clause-err : goal.returns-then-count_over-clause-err
 returns-then-count_over-clause-err c =
