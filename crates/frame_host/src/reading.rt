@@ -100,13 +100,6 @@ pub extern "C" fn siamrung_frame_field_count(bytes: &[u8], count: usize, place: 
 
 // ---- its field
 
-// How many bytes a field of so many bits takes.
-fn size_of(count: usize) -> usize
-    ensures { result ≡ (count + 7) / 8 }
-{
-    count / 8 + (count % 8 + 7) / 8
-}
-
 // Copies the field, or nothing where it does not fit. Answers how many bytes it wrote.
 #[tactic(auto, using(crate::proofs::Fields::count_most))]
 #[unsafe(no_mangle)]
@@ -120,7 +113,7 @@ pub extern "C" fn siamrung_frame_field(
     ensures left { field.new ≡ field_left (read_frame bytes.now count place) field.old }
 {
     let found = frames::reading::read(bytes, count, place);
-    let n = size_of(count_of(found.what));
+    let n = count_of(found.what).div_ceil(8);
     if field.len() < n {
         return 0;
     }

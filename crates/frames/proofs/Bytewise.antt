@@ -7,7 +7,7 @@ use mathlib.Core.List.{List, [], ◌∷◌, ◌++◌}
 use native.Mathlib.Decide.{ℕ_discrete}
 use native.Mathlib.Nat.{zero-mul, zero-add, add-mul, mul_assoc}
 use native.Mathlib.Omega.{arith}
-use lib.Bits.{bit_xor, xor_block, xor_shr, xor_mod, xor_comm, xor_zero_r, xor_lt, xor_shifted}
+use lib.Bits.{bit_xor, xor_block, xor_shr, xor_mod, xor_comm, xor_zero_r, xor_shifted}
 use lib.Dec.{T, eqb, eqb→eq}
 use lib.ListN.{length, get_or, take, replicate, length-append, length-replicate}
 use lib.Seq.{length-take-le}
@@ -52,13 +52,6 @@ feed_behind (r ∷ rs) ds (suc k) e l =
     ∙ feed_behind (fed (r ∷ rs) false) ds k (length_fed (r ∷ rs) false e) (omega arith)
 
 -- ---- the remainder of eight bits
-
--- no product on the way to it is too large
-pub mixed_lt : (register byte : ℕ) → register < 65536 → byte < 256 → let x = bit_xor (register / 256) byte in bit_xor x (x / 16) < 256
-mixed_lt register byte h l =
-    let x = bit_xor (register / 256) byte in
-    let k : x < 256 = xor_lt 8 (register / 256) byte (omega arith) l in
-    xor_lt 8 x (x / 16) k (omega arith)
 
 -- a test that passes for every number below n: antt computes it
 abbrev both : Bool → Bool → Bool

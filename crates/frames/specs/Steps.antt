@@ -1,7 +1,7 @@
 -- What the steps of the reader and of the writer leave to the next one; no caller of theirs sees it. Definitions only.
 use Rattle.std.specs.Prelude.{ℕ, ◌+◌, ◌-◌, ◌*◌, ◌/◌, ◌%◌, ◌^◌, ◌≤◌, ◌<◌, ◌≡◌, Bool, false, cond, List, [], ◌∷◌, length, replicate, Ok}
 use Rattle.std.specs.Int.Bits.{bit_and, bit_xor}
-use Rattle.bits.specs.Bits.{bits_of}
+use Rattle.bits.specs.Bits.{bits_of, put_bits}
 use Rattle.fields.specs.declared.Direction.{Direction}
 use Rattle.frames.specs.Stream.{bits_from, put_all, number, digits}
 use Rattle.frames.specs.Check.{preset, feed}
@@ -51,6 +51,15 @@ pub record RunIs (n m x k o : ℕ) : Type 0 where
   pub within : k ≤ m
   pub few : o ≤ 5
   pub passes : Passes n (digits k (x / 2 ^ (m - k))) o
+
+-- of the bits left from p on, with n ones in front of them, the first k are such, and stand behind the first `count` of the bytes
+pub record RunPut (b : List ℕ) (p left n : ℕ) (bytes : List ℕ) (count k o : ℕ) (next : List ℕ) (total : ℕ) : Type 0 where
+  pub some : 0 < k
+  pub within : k ≤ left
+  pub few : o ≤ 5
+  pub passes : Passes n (bits_from b p k) o
+  pub put : next ≡ put_bits bytes count k (bits_of b p k)
+  pub counted : total ≡ count + k
 
 -- ---- the check sequence, by bytes
 

@@ -75,6 +75,7 @@ impl Stream<'_> {
         ensures { (place ≤ result) × (result ≤ self.entry.count) × (stream_at self.entry.bytes.now self.entry.count result ≡ past_flags 0 (stream_at self.entry.bytes.now self.entry.count place)) }
     {
         let mut p = place;
+        // not a `for`: only the flags tell how many there are
         while self.flag_at(p) {
             p += 8;
         }

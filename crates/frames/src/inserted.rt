@@ -5,7 +5,7 @@ ghost use Rattle.std.specs.Prelude.{◌≡◌, ◌+◌, ◌-◌, ◌*◌, ◌^�
 ghost use Rattle.bits.specs.Bits.{put_bits};
 ghost use Rattle.frames.specs.Stream.{bits_from, put_all};
 ghost use Rattle.frames.specs.Zeros.{with_zeros, zero_missing};
-ghost use Rattle.frames.specs.Steps.{BodyIs, RunIs, fives_in};
+ghost use Rattle.frames.specs.Steps.{BodyIs, RunIs, RunPut, fives_in};
 
 use crate::stream::{CHUNK, bit, copy_bits};
 
@@ -34,6 +34,19 @@ impl<const N: usize> Filled<N> {
     {
         bits::write(&mut self.bytes, self.count, n, x);
         self.count += n;
+    }
+
+    // Puts a run of b: of the bits left from p on, with so many ones in front of them, at most as many as one load holds, and no further than
+    // the fifth one in a row.
+    fn put_run(&mut self, b: &[u8], p: usize, left: usize, ones: usize) -> Run
+        requires { (0 < left) × (ones ≤ 4) × (self.old.count + left < 2 ^ 64) }
+        ensures { RunPut b.now p left ones self.old.bytes self.old.count result.bits result.ones self.new.bytes self.new.count }
+    {
+        let m = left.min(CHUNK);
+        let x = bits::read(b, p, m);
+        let run = run_of(ones, m, x);
+        self.put(run.bits, x >> (m - run.bits));
+        run
     }
 
     // Puts the first n bits of b.
@@ -107,11 +120,8 @@ pub fn body_of(b: &[u8], from: usize, to: usize) -> Option<Filled<255>>
             ones = 0;
             p += 1;
         } else {
-            let m = (to - p).min(CHUNK);
-            let x = bits::read(b, p, m);
-            let run = run_of(ones, m, x);
             // past the last byte nothing is put: so long a frame is refused
-            body.put(run.bits, x >> (m - run.bits));
+            let run = body.put_run(b, p, to - p, ones);
             p += run.bits;
             ones = run.ones;
         }
@@ -129,10 +139,7 @@ pub fn with_zeros(body: &Filled<255>) -> Filled<306>
     let mut i = 0;
     // not a `for`: a step is a run
     while i < body.count {
-        let m = (body.count - i).min(CHUNK);
-        let x = bits::read(&body.bytes, i, m);
-        let run = run_of(ones, m, x);
-        stuffed.put(run.bits, x >> (m - run.bits));
+        let run = stuffed.put_run(&body.bytes, i, body.count - i, ones);
         // behind five ones a zero, which is there already
         stuffed.count += run.ones / 5;
         ones = run.ones % 5;

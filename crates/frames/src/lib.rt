@@ -67,7 +67,8 @@ pub enum What {
     End,
 }
 
-// With it the place that is answered, and the field's bits: the first on top of the first byte, zeros behind the last.
+// With it the place that is answered, and the field's bits: the first on top of the first byte, zeros behind the last. An array, not a Vec:
+// the memory is fixed.
 #[derive(Clone, Copy)]
 pub struct Found {
     pub what: What,
