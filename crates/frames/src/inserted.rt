@@ -42,10 +42,10 @@ impl<const N: usize> Filled<N> {
         requires { (0 < left) × (ones ≤ 4) × (self.old.count + left < 2 ^ 64) }
         ensures { RunPut b.now p left ones self.old.bytes self.old.count result.bits result.ones self.new.bytes self.new.count }
     {
-        let m = left.min(CHUNK);
-        let x = bits::read(b, p, m);
-        let run = run_of(ones, m, x);
-        self.put(run.bits, x >> (m - run.bits));
+        let count = left.min(CHUNK);
+        let bits = bits::read(b, p, count);
+        let run = Part { ones, count, bits }.run();
+        self.put(run.bits, bits >> (count - run.bits));
         run
     }
 
@@ -57,14 +57,6 @@ impl<const N: usize> Filled<N> {
         copy_bits(&mut self.bytes, self.count, b, 0, n);
         self.count += n;
     }
-}
-
-// The m bits of x with n ones in front of them.
-fn behind_ones(n: usize, m: usize, x: u64) -> u64
-    requires { (n ≤ 4) × (m ≤ 56) × (x < 2 ^ m) }
-    ensures { (result ≡ (2 ^ n - 1) * 2 ^ m + x) × (result < 2 ^ 60) }
-{
-    (((1u64 << n) - 1) << m) + x
 }
 
 // The digits that are the fifth one in a row, or a later one.
@@ -82,22 +74,39 @@ struct Run {
     ones: usize,
 }
 
-// Of the m bits of x, with n ones in front of them, those up to the fifth one in a row; all, where there is none.
-fn run_of(n: usize, m: usize, x: u64) -> Run
-    requires { (n ≤ 4) × (0 < m) × (m ≤ 56) × (x < 2 ^ m) }
-    ensures { RunIs n m x result.bits result.ones }
-{
-    let y = behind_ones(n, m, x);
-    let five = fives(y);
-    if five == 0 {
-        Run {
-            bits: m,
-            ones: u64::trailing_zeros(y + 1) as usize,
-        }
-    } else {
-        Run {
-            bits: m + u64::leading_zeros(five) as usize - 63,
-            ones: 5,
+// Bits that were read, as the number that they make, and how many ones stand in front of them.
+#[derive(Clone, Copy)]
+struct Part {
+    ones: usize,
+    count: usize,
+    bits: u64,
+    ghost in_range: { (ones ≤ 4) × (0 < count) × (count ≤ 56) × (bits < 2 ^ count) },
+}
+
+impl Part {
+    // The number that the ones and the bits make.
+    fn behind_ones(self) -> u64
+        ensures { (result ≡ (2 ^ self.ones - 1) * 2 ^ self.count + self.bits) × (result < 2 ^ 60) }
+    {
+        (((1u64 << self.ones) - 1) << self.count) + self.bits
+    }
+
+    // The bits up to the fifth one in a row; all, where there is none.
+    fn run(self) -> Run
+        ensures { RunIs self.ones self.count self.bits result.bits result.ones }
+    {
+        let y = self.behind_ones();
+        let five = fives(y);
+        if five == 0 {
+            Run {
+                bits: self.count,
+                ones: u64::trailing_zeros(y + 1) as usize,
+            }
+        } else {
+            Run {
+                bits: self.count + u64::leading_zeros(five) as usize - 63,
+                ones: 5,
+            }
         }
     }
 }

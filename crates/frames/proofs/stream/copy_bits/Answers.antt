@@ -23,7 +23,7 @@ pub loop-k-preserved : goal.loop-k-preserved
 loop-k-preserved c =
     let l = c.loop-k in
     let e : l.k * 56 + 56 ≡ (l.k + 1) * 56 = omega arith in
-    rw e at (more l.invariant (are_bytes c.args.s.now (λ j. omega (arith, c.slice_known-1.given j))) 56 c.read.result _ (omega arith) c.read.ensures c.write.ensures)
+    rw e at (more l.invariant (are_bytes c.args.s.now (λ j. grind arith)) 56 c.read.result _ (omega arith) c.read.ensures c.write.ensures)
 
 pub returns : goal.returns
 returns c =
@@ -31,5 +31,5 @@ returns c =
     let n = c.args.n in
     let k : l.k ≡ n / 56 = omega arith in
     let e : n / 56 * 56 + (n - n / 56 * 56) ≡ n = omega arith in
-    let d = more (rw k at l.invariant) (are_bytes c.args.s.now (λ j. omega (arith, c.slice_known-1.given j))) (n - n / 56 * 56) c.read-2.result _ (omega arith) c.read-2.ensures c.write-2.ensures in
+    let d = more (rw k at l.invariant) (are_bytes c.args.s.now (λ j. grind arith)) (n - n / 56 * 56) c.read-2.result _ (omega arith) c.read-2.ensures c.write-2.ensures in
     rw e at d.is
