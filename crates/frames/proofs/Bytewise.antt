@@ -142,9 +142,6 @@ byte_fed rs ds e l =
 sixteen : (s : List ℕ) (p : ℕ) → length (feed preset (bits_from s 0 p)) ≡ 16
 sixteen s p = length_feed preset (bits_from s 0 p) refl
 
-pub register_lt : (s : List ℕ) (p : ℕ) → register_at s p < 65536
-register_lt s p = rw (sixteen s p) at (number_lt (feed preset (bits_from s 0 p)))
-
 -- the first p bits fed, and k more
 feed_on : (s : List ℕ) (p k : ℕ) → register_at s (p + k) ≡ number (feed (feed preset (bits_from s 0 p)) (bits_from s p k))
 feed_on s p k =

@@ -16,6 +16,7 @@ pub const FLAG: u64 = 0x7E;
 const WINDOW: usize = 57;
 
 // Where six ones stand in a row in w: for each six, a one at the lightest of them.
+#[tactic(auto, using(crate::proofs::Windows::six_ones))]
 fn six_ones(w: u64) -> u64
     ensures { SixOnes w result }
 {

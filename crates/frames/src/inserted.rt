@@ -60,6 +60,7 @@ impl<const N: usize> Filled<N> {
 }
 
 // The digits that are the fifth one in a row, or a later one.
+#[tactic(auto, unfolding(crate::specs::Steps::fives_in))]
 fn fives(y: u64) -> u64
     ensures { result ≡ fives_in y }
 {

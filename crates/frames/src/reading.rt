@@ -27,6 +27,7 @@ fn field_of(body: &Filled<255>, count: usize) -> [u8; 251]
 }
 
 // A refusal, or the end: the answered place, and no field.
+#[tactic(auto, unfolding(crate::specs::Stream::put_all))]
 fn nothing(what: What, place: usize) -> Found
     ensures { result ≡ record { what = what; place = place; field = field_bytes [] } }
 {
