@@ -9,7 +9,7 @@ ghost use Rattle.frames.specs.Reading.{count_over};
 // As many bits as one load of eight bytes always holds, in whole bytes.
 pub const CHUNK: usize = 56;
 
-// Past the end there are zeros.
+// Past the end there are zeros. Not by `digit` of bits, which takes a place in two parts: this one is called for each bit of a search.
 #[tactic(auto, unfolding(bits::specs::Bits::bit_at))]
 pub fn bit(b: &[u8], p: usize) -> u64
     ensures { (result ≡ bit_at b.now p) × (result < 2) }
