@@ -6,12 +6,6 @@
 ghost use Rattle.std.specs.Prelude.{◌≡◌, ◌+◌, ◌-◌, ◌*◌, ◌/◌, ◌%◌, ◌≤◌, ◌<◌, ◌^◌, length};
 ghost use Rattle.bits.specs.Bits.{bit_at, bits_of, with_digit, with_part, put_bit, put_bits};
 
-fn widened(x: u8) -> u64
-    ensures { (result ≡ x) × (result < 256) }
-{
-    x as u64
-}
-
 // The byte of the i-th bit after the first `before`: summed so that no place is too large.
 fn byte_of(before: usize, i: usize) -> usize
     ensures { result ≡ (before + i) / 8 }
@@ -27,23 +21,13 @@ fn behind(before: usize, i: usize) -> usize
 }
 
 // The i-th bit after the first `before`.
+#[tactic(auto, unfolding(crate::specs::Bits::bit_at))]
 fn digit(b: &[u8], before: usize, i: usize) -> u64
     ensures { result ≡ bit_at b.now (before + i) }
 {
-    let j = byte_of(before, i);
     let k = behind(before, i);
-    if j < b.len() {
-        (widened(b[j]) >> k) % 2
-    } else {
-        0
-    }
-}
-
-// Of n bits those that no number of 64 bits holds.
-fn beyond(n: usize) -> usize
-    ensures { result ≡ n - 64 }
-{
-    if 64 <= n { n - 64 } else { 0 }
+    b.get(byte_of(before, i))
+        .map_or(0, |x| (*x as u64 >> k) % 2)
 }
 
 // Bit by bit: the number that the n bits after the first `before` make, the first the heaviest; of more than 64 bits, that of the last 64.
@@ -52,10 +36,8 @@ fn by_digits(b: &[u8], before: usize, n: usize) -> u64
     ensures { result ≡ bits_of b.now before n % 2 ^ 64 }
 {
     let mut v: u64 = 0;
-    let mut i = beyond(n);
-    while i < n {
+    for i in n.saturating_sub(64)..n {
         v = v * 2 + digit(b, before, i);
-        i += 1;
     }
     v
 }
@@ -72,15 +54,15 @@ fn two(b: &[u8], j: usize) -> u64
     requires { j + 2 ≤ length b.now }
     ensures { (result ≡ bits_of b.now (j * 8) 16) × (result < 65536) }
 {
-    widened(b[j]) * 256 + widened(b[j + 1])
+    u16::from_be_bytes([b[j], b[j + 1]]) as u64
 }
 
-// Four bytes: one sum, byte after byte, of which the compiler makes one load.
+// Four bytes, of which the compiler makes one load.
 fn four(b: &[u8], j: usize) -> u64
     requires { j + 4 ≤ length b.now }
     ensures { (result ≡ bits_of b.now (j * 8) 32) × (result < 4294967296) }
 {
-    ((widened(b[j]) * 256 + widened(b[j + 1])) * 256 + widened(b[j + 2])) * 256 + widened(b[j + 3])
+    u32::from_be_bytes([b[j], b[j + 1], b[j + 2], b[j + 3]]) as u64
 }
 
 // Eight bytes: one load too.
@@ -98,15 +80,14 @@ fn few(b: &[u8]) -> u64
 {
     let len = b.len();
     if 4 <= len {
-        return four(b, 0) * 4294967296 + (four(b, len - 4) << (64 - 8 * len)) % 4294967296;
+        four(b, 0) * 4294967296 + (four(b, len - 4) << (64 - 8 * len)) % 4294967296
+    } else if 2 <= len {
+        (two(b, 0) * 65536 + (two(b, len - 2) << (32 - 8 * len)) % 65536) * 4294967296
+    } else if len == 1 {
+        (b[0] as u64) << 56
+    } else {
+        0
     }
-    if 2 <= len {
-        return (two(b, 0) * 65536 + (two(b, len - 2) << (32 - 8 * len)) % 65536) * 4294967296;
-    }
-    if len == 1 {
-        return widened(b[0]) << 56;
-    }
-    0
 }
 
 // The n bits of a number of 64 bits that stand behind its first `at`.
@@ -122,7 +103,7 @@ fn eight_from(i: usize, len: usize) -> usize
     requires { 8 ≤ len }
     ensures { (result ≤ i) × (result + 8 ≤ len) }
 {
-    if i <= len - 8 { i } else { len - 8 }
+    i.min(len - 8)
 }
 
 // A field that no eight bytes of the slice hold: past the end, over it, or over nine bytes; or of more than 64 bits.
@@ -130,9 +111,10 @@ fn apart(b: &[u8], before: usize, n: usize) -> u64
     ensures { result ≡ bits_of b.now before n % 2 ^ 64 }
 {
     if b.len() <= before / 8 {
-        return 0;
+        0
+    } else {
+        by_digits(b, before, n)
     }
-    by_digits(b, before, n)
 }
 
 // The number that the n bits after the first `before` make, the first the heaviest; of more than 64 bits, the number that the last 64 make.
@@ -175,6 +157,7 @@ fn put_digit(s: &mut [u8], before: usize, i: usize, v: u64)
 {
     let j = byte_of(before, i);
     let k = behind(before, i);
+    // not by `get_mut`: its contract says nothing of what the slice ends as
     if j < s.len() {
         s[j] = with_digit(s[j], k, v);
     }
@@ -185,11 +168,9 @@ fn put_digits(s: &mut [u8], before: usize, n: usize, v: u64)
     ensures { s.new ≡ put_bits s.old before n v }
 {
     let mut rest = v;
-    let mut k = n;
-    while 0 < k {
-        put_digit(s, before, k - 1, rest % 2);
-        rest = rest / 2;
-        k -= 1;
+    for k in (0..n).rev() {
+        put_digit(s, before, k, rest % 2);
+        rest /= 2;
     }
 }
 
@@ -211,6 +192,7 @@ fn put_part(s: &mut [u8], before: usize, w: usize, v: u64)
 {
     let j = before / 8;
     let k = 8 - before % 8 - w;
+    // not by `get_mut`: its contract says nothing of what the slice ends as
     if j < s.len() {
         s[j] = with_part(s[j], k, w, v % weight(w));
     }
@@ -221,8 +203,7 @@ fn in_last(end: usize, k: usize) -> usize
     requires { (0 < k) × (k ≤ end) }
     ensures { (0 < result) × (result ≤ k) × ((end - result) % 8 + result ≤ 8) }
 {
-    let w = (end - 1) % 8 + 1;
-    if w <= k { w } else { k }
+    k.min((end - 1) % 8 + 1)
 }
 
 // Byte by byte, the last one first.
@@ -232,10 +213,11 @@ fn put_near(s: &mut [u8], before: usize, n: usize, v: u64)
 {
     let mut rest = v;
     let mut k = n;
+    // not a `for`: a step takes as many bits as the byte holds
     while 0 < k {
         let w = in_last(before + k, k);
         put_part(s, before + (k - w), w, rest);
-        rest = rest / weight(w);
+        rest /= weight(w);
         k -= w;
     }
 }
@@ -252,15 +234,9 @@ fn put_byte(s: &mut [u8], before: usize, v: u64)
 pub fn write(s: &mut [u8], before: usize, n: usize, v: u64)
     ensures { s.new ≡ put_bits s.old before n v }
 {
-    if n == 8 {
-        if before % 8 == 0 {
-            put_byte(s, before, v);
-            return;
-        }
-    }
-    if 4294967296 < before {
-        put_digits(s, before, n, v);
-    } else if n <= 64 {
+    if n == 8 && before % 8 == 0 {
+        put_byte(s, before, v);
+    } else if n <= 64 && before <= 4294967296 {
         put_near(s, before, n, v);
     } else {
         put_digits(s, before, n, v);

@@ -1,13 +1,12 @@
 -- What each call of frames answers, from what the reader and the writer of frames answer. Definitions only.
-use Rattle.std.specs.Prelude.{ℕ, ◌+◌, ◌/◌, cond, List, ◌++◌, eqb, ltb, length, take, drop}
+use Rattle.std.specs.Prelude.{ℕ, ◌+◌, ◌/◌, cond, List, ◌++◌, eqb, ltb, length, take, drop, Ok, Err}
 use Rattle.fields.specs.declared.Direction.{Direction}
 use Rattle.fields.specs.declared.Direction.TheVariants.{ToSensor, FromSensor}
 use Rattle.frames.specs.declared.What.{What}
 use Rattle.frames.specs.declared.What.TheVariants as W
 use Rattle.frames.specs.declared.Found.{Found}
-use Rattle.frames.specs.declared.Wrote.{Wrote}
-use Rattle.frames.specs.declared.Wrote.TheVariants as P
 use Rattle.frames.specs.Numbers.{frame_number}
+use Rattle.frames.specs.Writing.{Wrote}
 
 -- ---- what stands at a place
 
@@ -73,9 +72,9 @@ way_of k = cond (eqb k 0) ToSensor FromSensor
 
 -- the place of the closing flag, or the place given back
 abbrev pub place_of : Wrote → ℕ
-place_of (P.Closing p) = p
-place_of (P.Refused q p) = p
+place_of (Ok p) = p
+place_of (Err e) = e.place
 
 abbrev pub write_refusal : Wrote → ℕ
-write_refusal (P.Closing p) = 0
-write_refusal (P.Refused q p) = frame_number q
+write_refusal (Ok p) = 0
+write_refusal (Err e) = frame_number e.why

@@ -8,6 +8,7 @@ ghost use Rattle.frame_host.specs.Calls.{kind_of, refusal_of, way_number, from_s
 use fields::Direction;
 use frames::What;
 
+// The kinds are numbers of the C interface.
 const FRAME: u32 = 122;
 
 const REFUSED: u32 = 120;
@@ -17,44 +18,19 @@ const END: u32 = 121;
 fn what(bytes: &[u8], count: usize, place: usize) -> What
     ensures { result ≡ (read_frame bytes.now count place).what }
 {
-    let found = frames::reading::read(bytes, count, place);
-    found.what
+    frames::reading::read(bytes, count, place).what
 }
 
 // ---- what stands at a place
-
-fn kind_of(w: What) -> u32
-    ensures { result ≡ kind_of w }
-{
-    match w {
-        What::Frame {
-            way: _,
-            control: _,
-            count: _,
-        } => FRAME,
-        What::Refused(_) => REFUSED,
-        What::End => END,
-    }
-}
 
 #[unsafe(no_mangle)]
 pub extern "C" fn siamrung_frame_kind(bytes: &[u8], count: usize, place: usize) -> u32
     ensures { result ≡ kind_of (read_frame bytes.now count place).what }
 {
-    kind_of(what(bytes, count, place))
-}
-
-fn refusal_of(w: What) -> u8
-    ensures { result ≡ refusal_of w }
-{
-    match w {
-        What::Frame {
-            way: _,
-            control: _,
-            count: _,
-        } => 0,
-        What::Refused(q) => q.number(),
-        What::End => 0,
+    match what(bytes, count, place) {
+        What::Frame { .. } => FRAME,
+        What::Refused(_) => REFUSED,
+        What::End => END,
     }
 }
 
@@ -62,15 +38,17 @@ fn refusal_of(w: What) -> u8
 pub extern "C" fn siamrung_frame_refusal(bytes: &[u8], count: usize, place: usize) -> u32
     ensures { result ≡ refusal_of (read_frame bytes.now count place).what }
 {
-    refusal_of(what(bytes, count, place)) as u32
+    match what(bytes, count, place) {
+        What::Refused(why) => u8::from(why) as u32,
+        _ => 0,
+    }
 }
 
 #[unsafe(no_mangle)]
 pub extern "C" fn siamrung_frame_place(bytes: &[u8], count: usize, place: usize) -> usize
     ensures { result ≡ (read_frame bytes.now count place).place }
 {
-    let found = frames::reading::read(bytes, count, place);
-    found.place
+    frames::reading::read(bytes, count, place).place
 }
 
 // ---- the frame; 0 where there is none
@@ -84,38 +62,13 @@ fn way_number(w: Direction) -> u32
     }
 }
 
-fn from_sensor_of(w: What) -> u32
-    ensures { result ≡ from_sensor w }
-{
-    match w {
-        What::Frame {
-            way,
-            control: _,
-            count: _,
-        } => way_number(way),
-        What::Refused(_) => 0,
-        What::End => 0,
-    }
-}
-
 #[unsafe(no_mangle)]
 pub extern "C" fn siamrung_frame_from_sensor(bytes: &[u8], count: usize, place: usize) -> u32
     ensures { result ≡ from_sensor (read_frame bytes.now count place).what }
 {
-    from_sensor_of(what(bytes, count, place))
-}
-
-fn control_of(w: What) -> u8
-    ensures { result ≡ control_of w }
-{
-    match w {
-        What::Frame {
-            way: _,
-            control,
-            count: _,
-        } => control,
-        What::Refused(_) => 0,
-        What::End => 0,
+    match what(bytes, count, place) {
+        What::Frame { way, .. } => way_number(way),
+        _ => 0,
     }
 }
 
@@ -123,20 +76,18 @@ fn control_of(w: What) -> u8
 pub extern "C" fn siamrung_frame_control(bytes: &[u8], count: usize, place: usize) -> u32
     ensures { result ≡ control_of (read_frame bytes.now count place).what }
 {
-    control_of(what(bytes, count, place)) as u32
+    match what(bytes, count, place) {
+        What::Frame { control, .. } => control as u32,
+        _ => 0,
+    }
 }
 
 fn count_of(w: What) -> usize
     ensures { result ≡ count_of w }
 {
     match w {
-        What::Frame {
-            way: _,
-            control: _,
-            count,
-        } => count,
-        What::Refused(_) => 0,
-        What::End => 0,
+        What::Frame { count, .. } => count,
+        _ => 0,
     }
 }
 
@@ -149,26 +100,8 @@ pub extern "C" fn siamrung_frame_field_count(bytes: &[u8], count: usize, place: 
 
 // ---- its field
 
-// How many bytes a field of so many bits takes.
-fn size_of(count: usize) -> usize
-    ensures { result ≡ (count + 7) / 8 }
-{
-    count / 8 + (count % 8 + 7) / 8
-}
-
-// Copies the first n of 251 bytes.
-fn copy(from: [u8; 251], s: &mut [u8], n: usize)
-    requires { (n ≤ 251) × (n ≤ length s.old) }
-    ensures { s.new ≡ take n from ++ drop n s.old }
-{
-    let mut i = 0;
-    while i < n {
-        s[i] = from[i];
-        i += 1;
-    }
-}
-
 // Copies the field, or nothing where it does not fit. Answers how many bytes it wrote.
+#[tactic(auto, using(crate::proofs::Fields::count_most))]
 #[unsafe(no_mangle)]
 pub extern "C" fn siamrung_frame_field(
     bytes: &[u8],
@@ -180,12 +113,10 @@ pub extern "C" fn siamrung_frame_field(
     ensures left { field.new ≡ field_left (read_frame bytes.now count place) field.old }
 {
     let found = frames::reading::read(bytes, count, place);
-    let from = found.field;
-    let what = found.what;
-    let n = size_of(count_of(what));
+    let n = count_of(found.what).div_ceil(8);
     if field.len() < n {
         return 0;
     }
-    copy(from, field, n);
+    field[..n].copy_from_slice(&found.field[..n]);
     n
 }

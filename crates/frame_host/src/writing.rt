@@ -5,7 +5,7 @@ ghost use Rattle.frames.specs.Writing.{given, write_frame, left_as};
 ghost use Rattle.frame_host.specs.Calls.{way_of, place_of, write_refusal};
 
 use fields::Direction;
-use frames::Wrote;
+use frames::writing::Given;
 
 fn way_of(from_sensor: u32) -> Direction
     ensures { result ≡ way_of from_sensor }
@@ -14,24 +14,6 @@ fn way_of(from_sensor: u32) -> Direction
         Direction::ToSensor
     } else {
         Direction::FromSensor
-    }
-}
-
-fn place_of(w: Wrote) -> usize
-    ensures { result ≡ place_of w }
-{
-    match w {
-        Wrote::Closing(p) => p,
-        Wrote::Refused(_, p) => p,
-    }
-}
-
-fn refusal_of(w: Wrote) -> u8
-    ensures { result ≡ write_refusal w }
-{
-    match w {
-        Wrote::Closing(_) => 0,
-        Wrote::Refused(q, _) => q.number(),
     }
 }
 
@@ -49,8 +31,13 @@ pub extern "C" fn siamrung_frame_write(
     ensures answer { result ≡ place_of (write_frame (length bytes.old) count place (way_of from_sensor) control field.now field_count) }
     ensures left { bytes.new ≡ left_as (write_frame (length bytes.old) count place (way_of from_sensor) control field.now field_count) bytes.old place (given (way_of from_sensor) control field.now field_count) }
 {
-    let way = way_of(from_sensor);
-    place_of(frames::writing::write(bytes, count, place, way, control, field, field_count))
+    let frame = Given {
+        way: way_of(from_sensor),
+        control,
+        field,
+        count: field_count,
+    };
+    frames::writing::write(bytes, count, place, frame).unwrap_or_else(|refused| refused.place)
 }
 
 // Why the same call of siamrung_frame_write is refused; 0 where it is not. Writes nothing.
@@ -66,14 +53,14 @@ pub extern "C" fn siamrung_frame_write_refusal(
 ) -> u32
     ensures { result ≡ write_refusal (write_frame (length bytes.now) count place (way_of from_sensor) control field.now field_count) }
 {
-    let way = way_of(from_sensor);
-    refusal_of(frames::writing::answer(
-        bytes.len(),
-        count,
-        place,
-        way,
+    let frame = Given {
+        way: way_of(from_sensor),
         control,
         field,
-        field_count,
-    )) as u32
+        count: field_count,
+    };
+    match frames::writing::answer(bytes.len(), count, place, frame) {
+        Ok(_) => 0,
+        Err(refused) => u8::from(refused.why) as u32,
+    }
 }

@@ -7,9 +7,11 @@ use mathlib.Core.List.{List, [], ◌∷◌, ◌++◌}
 use native.Mathlib.Decide.{ℕ_discrete}
 use native.Mathlib.Nat.{zero-mul, zero-add, add-mul, mul_assoc}
 use native.Mathlib.Omega.{arith}
-use lib.Bits.{bit_xor, xor_block, xor_shr, xor_mod, xor_comm, xor_zero_r, xor_lt, xor_shifted}
+use lib.Bits.{bit_xor, xor_block, xor_shr, xor_mod, xor_comm, xor_zero_r, xor_shifted}
 use lib.Dec.{T, eqb, eqb→eq}
-use lib.ListN.{length, get_or, replicate, length-append, length-replicate}
+use lib.ListN.{length, get_or, take, replicate, length-append, length-replicate}
+use lib.Seq.{length-take-le}
+use Rattle.std.proofs.lemmas.List.{get_or-take}
 use lib.Pow.{pow-add, shl_lt, shl-shr}
 use Rattle.bits.specs.Bits.{bit_at}
 use Rattle.bits.proofs.Laws.{byte_is}
@@ -50,13 +52,6 @@ feed_behind (r ∷ rs) ds (suc k) e l =
     ∙ feed_behind (fed (r ∷ rs) false) ds k (length_fed (r ∷ rs) false e) (omega arith)
 
 -- ---- the remainder of eight bits
-
--- no product on the way to it is too large
-pub mixed_lt : (register byte : ℕ) → register < 65536 → byte < 256 → let x = bit_xor (register / 256) byte in bit_xor x (x / 16) < 256
-mixed_lt register byte h l =
-    let x = bit_xor (register / 256) byte in
-    let k : x < 256 = xor_lt 8 (register / 256) byte (omega arith) l in
-    xor_lt 8 x (x / 16) k (omega arith)
 
 -- a test that passes for every number below n: antt computes it
 abbrev both : Bool → Bool → Bool
@@ -147,9 +142,6 @@ byte_fed rs ds e l =
 sixteen : (s : List ℕ) (p : ℕ) → length (feed preset (bits_from s 0 p)) ≡ 16
 sixteen s p = length_feed preset (bits_from s 0 p) refl
 
-pub register_lt : (s : List ℕ) (p : ℕ) → register_at s p < 65536
-register_lt s p = rw (sixteen s p) at (number_lt (feed preset (bits_from s 0 p)))
-
 -- the first p bits fed, and k more
 feed_on : (s : List ℕ) (p k : ℕ) → register_at s (p + k) ≡ number (feed (feed preset (bits_from s 0 p)) (bits_from s p k))
 feed_on s p k =
@@ -170,6 +162,15 @@ byte_on s i x r e l h =
     let n : (i + 1) * 8 ≡ p + 8 = omega arith in
     let b : number (bits_from s p 8) ≡ x = number_bits_from s p 8 ∙ sym (byte_is s i x e l) in
     rw (n, h, ← b) (feed_on s p 8 ∙ byte_fed (feed preset (bits_from s 0 p)) (bits_from s p 8) (sixteen s p) (length-bits_from s p 8))
+
+-- the first m bytes have the bits that they have in all of them
+front : (s : List ℕ) (m p n : ℕ) → p + n ≤ m * 8 → bits_from (take m s) p n ≡ bits_from s p n
+unfolding bits_from bit_at
+front s m p zero h = refl
+front s m p (suc n) h = rw (get_or-take m s (p / 8) 0 (omega arith), front s m (p + 1) n (omega arith)) refl
+
+pub front_fed : (s : List ℕ) (m : ℕ) → m ≤ length s → register_at (take m s) (length (take m s) * 8) ≡ register_at s (m * 8)
+front_fed s m h = rw (length-take-le m s h, front s m 0 (m * 8) (omega arith)) refl
 
 -- and at the end the complement
 pub check_is : (s : List ℕ) (n r : ℕ) → r ≡ register_at s n → 65535 - r ≡ number (check_of (bits_from s 0 n))

@@ -4,6 +4,7 @@ use mathlib.Core.Path.{◌≡◌, refl, sym, ap, ◌∙◌}
 use mathlib.Core.Bool.{Bool, true, false}
 use mathlib.Core.List.{List, ◌++◌}
 use mathlib.Core.Logic.{◌↔◌}
+use Rattle.std.proofs.Common.{Ok}
 use native.Mathlib.Omega.{arith}
 use borrow.Author.Tests.{lt-ltb, le-ltb, ltb-false}
 use lib.ListN.{length}
@@ -12,14 +13,11 @@ use Rattle.rows.specs.Claims.{NoneHolds}
 use Rattle.rows.proofs.Claims as law
 use Rattle.fields.specs.declared.Direction.{Direction}
 use Rattle.fields.proofs.Puts.{both_false}
-use Rattle.frames.specs.declared.FrameRefusal.{FrameRefusal}
 use Rattle.frames.specs.declared.FrameRefusal.TheVariants as R
-use Rattle.frames.specs.declared.Wrote.{Wrote}
-use Rattle.frames.specs.declared.Wrote.TheVariants as P
 use Rattle.frames.specs.Stream.{bits_from, put_all}
 use Rattle.frames.specs.Frame.{Frame, flag, between, frame_bits}
 use Rattle.frames.specs.Reading.{count_over}
-use Rattle.frames.specs.Writing.{given, write_rows, closing_place, write_frame, left_as, Writes}
+use Rattle.frames.specs.Writing.{Wrote, refused_at, given, write_rows, closing_place, write_frame, left_as, Writes}
 use Rattle.frames.specs.Steps.{DecidedIs}
 use Rattle.frames.proofs.Refused.{wrote}
 use Rattle.frames.proofs.Streamed.{length-bits_from}
@@ -34,14 +32,14 @@ pub record Written (len count place : ℕ) (field : List ℕ) (n : ℕ) (f : Fra
   pub closes : closing_place place f ≡ p
 
 pub written : (len count place : ℕ) (field : List ℕ) (n : ℕ) (f : Frame) (p : ℕ)
-    → (first_of (write_rows len count place field n f) (P.Closing (closing_place place f)) ≡ P.Closing p) ↔ Written len count place field n f p
+    → (first_of (write_rows len count place field n f) (Ok (closing_place place f)) ≡ Ok p) ↔ Written len count place field n f p
 written len count place field n f p =
-    let k = law.accepted_exactly Wrote wrote (write_rows len count place field n f) (P.Closing (closing_place place f)) (P.Closing p)
+    let k = law.accepted_exactly Wrote wrote (write_rows len count place field n f) (Ok (closing_place place f)) (Ok p)
     (refl, (refl, (refl, tt))) refl in
     (λ e. to (k.0 e), λ w. k.1 (from w))
   where
     None : Type 0
-    None = NoneHolds (write_rows len count place field n f) × (P.Closing (closing_place place f) ≡ P.Closing p)
+    None = NoneHolds (write_rows len count place field n f) × (◌≡◌ {A = Wrote} (Ok (closing_place place f)) (Ok p))
 
     to : None → Written len count place field n f p
     to (h, e) =
@@ -57,16 +55,10 @@ written len count place field n f p =
     from : Written len count place field n f p → None
     from w = (
       (rw (le-ltb _ _ w.lent, le-ltb _ _ w.full) refl, (le-ltb _ _ w.short, (le-ltb _ _ w.room, tt))),
-      ap P.Closing w.closes,
+      ap Ok w.closes,
     )
 
 -- ---- the code's decisions
-
--- nothing is said of the body where the writer refuses
-pub refused_so : (len count place : ℕ) (way : Direction) (control : ℕ) (field : List ℕ) (n : ℕ) (w : Wrote) (bytes : List ℕ) (m : ℕ) (q : FrameRefusal) (p : ℕ)
-    → w ≡ P.Refused q p → P.Refused q p ≡ write_frame len count place way control field n → DecidedIs len count place way control field n w bytes m
-refused_so len count place way control field n w bytes m q p e is =
-    record { wrote_is = e ∙ is; between_is = λ r h. absurd (let z : ◌≡◌ {A = ℕ} 0 1 = cc in omega arith) }
 
 module _ (len count place : ℕ) (way : Direction) (control : ℕ) (field : List ℕ) (n : ℕ) where
   abbrev f : Frame
@@ -75,17 +67,17 @@ module _ (len count place : ℕ) (way : Direction) (control : ℕ) (field : List
   abbrev answers : Wrote
   answers = write_frame len count place way control field n
 
-  pub bytes_over : count_over len count ≡ true → P.Refused R.CountOrFlag place ≡ answers
+  pub bytes_over : count_over len count ≡ true → refused_at R.CountOrFlag place ≡ answers
   unfolding write_frame
   bytes_over e = sym (rw e refl)
 
   module _ (lent : count_over len count ≡ false) where
-    pub field_over : count_over (length field) n ≡ true → P.Refused R.CountOrFlag place ≡ answers
+    pub field_over : count_over (length field) n ≡ true → refused_at R.CountOrFlag place ≡ answers
     unfolding write_frame
     field_over e = sym (rw (lent, e) refl)
 
     module _ (full : count_over (length field) n ≡ false) where
-      pub too_long : 2008 < n → P.Refused R.WrongLength place ≡ answers
+      pub too_long : 2008 < n → refused_at R.WrongLength place ≡ answers
       unfolding write_frame
       too_long l = sym (rw (lent, full, lt-ltb _ _ l) refl)
 
@@ -94,17 +86,17 @@ module _ (len count place : ℕ) (way : Direction) (control : ℕ) (field : List
         size : length (frame_bits f) ≡ 16 + m
         size = length_frame f ∙ ap (λ (k : ℕ). 16 + k) (sym (ap length is) ∙ length-bits_from bytes 0 m)
 
-        pub no_room : count < place + (16 + m) → P.Refused R.NoRoom place ≡ answers
+        pub no_room : count < place + (16 + m) → refused_at R.NoRoom place ≡ answers
         unfolding write_frame
         no_room l =
             let h : count < place + length (frame_bits f) = rw size l in
             sym (rw (lent, full, le-ltb _ _ short, lt-ltb _ _ h) refl)
 
-        pub room : place + (16 + m) ≤ count → DecidedIs len count place way control field n (P.Closing (place + 8 + m)) bytes m
+        pub room : place + (16 + m) ≤ count → DecidedIs len count place way control field n (place + 8 + m) bytes m
         unfolding write_frame
         room l =
             record {
-              wrote_is =
+              closing_is =
                   sym
                   ((written len count place field n f (place + 8 + m)).1
                   (record {
@@ -114,12 +106,12 @@ module _ (len count place : ℕ) (way : Direction) (control : ℕ) (field : List
                     room = rw size l;
                     closes = rw size (omega arith);
                   }));
-              between_is = λ p e. is;
+              between_is = is;
             }
 
 -- the places of a frame that is written
 pub places : (len count place : ℕ) (way : Direction) (control : ℕ) (field : List ℕ) (n p : ℕ) (bytes : List ℕ) (m : ℕ)
-    → P.Closing p ≡ write_frame len count place way control field n → bits_from bytes 0 m ≡ between (given way control field n)
+    → Ok p ≡ write_frame len count place way control field n → bits_from bytes 0 m ≡ between (given way control field n)
     → (place + 8 + m ≡ p) × (p + 8 ≤ len * 8)
 unfolding write_frame
 places len count place way control field n p bytes m e is =
@@ -131,24 +123,16 @@ places len count place way control field n p bytes m e is =
 
 -- ---- a call
 
-module _ (bytes : List ℕ) (count place : ℕ) (way : Direction) (control : ℕ) (field : List ℕ) (n : ℕ) (w : Wrote) (held : List ℕ) (m : ℕ)
-    (d : DecidedIs (length bytes) count place way control field n w held m) where
-  -- what stands then in the bytes
-  leaves : (a : Wrote) → w ≡ a → left_as (write_frame (length bytes) count place way control field n) bytes place (given way control field n)
-      ≡ left_as a bytes place (given way control field n)
-  leaves a e = ap (λ (x : Wrote). left_as x bytes place (given way control field n)) (sym d.wrote_is ∙ e)
-
-  -- a refused call has written nothing
-  pub kept : (q : FrameRefusal) (p : ℕ) → w ≡ P.Refused q p → Writes bytes count place way control field n w bytes
-  kept q p e = record { answers = d.wrote_is; leaves = sym (leaves (P.Refused q p) e) }
-
-  -- any other has written the frame
-  pub framed : (p : ℕ) (exit : List ℕ) → w ≡ P.Closing p → exit ≡ put_all bytes place (flag ++ (bits_from held 0 m ++ flag))
-      → Writes bytes count place way control field n (P.Closing p) exit
-  unfolding frame_bits
-  framed p exit e put =
-      record {
-        answers = sym e ∙ d.wrote_is;
-        leaves =
-            put ∙ ap (λ (b : List Bool). put_all bytes place (flag ++ (b ++ flag))) (d.between_is p e) ∙ sym (leaves (P.Closing p) e);
-      }
+-- a call that is not refused has written the frame
+pub framed : (bytes : List ℕ) (count place : ℕ) (way : Direction) (control : ℕ) (field : List ℕ) (n p : ℕ) (held : List ℕ) (m : ℕ) (exit : List ℕ)
+    → DecidedIs (length bytes) count place way control field n p held m → exit ≡ put_all bytes place (flag ++ (bits_from held 0 m ++ flag))
+    → Writes bytes count place way control field n (Ok p) exit
+unfolding frame_bits
+framed bytes count place way control field n p held m exit d put =
+    let f = given way control field n in
+    record {
+      answers = d.closing_is;
+      leaves =
+          put ∙ ap (λ (b : List Bool). put_all bytes place (flag ++ (b ++ flag))) d.between_is
+          ∙ ap (λ (x : Wrote). left_as x bytes place f) d.closing_is;
+    }

@@ -5,6 +5,7 @@ use mathlib.Core.Bool.{Bool, true, false, not}
 use mathlib.Core.List.{List, [], ◌∷◌, ◌++◌, append-nil}
 use mathlib.Core.Logic.{inl, inr}
 use native.Mathlib.Omega.{arith}
+use Rattle.std.proofs.Common.{Ok, Err}
 use borrow.Author.Tests.{eqb-true, not-false}
 use lib.Dec.{eqb}
 use lib.ListN.{length}
@@ -12,12 +13,10 @@ use Rattle.rows.specs.Claims.{FirstIs}
 use Rattle.rows.proofs.Claims as law
 use Rattle.fields.proofs.Puts.{both_false}
 use Rattle.frames.specs.declared.FrameRefusal.{FrameRefusal}
-use Rattle.frames.specs.declared.Wrote.{Wrote}
-use Rattle.frames.specs.declared.Wrote.TheVariants as P
 use Rattle.frames.specs.Stream.{digits}
 use Rattle.frames.specs.Frame.{Frame, flag}
 use Rattle.frames.specs.Reading.{accepted, refused, end, Outcome, outcome, begins, past_flags, only_flags, body_in, closing, frame_in, read_rows, read_bits}
-use Rattle.frames.specs.Writing.{given, write_rows, left_as}
+use Rattle.frames.specs.Writing.{Wrote, refused_at, given, write_rows, left_as}
 use Rattle.frames.specs.Lists.{flags}
 use Rattle.frames.specs.Claims.{EndExactly, RefusedStays}
 use Rattle.frames.proofs.Tests.{differ}
@@ -82,10 +81,14 @@ end_exactly over s n = (
 
 -- ---- a refused call
 
-back : (len count place : ℕ) (field : List ℕ) (n : ℕ) (f : Frame) (q : FrameRefusal) (p : ℕ) → FirstIs (write_rows len count place field n f) (P.Refused q p) → p ≡ place
-back len count place field n f q p (inl h) = cc h.1
-back len count place field n f q p (inr (_, inl h)) = cc h.1
-back len count place field n f q p (inr (_, inr (_, inl h))) = cc h.1
+abbrev given_back : Wrote → ℕ
+given_back (Ok p) = p
+given_back (Err e) = e.place
+
+back : (len count place : ℕ) (field : List ℕ) (n : ℕ) (f : Frame) (q : FrameRefusal) (p : ℕ) → FirstIs (write_rows len count place field n f) (refused_at q p) → p ≡ place
+back len count place field n f q p (inl h) = sym (ap given_back h.1)
+back len count place field n f q p (inr (_, inl h)) = sym (ap given_back h.1)
+back len count place field n f q p (inr (_, inr (_, inl h))) = sym (ap given_back h.1)
 back len count place field n f q p (inr (_, inr (_, inr (_, h)))) = absurd h
 
 pub refused_stays : RefusedStays

@@ -17,7 +17,7 @@ use Rattle.frames.specs.Frame.{Frame, address_number, message, body}
 use Rattle.frames.specs.Writing.{given}
 use Rattle.frames.proofs.Numbered.{length_digits, number_digits}
 use Rattle.frames.proofs.Checked.{length-check_of}
-use Rattle.frames.proofs.Streamed.{length-bits_from, length-put_all, put_all_bytes, put_all_snoc, put_all_other, put_there, bits_from-put_all}
+use Rattle.frames.proofs.Streamed.{length-bits_from, put_all_bytes, put_all_snoc, put_all_other, put_there, bits_from-put_all}
 use Rattle.frames.proofs.Chunks.{zero_bytes, digits_of, put_number, put-bits, fill_more}
 
 -- so many bytes of zeros
@@ -27,9 +27,6 @@ zeros m = replicate m 0
 -- 255 bytes that hold these bits, and zeros behind them
 abbrev pub filled : List Bool → List ℕ
 filled xs = put_all (zeros 255) 0 xs
-
-pub length_filled : (xs : List Bool) → length (filled xs) ≡ 255
-length_filled xs = length-put_all (zeros 255) 0 xs
 
 -- bits more, as the number that they make
 pub filled_more : (xs ys : List Bool) (s : List ℕ) (v p n : ℕ) → s ≡ filled xs → length xs ≡ p → length ys ≡ n → v ≡ number ys

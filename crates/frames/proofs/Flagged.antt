@@ -4,7 +4,7 @@ use Prim.Native.Nat.{ℕ, ◌+◌, ◌-◌, ◌*◌, ◌%◌, ◌^◌, ◌≤◌
 use mathlib.Core.Path.{◌≡◌, refl, sym, ap, ◌∙◌}
 use mathlib.Core.Bool.{Bool, true, false}
 use mathlib.Core.List.{List, [], ◌∷◌, ◌++◌}
-use native.Mathlib.Decide.{dec_lt}
+use native.Mathlib.Decide.{dec_lt, ℕ_discrete}
 use native.Mathlib.Omega.{arith}
 use borrow.Author.Tests.{eq-eqb, ne_eqb}
 use lib.Dec.{eqb, lit<}
@@ -47,6 +47,13 @@ flag_is s count p h e = by_number s count p h ∙ eq-eqb _ _ (sym e)
 
 pub flag_not : (s : List ℕ) (count p : ℕ) → 8 ≤ count - p → (bits_of s p 8 ≡ 0x7E → ⊥) → begins flag (stream_at s count p) ≡ false
 flag_not s count p h n = by_number s count p h ∙ ne_eqb _ _ (λ e. n (sym e))
+
+pub flag_told : (s : List ℕ) (count p v : ℕ) → 8 ≤ count - p → v ≡ bits_of s p 8 → eqb v 0x7E ≡ begins flag (stream_at s count p)
+flag_told s count p v h e = go (ℕ_discrete v 0x7E)
+  where
+    go : Dec (v ≡ 0x7E) → eqb v 0x7E ≡ begins flag (stream_at s count p)
+    go (yes f) = eq-eqb _ _ f ∙ sym (flag_is s count p h (sym e ∙ f))
+    go (no n) = ne_eqb _ _ n ∙ sym (flag_not s count p h (λ f. n (e ∙ f)))
 
 -- ---- behind neighbouring flags
 

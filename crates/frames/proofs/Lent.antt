@@ -9,6 +9,7 @@ use mathlib.Core.List.{List, ◌++◌, append_assoc}
 use mathlib.Core.Logic.{⊎_elim, inl, inr}
 use native.Mathlib.Nat.{add_assoc}
 use native.Mathlib.Omega.{arith}
+use Rattle.std.proofs.Common.{Ok}
 use lib.ListN.{length, take, drop, replicate, length-append, length-take, length-drop}
 use lib.Seq.{take-append_seam}
 use borrow.Author.Tests.{ltb-false, le-ltb}
@@ -16,12 +17,10 @@ use Rattle.bits.specs.Bits.{put_bit}
 use Rattle.fields.specs.declared.Direction.{Direction}
 use Rattle.frames.specs.declared.What.TheVariants as W
 use Rattle.frames.specs.declared.Found.{Found}
-use Rattle.frames.specs.declared.Wrote.{Wrote}
-use Rattle.frames.specs.declared.Wrote.TheVariants as P
 use Rattle.frames.specs.Stream.{bits_from, put_all, digits}
 use Rattle.frames.specs.Frame.{Frame, frame_of, Fits, flag, between, frame_bits}
 use Rattle.frames.specs.Reading.{Answer, accepted, refused, end, Outcome, outcome, count_over, read_bits, stream_at, field_bytes, found_at, read_frame}
-use Rattle.frames.specs.Writing.{given, write_rows, closing_place, write_frame, left_as, Writes}
+use Rattle.frames.specs.Writing.{Wrote, given, write_rows, closing_place, write_frame, left_as, Writes}
 use Rattle.frames.specs.Lists.{flags}
 use Rattle.frames.specs.Claims.{opening, HandedOut, WrittenReads, WrittenOn, ReadWrites, OthersStay}
 use Rattle.frames.proofs.Tests.{differ}
@@ -48,7 +47,7 @@ put_same s p (suc n) =
 -- a call that writes
 module _
     {bytes : List ℕ} {count place : ℕ} {way : Direction} {control : ℕ} {field : List ℕ} {n p : ℕ} {exit : List ℕ}
-    (w : Writes bytes count place way control field n (P.Closing p) exit) where
+    (w : Writes bytes count place way control field n (Ok p) exit) where
   taken : Written (length bytes) count place field n (given way control field n) p
   unfolding write_frame
   taken = (written (length bytes) count place field n (given way control field n) p).0 (sym w.answers)
@@ -140,7 +139,7 @@ stand_there bytes count place k bs some e =
 write_there : (bytes : List ℕ) (count place : ℕ) (f : Frame) (m : ℕ)
     → read_bits (count_over (length bytes) count) (stream_at bytes count place) ≡ outcome (accepted f) m
     → Writes bytes count (place + opening (stream_at bytes count place)) f.way f.control (field_bytes f.field) (length f.field)
-    (P.Closing (place + m)) bytes
+    (Ok (place + m)) bytes
 unfolding write_frame
 write_there bytes count place f m read =
     let over = count_over (length bytes) count in
@@ -152,8 +151,8 @@ write_there bytes count place f m read =
     let short = again.0.field in
     let at = stand_there bytes count place (opening s) (frame_bits f) (omega (arith, length_frame f)) again.1 in
     let same : given f.way f.control field n ≡ f = ap (frame_of f.way f.control) (handed_out f.field short) in
-    let done : write_frame (length bytes) count q f.way f.control field n ≡ P.Closing (place + m) =
-    ap (λ (g : Frame). first_of (write_rows (length bytes) count q field n g) (P.Closing (closing_place q g))) same
+    let done : write_frame (length bytes) count q f.way f.control field n ≡ Ok (place + m) =
+    ap (λ (g : Frame). first_of (write_rows (length bytes) count q field n g) (Ok (closing_place q g))) same
     ∙ (written (length bytes) count q field n f (place + m)).1
     record {
       lent = ltb-false _ _ (stands over s f m read).0;
@@ -177,7 +176,7 @@ read_writes bytes count place way control n p field e = go o.answer o.on refl e
     o = read_bits (count_over (length bytes) count) (stream_at bytes count place)
 
     Again : Found → Type 0
-    Again y = Writes bytes count (place + opening (stream_at bytes count place)) way control y.field n (P.Closing y.place) bytes
+    Again y = Writes bytes count (place + opening (stream_at bytes count place)) way control y.field n (Ok y.place) bytes
 
     found : Found
     found = record { what = W.Frame way control n; place = p; field = field }

@@ -2,11 +2,10 @@
 -- rows. Assumes nothing.
 use mathlib.Core.Path.{refl}
 use mathlib.Core.Bool.{Bool, true, false}
+use Rattle.std.proofs.Common.{Ok, Err}
 use Rattle.rows.proofs.Claims as law
-use Rattle.frames.specs.declared.Wrote.{Wrote}
-use Rattle.frames.specs.declared.Wrote.TheVariants as P
 use Rattle.frames.specs.Reading.{Answer, accepted, refused, end, Outcome, outcome, closing, body_in, frame_in, read_rows, read_bits}
-use Rattle.frames.specs.Writing.{given, closing_place, write_rows, write_frame}
+use Rattle.frames.specs.Writing.{Wrote, refused_at, given, closing_place, write_rows, write_frame}
 use Rattle.frames.specs.Claims.{ReaderRefuses, WriterRefuses}
 
 -- ---- the reader
@@ -27,11 +26,11 @@ reader_refuses over s q n =
 -- ---- the writer
 
 abbrev pub wrote : Wrote → Bool
-wrote (P.Closing p) = true
-wrote (P.Refused q p) = false
+wrote (Ok p) = true
+wrote (Err e) = false
 
 pub writer_refuses : WriterRefuses
 unfolding write_frame
 writer_refuses len count place way control field n q p =
     let f = given way control field n in
-    law.refused_exactly Wrote wrote (write_rows len count place field n f) (P.Closing (closing_place place f)) (P.Refused q p) refl refl
+    law.refused_exactly Wrote wrote (write_rows len count place field n f) (Ok (closing_place place f)) (refused_at q p) refl refl

@@ -15,6 +15,7 @@ use Rattle.bits.specs.Bits.{bit_at, bits_of, with_digit, put_bit, put_bits, Byte
 use Rattle.bits.proofs.Laws.{bit_at_lt, bits_of_join, put_bit_same, length-put_bit, put_bits_other, put_bits_bytes}
 use Rattle.frames.specs.Stream.{bit, bits_from, put_all, number}
 use Rattle.frames.specs.Reading.{stream_at}
+use Rattle.frames.proofs.Numbered.{bit_lt}
 
 -- ---- a stretch of bits
 
@@ -99,10 +100,6 @@ number_bits_from s p (suc n) =
     rw (bit_is s p, length-bits_from s (p + 1) n, number_bits_from s (p + 1) n) (sym (ap (bits_of s p) e ∙ bits_of_join s p 1 n ∙ rw o refl))
 
 -- ---- bits that are put
-
-bit_lt : (b : Bool) → bit b < 2
-bit_lt true = omega arith
-bit_lt false = omega arith
 
 bit_back : (b : Bool) → eqb (bit b) 1 ≡ b
 bit_back true = refl

@@ -1,16 +1,15 @@
 -- What is claimed of frames. Statements only, with what they need to be said; the file that proves each is named.
-use Rattle.std.specs.Prelude.{ℕ, suc, ◌+◌, ◌-◌, ◌≤◌, ◌<◌, ◌≡◌, Bool, true, false, not, List, [], ◌∷◌, ◌++◌, map, ◌↔◌, ◌⊎◌, length, take, drop}
+use Rattle.std.specs.Prelude.{ℕ, suc, ◌+◌, ◌-◌, ◌≤◌, ◌<◌, ◌≡◌, Bool, true, false, not, List, [], ◌∷◌, ◌++◌, map, ◌↔◌, ◌⊎◌, length, take, drop, Ok}
 use Rattle.rows.specs.Claims.{FirstIs}
 use Rattle.fields.specs.declared.Direction.{Direction}
 use Rattle.frames.specs.declared.FrameRefusal.{FrameRefusal}
 use Rattle.frames.specs.declared.What.TheVariants as W
-use Rattle.frames.specs.declared.Wrote.TheVariants as P
 use Rattle.frames.specs.Stream.{bits_from, digits}
 use Rattle.frames.specs.Check.{preset, feed, check_of}
 use Rattle.frames.specs.Zeros.{with_zeros, zeros_out, zero_missing}
 use Rattle.frames.specs.Frame.{Frame, Fits, flag, between, frame_bits}
 use Rattle.frames.specs.Reading.{accepted, refused, end, outcome, up_to_flag, behind_opening, wrong_check, read_rows, read_bits, stream_at, field_bytes, read_frame}
-use Rattle.frames.specs.Writing.{given, write_rows, closing_place, write_frame, Writes}
+use Rattle.frames.specs.Writing.{given, refused_at, write_rows, closing_place, write_frame, Writes}
 use Rattle.frames.specs.Lists.{Spaced, flags, stream_of, frames_of, AllFit, goes_on, calls, answers, flags_in}
 
 -- ---- each refusal exactly under its condition (proofs/Refused.antt, proofs/Ends.antt)
@@ -30,14 +29,14 @@ EndExactly =
 abbrev pub WriterRefuses : Type 0
 WriterRefuses =
     (len count place : ℕ) (way : Direction) (control : ℕ) (field : List ℕ) (n : ℕ) (q : FrameRefusal) (p : ℕ)
-    → (write_frame len count place way control field n ≡ P.Refused q p)
-    ↔ FirstIs (write_rows len count place field n (given way control field n)) (P.Refused q p)
+    → (write_frame len count place way control field n ≡ refused_at q p)
+    ↔ FirstIs (write_rows len count place field n (given way control field n)) (refused_at q p)
 
 -- a refused call gives the place back, and has written nothing
 abbrev pub RefusedStays : Type 0
 RefusedStays =
     (bytes : List ℕ) (count place : ℕ) (way : Direction) (control : ℕ) (field : List ℕ) (n : ℕ) (q : FrameRefusal) (p : ℕ) (exit : List ℕ)
-    → Writes bytes count place way control field n (P.Refused q p) exit → (p ≡ place) × (exit ≡ bytes)
+    → Writes bytes count place way control field n (refused_at q p) exit → (p ≡ place) × (exit ≡ bytes)
 
 -- ---- inserted zeros (proofs/Zeros.antt)
 
@@ -145,27 +144,27 @@ HandedOut = (bs : List Bool) → length bs ≤ 2008 → bits_from (field_bytes b
 abbrev pub WrittenReads : Type 0
 WrittenReads =
     (bytes : List ℕ) (count place : ℕ) (way : Direction) (control : ℕ) (field : List ℕ) (n p : ℕ) (exit : List ℕ) → control < 256
-    → Writes bytes count place way control field n (P.Closing p) exit
+    → Writes bytes count place way control field n (Ok p) exit
     → read_frame exit count place ≡ record { what = W.Frame way control n; place = p; field = field_bytes (bits_from field 0 n) }
 
 -- a frame written on from the closing flag of another shares it: that one still reads as it did
 abbrev pub WrittenOn : Type 0
 WrittenOn =
     (bytes : List ℕ) (count place : ℕ) (way : Direction) (control : ℕ) (field : List ℕ) (n p : ℕ) (exit : List ℕ) → control < 256
-    → Writes bytes count place way control field n (P.Closing p) exit
+    → Writes bytes count place way control field n (Ok p) exit
     → (way' : Direction) (control' : ℕ) (field' : List ℕ) (n' p' : ℕ) (exit' : List ℕ)
-    → Writes exit count p way' control' field' n' (P.Closing p') exit' → read_frame exit' count place ≡ read_frame exit count place
+    → Writes exit count p way' control' field' n' (Ok p') exit' → read_frame exit' count place ≡ read_frame exit count place
 
 -- a frame that was read, written again at its opening flag, leaves the bytes as they are
 abbrev pub ReadWrites : Type 0
 ReadWrites =
     (bytes : List ℕ) (count place : ℕ) (way : Direction) (control n p : ℕ) (field : List ℕ)
     → read_frame bytes count place ≡ record { what = W.Frame way control n; place = p; field = field }
-    → Writes bytes count (place + opening (stream_at bytes count place)) way control field n (P.Closing p) bytes
+    → Writes bytes count (place + opening (stream_at bytes count place)) way control field n (Ok p) bytes
 
 -- a frame that is written leaves all bits in front of its place and behind its closing flag as they were
 abbrev pub OthersStay : Type 0
 OthersStay =
     (bytes : List ℕ) (count place : ℕ) (way : Direction) (control : ℕ) (field : List ℕ) (n p : ℕ) (exit : List ℕ)
-    → Writes bytes count place way control field n (P.Closing p) exit
+    → Writes bytes count place way control field n (Ok p) exit
     → (g m : ℕ) → (g + m ≤ place) ⊎ (p + 8 ≤ g) → bits_from exit g m ≡ bits_from bytes g m

@@ -1,10 +1,8 @@
 -- What the steps of the reader and of the writer leave to the next one; no caller of theirs sees it. Definitions only.
-use Rattle.std.specs.Prelude.{ℕ, ◌+◌, ◌-◌, ◌*◌, ◌/◌, ◌%◌, ◌^◌, ◌≤◌, ◌<◌, ◌≡◌, Bool, false, cond, List, [], ◌∷◌, length, replicate}
+use Rattle.std.specs.Prelude.{ℕ, ◌+◌, ◌-◌, ◌*◌, ◌/◌, ◌%◌, ◌^◌, ◌≤◌, ◌<◌, ◌≡◌, Bool, false, cond, List, [], ◌∷◌, length, replicate, Ok}
 use Rattle.std.specs.Int.Bits.{bit_and, bit_xor}
-use Rattle.bits.specs.Bits.{bits_of}
+use Rattle.bits.specs.Bits.{bits_of, put_bits}
 use Rattle.fields.specs.declared.Direction.{Direction}
-use Rattle.frames.specs.declared.Wrote.{Wrote}
-use Rattle.frames.specs.declared.Wrote.TheVariants as P
 use Rattle.frames.specs.Stream.{bits_from, put_all, number, digits}
 use Rattle.frames.specs.Check.{preset, feed}
 use Rattle.frames.specs.declared.FrameRefusal.TheVariants as R
@@ -16,11 +14,11 @@ use Rattle.frames.specs.Writing.{given, write_frame}
 
 -- ---- the reader and the writer
 
--- a stretch without its inserted zeros: how many bits, and the bits in 255 bytes, as many as there is room for; or a zero is missing
-pub record BodyIs (stretch : List Bool) (bytes : List ℕ) (count : ℕ) (missing : Bool) : Type 0 where
-  pub missing_is : missing ≡ zero_missing 0 stretch
-  pub count_is : zero_missing 0 stretch ≡ false → count ≡ length (zeros_out 0 stretch)
-  pub bytes_are : zero_missing 0 stretch ≡ false → bytes ≡ put_all (replicate 255 0) 0 (zeros_out 0 stretch)
+-- a stretch in which no zero is missing, without its inserted zeros: how many bits, and the bits in 255 bytes, as many as there is room for
+pub record BodyIs (stretch : List Bool) (bytes : List ℕ) (count : ℕ) : Type 0 where
+  pub none_missing : zero_missing 0 stretch ≡ false
+  pub count_is : count ≡ length (zeros_out 0 stretch)
+  pub bytes_are : bytes ≡ put_all (replicate 255 0) 0 (zeros_out 0 stretch)
 
 -- the answer of a body whose length and check sequence are right
 abbrev pub addressed_body : List Bool → Answer
@@ -30,11 +28,11 @@ addressed_body b = cond (unknown_address b) (refused R.UnknownAddress) (accepted
 abbrev pub behind_flag : ℕ → List Bool → Found
 behind_flag place s = let o = read_bits false s in found_at (place + o.on) o.answer
 
--- what the writer decides: its answer, and, if it writes, the m bits that it puts between the flags
+-- what the writer decides where it writes: its answer, and the m bits that it puts between the flags
 pub record DecidedIs
-    (len count place : ℕ) (way : Direction) (control : ℕ) (field : List ℕ) (n : ℕ) (wrote : Wrote) (bytes : List ℕ) (m : ℕ) : Type 0 where
-  pub wrote_is : wrote ≡ write_frame len count place way control field n
-  pub between_is : (p : ℕ) → wrote ≡ P.Closing p → bits_from bytes 0 m ≡ between (given way control field n)
+    (len count place : ℕ) (way : Direction) (control : ℕ) (field : List ℕ) (n : ℕ) (closing : ℕ) (bytes : List ℕ) (m : ℕ) : Type 0 where
+  pub closing_is : Ok closing ≡ write_frame len count place way control field n
+  pub between_is : bits_from bytes 0 m ≡ between (given way control field n)
 
 -- ---- inserted zeros, by runs of bits
 
@@ -53,6 +51,15 @@ pub record RunIs (n m x k o : ℕ) : Type 0 where
   pub within : k ≤ m
   pub few : o ≤ 5
   pub passes : Passes n (digits k (x / 2 ^ (m - k))) o
+
+-- of the bits left from p on, with n ones in front of them, the first k are such, and stand behind the first `count` of the bytes
+pub record RunPut (b : List ℕ) (p left n : ℕ) (bytes : List ℕ) (count k o : ℕ) (next : List ℕ) (total : ℕ) : Type 0 where
+  pub some : 0 < k
+  pub within : k ≤ left
+  pub few : o ≤ 5
+  pub passes : Passes n (bits_from b p k) o
+  pub put : next ≡ put_bits bytes count k (bits_of b p k)
+  pub counted : total ≡ count + k
 
 -- ---- the check sequence, by bytes
 

@@ -1,72 +1,60 @@
 // The frame check sequence: whole bytes by a formula without a table, and the bits behind them one by one. The register is a number of
 // sixteen bits, the coefficient of x^15 on top.
 // Relies on stream.rt for the bits; specs/Check.antt says what the check sequence is, specs/Steps.antt what a byte makes of the register.
-ghost use Rattle.std.specs.Prelude.{◌≡◌, cond, ◌*◌, ◌/◌, ◌%◌, ◌<◌, ◌≤◌, eqb, length};
+ghost use Rattle.std.specs.Prelude.{◌≡◌, cond, ◌*◌, ◌/◌, ◌%◌, eqb, length};
 ghost use Rattle.std.specs.Int.Bits.{bit_xor};
 ghost use Rattle.frames.specs.Stream.{bits_from, number};
 ghost use Rattle.frames.specs.Check.{check_of};
 ghost use Rattle.frames.specs.Steps.{register_at, remainder_of};
 
-use crate::stream::{bit, widened};
+use crate::stream::bit;
 
 // The generator's powers below x^16: x^12, x^5 and 1.
-const GENERATOR: u64 = 0x1021;
+const GENERATOR: u16 = 0x1021;
 
-const ONES: u64 = 0xFFFF;
+const ONES: u16 = 0xFFFF;
 
 // The register with one bit more.
-fn fed(register: u64, b: u64) -> u64
-    requires { register < 65536 }
+fn fed(register: u16, b: u64) -> u16
     ensures { result ≡ cond (eqb (register / 32768) b) (register * 2 % 65536) (bit_xor (register * 2 % 65536) 0x1021) }
 {
-    let moved = register * 2 % 65536;
-    if register / 32768 == b {
-        return moved;
+    let moved = register << 1;
+    if (register >> 15) as u64 == b {
+        moved
+    } else {
+        moved ^ GENERATOR
     }
-    moved ^ GENERATOR
 }
 
 // The register with a byte more: what of it stays, and the remainder of what leaves it.
-fn fed_byte(register: u64, byte: u64) -> u64
-    requires { (register < 65536) × (byte < 256) }
+fn fed_byte(register: u16, byte: u8) -> u16
     ensures { result ≡ bit_xor (register % 256 * 256) (remainder_of (bit_xor (register / 256) byte)) }
 {
-    let x = (register / 256) ^ byte;
-    let y = x ^ (x / 16);
-    (register % 256 * 256) ^ ((y * 4096 % 65536) ^ (y * 32) ^ y)
+    let x = (register >> 8) ^ byte as u16;
+    let y = x ^ (x >> 4);
+    (register << 8) ^ ((y << 12) ^ (y << 5) ^ y)
 }
 
-// The register when the first m bytes are fed.
-fn fed_bytes(b: &[u8], m: usize) -> u64
-    requires { m ≤ length b.now }
-    ensures { result ≡ register_at b.now (m * 8) }
+// The register when bytes are fed.
+fn fed_bytes(b: &[u8]) -> u16
+    ensures { result ≡ register_at b.now (length b.now * 8) }
 {
     let mut register = ONES;
-    let mut i = 0;
-    while i < m {
-        register = fed_byte(register, widened(b[i]));
-        i += 1;
+    for byte in b {
+        register = fed_byte(register, *byte);
     }
     register
-}
-
-// How many bytes of the slice stand whole among the first n bits.
-fn whole_bytes(n: usize, len: usize) -> usize
-    ensures { (result ≤ len) × (result * 8 ≤ n) }
-{
-    if n / 8 <= len { n / 8 } else { len }
 }
 
 // The check sequence of the first n bits, as a number.
 pub fn check(b: &[u8], n: usize) -> u64
     ensures { result ≡ number (check_of (bits_from b.now 0 n)) }
 {
-    let m = whole_bytes(n, b.len());
-    let mut register = fed_bytes(b, m);
-    let mut i = m * 8;
-    while i < n {
+    // so many bytes stand whole among them
+    let m = (n / 8).min(b.len());
+    let mut register = fed_bytes(&b[..m]);
+    for i in m * 8..n {
         register = fed(register, bit(b, i));
-        i += 1;
     }
-    ONES - register
+    (ONES - register) as u64
 }

@@ -15,35 +15,8 @@ pub const FLAG: u64 = 0x7E;
 // As many bits as one load of eight bytes always holds.
 const WINDOW: usize = 57;
 
-// Whether a flag begins at a place.
-pub fn flag_at(b: &[u8], count: usize, p: usize) -> bool
-    ensures { result ≡ begins flag (stream_at b.now count p) }
-{
-    if count <= p {
-        return false;
-    }
-    if count - p < 8 {
-        return false;
-    }
-    if bits::read(b, p, 8) == FLAG {
-        return true;
-    }
-    false
-}
-
-// The place behind neighbouring flags.
-pub fn past_flags(b: &[u8], count: usize, place: usize) -> usize
-    requires { place ≤ count }
-    ensures { (place ≤ result) × (result ≤ count) × (stream_at b.now count result ≡ past_flags 0 (stream_at b.now count place)) }
-{
-    let mut p = place;
-    while flag_at(b, count, p) {
-        p += 8;
-    }
-    p
-}
-
 // Where six ones stand in a row in w: for each six, a one at the lightest of them.
+#[tactic(auto, using(crate::proofs::Windows::six_ones))]
 fn six_ones(w: u64) -> u64
     ensures { SixOnes w result }
 {
@@ -71,37 +44,62 @@ fn near(b: &[u8], from: usize, to: usize) -> usize
     if from == to {
         return to;
     }
-    let mut p = from;
     // the eight bits from p on
     let mut eight = bits::read(b, from, 8);
-    while p < to {
+    for p in from..to {
         if eight == FLAG {
             return p;
         }
         eight = eight * 2 % 256 + bit(b, p + 8);
-        p += 1;
     }
     to
 }
 
-// The place of the first flag; the count where there is none.
-pub fn closing(b: &[u8], count: usize, from: usize) -> usize
-    requires { from ≤ count }
-    ensures { result ≡ from + length (up_to_flag (stream_at b.now count from)) }
-{
-    let mut p = from;
-    while 8 <= count - p {
-        // a flag from p on has its ones in the bits behind p, and not in the last one
-        let mut n = count - p - 2;
-        if WINDOW < n {
-            n = WINDOW;
-        }
-        let to = p + n - 5;
-        let place = near(b, p + clear(b, p, n), to);
-        if place < to {
-            return place;
-        }
-        p = place;
+// A stream of bits: the first `count` of bytes.
+#[derive(Clone, Copy)]
+pub struct Stream<'a> {
+    pub bytes: &'a [u8],
+    pub count: usize,
+}
+
+impl Stream<'_> {
+    // Whether a flag begins at a place.
+    pub fn flag_at(self, p: usize) -> bool
+        ensures { result ≡ begins flag (stream_at self.entry.bytes.now self.entry.count p) }
+    {
+        8 <= self.count.saturating_sub(p) && bits::read(self.bytes, p, 8) == FLAG
     }
-    count
+
+    // The place behind neighbouring flags.
+    pub fn past_flags(self, place: usize) -> usize
+        requires { place ≤ self.count }
+        ensures { (place ≤ result) × (result ≤ self.entry.count) × (stream_at self.entry.bytes.now self.entry.count result ≡ past_flags 0 (stream_at self.entry.bytes.now self.entry.count place)) }
+    {
+        let mut p = place;
+        // not a `for`: only the flags tell how many there are
+        while self.flag_at(p) {
+            p += 8;
+        }
+        p
+    }
+
+    // The place of the first flag; the count where there is none.
+    pub fn closing(self, from: usize) -> usize
+        requires { from ≤ self.count }
+        ensures { result ≡ from + length (up_to_flag (stream_at self.entry.bytes.now self.entry.count from)) }
+    {
+        let mut p = from;
+        // not a `for`: a step is as long as the window is clear
+        while 8 <= self.count - p {
+            // a flag from p on has its ones in the bits behind p, and not in the last one
+            let n = (self.count - p - 2).min(WINDOW);
+            let to = p + n - 5;
+            let place = near(self.bytes, p + clear(self.bytes, p, n), to);
+            if place < to {
+                return place;
+            }
+            p = place;
+        }
+        self.count
+    }
 }

@@ -1,30 +1,66 @@
 // Inserted zeros, taken out and put in. Both go through the bits by runs: as many bits at once as one load holds, and no further than the
 // fifth one in a row, behind which the inserted zero stands.
 // Relies on stream.rt for one bit, bits for many; specs/Zeros.antt says what inserted zeros are, specs/Steps.antt what a run is.
-ghost use Rattle.std.specs.Prelude.{◌≡◌, ◌+◌, ◌-◌, ◌*◌, ◌^◌, ◌≤◌, ◌<◌};
-ghost use Rattle.frames.specs.Stream.{bits_from};
-ghost use Rattle.frames.specs.Zeros.{with_zeros};
-ghost use Rattle.frames.specs.Steps.{BodyIs, RunIs, fives_in};
+ghost use Rattle.std.specs.Prelude.{◌≡◌, ◌+◌, ◌-◌, ◌*◌, ◌^◌, ◌≤◌, ◌<◌, true, replicate, MatchOption};
+ghost use Rattle.bits.specs.Bits.{put_bits};
+ghost use Rattle.frames.specs.Stream.{bits_from, put_all};
+ghost use Rattle.frames.specs.Zeros.{with_zeros, zero_missing};
+ghost use Rattle.frames.specs.Steps.{BodyIs, RunIs, RunPut, fives_in};
 
-use crate::stream::{CHUNK, bit};
+use crate::stream::{CHUNK, bit, copy_bits};
 
-// How many of the bits left are looked at.
-fn looked_at(left: usize) -> usize
-    requires { 0 < left }
-    ensures { (0 < result) × (result ≤ left) × (result ≤ 56) }
-{
-    if left < CHUNK { left } else { CHUNK }
+// Bits that are put one behind the other into N bytes of zeros, and how many they are. Past the last byte nothing is put.
+// An array, not a Vec: the memory is fixed.
+#[derive(Clone, Copy)]
+pub struct Filled<const N: usize> {
+    pub bytes: [u8; N],
+    pub count: usize,
 }
 
-// The m bits of x with n ones in front of them.
-fn behind_ones(n: usize, m: usize, x: u64) -> u64
-    requires { (n ≤ 4) × (m ≤ 56) × (x < 2 ^ m) }
-    ensures { (result ≡ (2 ^ n - 1) * 2 ^ m + x) × (result < 2 ^ 60) }
-{
-    (((1u64 << n) - 1) << m) + x
+impl<const N: usize> Filled<N> {
+    pub fn new() -> Self
+        ensures { (result.bytes ≡ replicate N 0) × (result.count ≡ 0) }
+    {
+        Filled {
+            bytes: [0; N],
+            count: 0,
+        }
+    }
+
+    // Puts the n low bits of x.
+    pub fn put(&mut self, n: usize, x: u64)
+        requires { self.old.count + n < 2 ^ 64 }
+        ensures { (self.new.bytes ≡ put_bits self.old.bytes self.old.count n x) × (self.new.count ≡ self.old.count + n) }
+    {
+        bits::write(&mut self.bytes, self.count, n, x);
+        self.count += n;
+    }
+
+    // Puts a run of b: of the bits left from p on, with so many ones in front of them, at most as many as one load holds, and no further than
+    // the fifth one in a row.
+    fn put_run(&mut self, b: &[u8], p: usize, left: usize, ones: usize) -> Run
+        requires { (0 < left) × (ones ≤ 4) × (self.old.count + left < 2 ^ 64) }
+        ensures { RunPut b.now p left ones self.old.bytes self.old.count result.bits result.ones self.new.bytes self.new.count }
+    {
+        let count = left.min(CHUNK);
+        let bits = bits::read(b, p, count);
+        let run = Part { ones, count, bits }.run();
+        self.put(run.bits, bits >> (count - run.bits));
+        run
+    }
+
+    // Puts the first n bits of b.
+    pub fn put_bits_of(&mut self, b: &[u8], n: usize)
+        requires { self.old.count + n < 2 ^ 64 }
+        ensures { (self.new.bytes ≡ put_all self.old.bytes self.old.count (bits_from b.now 0 n)) × (self.new.count ≡ self.old.count + n) }
+    {
+        copy_bits(&mut self.bytes, self.count, b, 0, n);
+        self.count += n;
+    }
 }
 
 // The digits that are the fifth one in a row, or a later one.
+#[tactic(auto, unfolding(crate::specs::Steps::fives_in))]
 fn fives(y: u64) -> u64
     ensures { result ≡ fives_in y }
 {
@@ -39,99 +75,85 @@ struct Run {
     ones: usize,
 }
 
-// Of the m bits of x, with n ones in front of them, those up to the fifth one in a row; all, where there is none.
-fn run_of(n: usize, m: usize, x: u64) -> Run
-    requires { (n ≤ 4) × (0 < m) × (m ≤ 56) × (x < 2 ^ m) }
-    ensures { RunIs n m x result.bits result.ones }
-{
-    let y = behind_ones(n, m, x);
-    let five = fives(y);
-    if five == 0 {
-        return Run {
-            bits: m,
-            ones: u64::trailing_zeros(y + 1) as usize,
-        };
-    }
-    Run {
-        bits: m + u64::leading_zeros(five) as usize - 63,
-        ones: 5,
-    }
-}
-
-// What stands between the flags without the inserted zeros: its bits, as many as there is room for, and how many they are. Where a zero is
-// missing, that is all that is said of it.
+// Bits that were read, as the number that they make, and how many ones stand in front of them.
 #[derive(Clone, Copy)]
-pub struct Body {
-    pub bytes: [u8; 255],
-    pub count: usize,
-    pub missing: bool,
+struct Part {
+    ones: usize,
+    count: usize,
+    bits: u64,
+    ghost in_range: { (ones ≤ 4) × (0 < count) × (count ≤ 56) × (bits < 2 ^ count) },
 }
 
-// Goes through the bits from a place up to another.
-pub fn body_of(b: &[u8], from: usize, to: usize) -> Body
-    requires { from ≤ to }
-    ensures { BodyIs (bits_from b.now from (to - from)) result.bytes result.count result.missing }
-{
-    let mut bytes = [0u8; 255];
-    let mut count = 0;
-    let mut n = 0;
-    let mut p = from;
-    while p < to {
-        if n == 5 {
-            if bit(b, p) == 1 {
-                return Body {
-                    bytes,
-                    count,
-                    missing: true,
-                };
+impl Part {
+    // The number that the ones and the bits make.
+    fn behind_ones(self) -> u64
+        ensures { (result ≡ (2 ^ self.ones - 1) * 2 ^ self.count + self.bits) × (result < 2 ^ 60) }
+    {
+        (((1u64 << self.ones) - 1) << self.count) + self.bits
+    }
+
+    // The bits up to the fifth one in a row; all, where there is none.
+    fn run(self) -> Run
+        ensures { RunIs self.ones self.count self.bits result.bits result.ones }
+    {
+        let y = self.behind_ones();
+        let five = fives(y);
+        if five == 0 {
+            Run {
+                bits: self.count,
+                ones: u64::trailing_zeros(y + 1) as usize,
             }
-            n = 0;
-            p += 1;
         } else {
-            let m = looked_at(to - p);
-            let x = bits::read(b, p, m);
-            let run = run_of(n, m, x);
-            let k = run.bits;
-            // past the last byte nothing is put: so long a frame is refused
-            bits::write(&mut bytes, count, k, x >> (m - k));
-            count += k;
-            p += k;
-            n = run.ones;
+            Run {
+                bits: self.count + u64::leading_zeros(five) as usize - 63,
+                ones: 5,
+            }
         }
     }
-    Body {
-        bytes,
-        count,
-        missing: n == 5,
+}
+
+// What stands between the flags without the inserted zeros: its bits, as many as there is room for. None where a zero is missing.
+// Goes through the bits from a place up to another.
+pub fn body_of(b: &[u8], from: usize, to: usize) -> Option<Filled<255>>
+    requires { from ≤ to }
+    ensures { MatchOption result (zero_missing 0 (bits_from b.now from (to - from)) ≡ true) (λ body. BodyIs (bits_from b.now from (to - from)) body.bytes body.count) }
+{
+    let mut body = Filled::new();
+    let mut ones = 0;
+    let mut p = from;
+    // not a `for`: a step is an inserted zero or a run
+    while p < to {
+        if ones == 5 {
+            if bit(b, p) == 1 {
+                return None;
+            }
+            ones = 0;
+            p += 1;
+        } else {
+            // past the last byte nothing is put: so long a frame is refused
+            let run = body.put_run(b, p, to - p, ones);
+            p += run.bits;
+            ones = run.ones;
+        }
     }
+    if ones == 5 { None } else { Some(body) }
 }
 
 // A body with its inserted zeros: at most 2040 bits and 408 zeros.
-#[derive(Clone, Copy)]
-pub struct Stuffed {
-    pub bytes: [u8; 306],
-    pub count: usize,
-}
-
-// Puts the zeros into the first n bits of b.
-pub fn with_zeros(b: &[u8], n: usize) -> Stuffed
-    requires { n ≤ 2040 }
-    ensures { (bits_from result.bytes 0 result.count ≡ with_zeros 0 (bits_from b.now 0 n)) × (result.count ≤ 2448) }
+pub fn with_zeros(body: &Filled<255>) -> Filled<306>
+    requires { body.now.count ≤ 2040 }
+    ensures { (bits_from result.bytes 0 result.count ≡ with_zeros 0 (bits_from body.now.bytes 0 body.now.count)) × (result.count ≤ 2448) }
 {
-    let mut bytes = [0u8; 306];
-    let mut count = 0;
+    let mut stuffed = Filled::new();
     let mut ones = 0;
     let mut i = 0;
-    while i < n {
-        let m = looked_at(n - i);
-        let x = bits::read(b, i, m);
-        let run = run_of(ones, m, x);
-        let k = run.bits;
-        bits::write(&mut bytes, count, k, x >> (m - k));
+    // not a `for`: a step is a run
+    while i < body.count {
+        let run = stuffed.put_run(&body.bytes, i, body.count - i, ones);
         // behind five ones a zero, which is there already
-        count += k + run.ones / 5;
+        stuffed.count += run.ones / 5;
         ones = run.ones % 5;
-        i += k;
+        i += run.bits;
     }
-    Stuffed { bytes, count }
+    stuffed
 }

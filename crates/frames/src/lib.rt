@@ -34,34 +34,28 @@ const HEAD_BITS: usize = 16;
 const CHECK_BITS: usize = 16;
 
 // Why a place gives no frame, or a frame was not written, in the order of document 02.
-#[derive(Clone, Copy)]
+#[derive(Clone, Copy, Debug, PartialEq, Eq)]
 pub enum FrameRefusal {
-    CountOrFlag,
-    ZeroMissing,
-    NoClosingFlag,
-    WrongLength,
-    WrongCheck,
-    UnknownAddress,
-    NoRoom,
+    CountOrFlag = 44,
+    ZeroMissing = 41,
+    NoClosingFlag = 45,
+    WrongLength = 40,
+    WrongCheck = 43,
+    UnknownAddress = 42,
+    NoRoom = 46,
 }
 
-impl FrameRefusal {
-    pub fn number(self) -> u8
-        ensures { result ≡ frame_number self }
-    {
-        match self {
-            FrameRefusal::CountOrFlag => 44,
-            FrameRefusal::ZeroMissing => 41,
-            FrameRefusal::NoClosingFlag => 45,
-            FrameRefusal::WrongLength => 40,
-            FrameRefusal::WrongCheck => 43,
-            FrameRefusal::UnknownAddress => 42,
-            FrameRefusal::NoRoom => 46,
-        }
+// The document's number of a refusal.
+impl From<FrameRefusal> for u8 {
+    ghost from_gives = { λ why n. n ≡ frame_number why };
+
+    fn from(why: FrameRefusal) -> u8 {
+        why as u8
     }
 }
 
 // What stands at a place: a frame with the way it travels, its control and the bits of its field; a refusal; or nothing but flags.
+// Three cases, each with a name: no Option or Result has its shape.
 #[derive(Clone, Copy)]
 pub enum What {
     Frame {
@@ -73,7 +67,8 @@ pub enum What {
     End,
 }
 
-// With it the place that is answered, and the field's bits: the first on top of the first byte, zeros behind the last.
+// With it the place that is answered, and the field's bits: the first on top of the first byte, zeros behind the last. An array, not a Vec:
+// the memory is fixed.
 #[derive(Clone, Copy)]
 pub struct Found {
     pub what: What,
@@ -81,9 +76,9 @@ pub struct Found {
     pub field: [u8; 251],
 }
 
-// What the writer answers: the place of the closing flag; or a refusal and the caller's place.
-#[derive(Clone, Copy)]
-pub enum Wrote {
-    Closing(usize),
-    Refused(FrameRefusal, usize),
+// Why no frame was written, and the caller's place.
+#[derive(Clone, Copy, Debug, PartialEq, Eq)]
+pub struct NotWritten {
+    pub why: FrameRefusal,
+    pub place: usize,
 }

@@ -9,21 +9,12 @@ ghost use Rattle.frames.specs.Reading.{count_over};
 // As many bits as one load of eight bytes always holds, in whole bytes.
 pub const CHUNK: usize = 56;
 
-pub fn widened(x: u8) -> u64
-    ensures { (result ≡ x) × (result < 256) }
-{
-    x as u64
-}
-
-// Past the end there are zeros.
+// Past the end there are zeros. Not by `digit` of bits, which takes a place in two parts: this one is called for each bit of a search.
+#[tactic(auto, unfolding(bits::specs::Bits::bit_at))]
 pub fn bit(b: &[u8], p: usize) -> u64
     ensures { (result ≡ bit_at b.now p) × (result < 2) }
 {
-    let j = p / 8;
-    if j < b.len() {
-        return (widened(b[j]) >> (7 - p % 8)) % 2;
-    }
-    0
+    b.get(p / 8).map_or(0, |x| (*x as u64 >> (7 - p % 8)) % 2)
 }
 
 // Puts n bits of t, behind its first `from`, behind the first `at` of s.
@@ -31,11 +22,12 @@ pub fn copy_bits(s: &mut [u8], at: usize, t: &[u8], from: usize, n: usize)
     requires { (at + n < 2 ^ 64) × (from + n < 2 ^ 64) }
     ensures { s.new ≡ put_all s.old at (bits_from t.now from n) }
 {
-    let mut p = 0;
-    while CHUNK <= n - p {
+    let whole = n / CHUNK;
+    for k in 0..whole {
+        let p = k * CHUNK;
         bits::write(s, at + p, CHUNK, bits::read(t, from + p, CHUNK));
-        p += CHUNK;
     }
+    let p = whole * CHUNK;
     bits::write(s, at + p, n - p, bits::read(t, from + p, n - p));
 }
 
@@ -43,14 +35,5 @@ pub fn copy_bits(s: &mut [u8], at: usize, t: &[u8], from: usize, n: usize)
 pub fn count_over(length: usize, count: usize) -> bool
     ensures { result ≡ count_over length count }
 {
-    if count / 8 < length {
-        return false;
-    }
-    if length < count / 8 {
-        return true;
-    }
-    if count % 8 == 0 {
-        return false;
-    }
-    true
+    length < count.div_ceil(8)
 }

@@ -1,8 +1,8 @@
 -- `bits::few` meets its contract: what there is from the first byte on, then up to the last, then zeros. Assumes nothing.
-use mathlib.Core.Path.{sym, ◌∙◌}
-use Prim.Native.Nat.{◌-◌, ◌*◌}
+use mathlib.Core.Path.{refl, sym, ◌∙◌}
+use Prim.Native.Nat.{◌-◌, ◌*◌, ◌<◌}
 use native.Mathlib.Omega.{arith}
-use lib.ListN.{length}
+use lib.ListN.{length, get_or}
 use lib.Pow.{shl_exact}
 use Rattle.bits.proofs.Laws.{bits_of_out, byte_is, padded, from_ends}
 use Rattle.bits.proofs.few.Goals as goal
@@ -22,8 +22,8 @@ returns-then-len-ge2 c =
 pub returns-then-len-eq1 : goal.returns-then-len-eq1
 returns-then-len-eq1 c =
     let s = c.args.b.now in
-    let x = c.widened.ensures in
-    shl_exact 8 56 64 x.1 (omega arith) ∙ padded s 0 8 56 _ (byte_is s 0 _ x.0 x.1) (omega arith)
+    let x : get_or s 0 0 < 256 = omega (arith, c.type_inv.b 0) in
+    shl_exact 8 56 64 x (omega arith) ∙ padded s 0 8 56 _ (byte_is s 0 _ refl x) (omega arith)
 
-pub returns : goal.returns
-returns c = sym (bits_of_out c.args.b.now 0 64 (omega arith))
+pub returns-else-len-eq1 : goal.returns-else-len-eq1
+returns-else-len-eq1 c = sym (bits_of_out c.args.b.now 0 64 (omega arith))

@@ -1,7 +1,7 @@
 -- `frames::flag::near` meets its contract: no flag begins before p. Assumes nothing.
 use mathlib.Core.Path.{◌≡◌}
 use mathlib.Core.List.{List}
-use Prim.Native.Nat.{ℕ, ◌-◌, ◌≤◌}
+use Prim.Native.Nat.{ℕ, ◌≤◌}
 use Rattle.bits.specs.Bits.{bits_of}
 use Rattle.frames.specs.Steps.{NoFlags}
 use Rattle.frames.proofs.flag.near.Given as goal
@@ -15,6 +15,3 @@ pub record Sought (b : List ℕ) (from to p eight : ℕ) : Type 0 where
 
 abbrev pub invariant-loop-p : goal.invariant-loop-p
 invariant-loop-p l = Sought l.b l.from l.to l.p l.eight
-
-abbrev pub decreases-loop-p : goal.decreases-loop-p
-decreases-loop-p l = l.to - l.p

@@ -3,20 +3,18 @@
 use mathlib.Core.Path.{◌≡◌, refl, sym, ap, ◌∙◌}
 use mathlib.Core.Bool.{Bool, true}
 use mathlib.Core.List.{List, [], ◌++◌, append_assoc, append-nil}
-use Prim.Native.Nat.{ℕ, ◌+◌, ◌-◌, ◌/◌, ◌%◌, ◌^◌, ◌≤◌, ◌<◌}
+use Prim.Native.Nat.{ℕ, ◌+◌, ◌-◌, ◌≤◌, ◌<◌}
 use native.Mathlib.Omega.{arith}
 use borrow.Author.Tests.{eq-eqb, ne_eqb}
 use lib.Dec.{eqb}
 use lib.ListN.{length, length-append}
-use Rattle.bits.specs.Bits.{bit_at, bits_of, put_bits}
-use Rattle.bits.proofs.Laws.{bits_of-lt, whole}
+use Rattle.bits.specs.Bits.{bit_at}
 use Rattle.frames.specs.Stream.{bits_from, put_all}
 use Rattle.frames.specs.Zeros.{zeros_out, zero_missing}
 use Rattle.frames.specs.Reading.{stream_at}
-use Rattle.frames.specs.Steps.{BodyIs, RunIs}
-use Rattle.frames.proofs.Tests.{differ}
+use Rattle.frames.specs.Steps.{RunPut}
 use Rattle.frames.proofs.Streamed.{length-bits_from, stream_cons, stream_none, stream_join}
-use Rattle.frames.proofs.Runs.{run_out, run_missing, run_there}
+use Rattle.frames.proofs.Runs.{run_out, run_missing}
 use Rattle.frames.proofs.Filled.{filled, filled_read}
 use Rattle.frames.proofs.inserted.body_of.Goals as goal
 use Rattle.frames.proofs.inserted.body_of.Invariants.{Done}
@@ -45,24 +43,22 @@ module _ {b : List ℕ} {from to : ℕ} {bytes : List ℕ} {count n p : ℕ} (d 
   absent l e o = d.missing ∙ ap (zero_missing n) (stream_cons b to p l) ∙ rw (eq-eqb n 5 e, eq-eqb (bit_at b p) 1 o) refl
 
   -- a run of the body
-  kept : (m x k o : ℕ) → p + m ≤ to → m ≤ 64 → x ≡ bits_of b p m % 2 ^ 64 → RunIs n m x k o → (more : List ℕ) → more ≡ put_bits bytes count k (x / 2 ^ (m - k))
-      → Done b from to more (count + k) o (p + k)
-  kept m x k o l h e r more put =
+  kept : (k o : ℕ) (more : List ℕ) (total : ℕ) → RunPut b p (to - p) n bytes count k o more total → p < to → Done b from to more total o (p + k)
+  kept k o more total r h =
       let w = d.within in
       let i = r.within in
       let xs = bits_from b p k in
       let c = stream_join b to p k (omega arith) in
-      let there = run_there b p n m x k o h e r in
       record {
-        within = (omega arith, omega arith);
+        within = (omega (arith, r.counted), omega arith);
         few = r.few;
         done = d.done ++ xs;
         out =
-            d.out ∙ ap (λ (s : List Bool). d.done ++ zeros_out n s) c ∙ ap (λ (s : List Bool). d.done ++ s) (run_out n o xs _ there.1)
+            d.out ∙ ap (λ (s : List Bool). d.done ++ zeros_out n s) c ∙ ap (λ (s : List Bool). d.done ++ s) (run_out n o xs _ r.passes)
             ∙ sym (append_assoc d.done xs (zeros_out o (stream_at b to (p + k))));
-        missing = d.missing ∙ ap (zero_missing n) c ∙ run_missing n o xs _ there.1;
-        count_is = rw (length-append d.done xs, length-bits_from b p k, sym d.count_is) refl;
-        bytes_are = put ∙ filled_read 255 d.done bytes b count p k _ d.bytes_are (sym d.count_is) there.0;
+        missing = d.missing ∙ ap (zero_missing n) c ∙ run_missing n o xs _ r.passes;
+        count_is = r.counted ∙ rw (length-append d.done xs, length-bits_from b p k, sym d.count_is) refl;
+        bytes_are = r.put ∙ filled_read 255 d.done bytes b count p k _ d.bytes_are (sym d.count_is) refl;
       }
 
   -- no bit is left
@@ -74,41 +70,35 @@ module _ {b : List ℕ} {from to : ℕ} {bytes : List ℕ} {count n p : ℕ} (d 
   unfolding zeros_out
   all_done l = d.out ∙ ap (λ (s : List Bool). d.done ++ zeros_out n s) (stream_none b to p l) ∙ append-nil d.done
 
--- where a zero is missing nothing else is said
-missing-body : {s : List Bool} (bytes : List ℕ) (count : ℕ) → zero_missing 0 s ≡ true → BodyIs s bytes count true
-missing-body bytes count e = record { missing_is = sym e; count_is = λ h. differ (sym e ∙ h); bytes_are = λ h. differ (sym e ∙ h) }
-
 pub loop-p-init : goal.loop-p-init
 unfolding put_all
 loop-p-init c =
-    record { within = (omega arith, omega arith); few = omega arith; done = []; out = refl; missing = refl; count_is = refl; bytes_are = refl }
+    record { within = (omega arith, omega arith); few = omega arith; done = []; out = refl; missing = refl; count_is = c.new-body.ensures.1; bytes_are = c.new-body.ensures.0 }
 
 pub returns-then-bit-eq1 : goal.returns-then-bit-eq1
-returns-then-bit-eq1 c =
-    missing-body _ _ (absent c.loop-p.invariant c.loop-p-test.true c.if-n-eq5.true (sym c.bit.ensures.0 ∙ c.if-bit-eq1.true))
+returns-then-bit-eq1 c = absent c.loop-p.invariant c.loop-p-test.true c.if-ones-eq5.true (sym c.bit.ensures.0 ∙ c.if-bit-eq1.true)
 
-pub loop-p-preserved-then-n-eq5 : goal.loop-p-preserved-then-n-eq5
-loop-p-preserved-then-n-eq5 c =
-    dropped c.loop-p.invariant c.loop-p-test.true c.if-n-eq5.true (λ e. c.if-bit-eq1.false (c.bit.ensures.0 ∙ e))
+pub loop-p-preserved-then-ones-eq5 : goal.loop-p-preserved-then-ones-eq5
+loop-p-preserved-then-ones-eq5 c =
+    dropped c.loop-p.invariant c.loop-p-test.true c.if-ones-eq5.true (λ e. c.if-bit-eq1.false (c.bit.ensures.0 ∙ e))
 
-pub run_of-run-requires : goal.run_of-run-requires
-run_of-run-requires c =
-    let m = c.looked_at-m.ensures in
+pub put_run-run-requires : goal.put_run-run-requires
+put_run-run-requires c =
     let few = c.loop-p.invariant.few in
-    let ne = c.if-n-eq5.false in
-    (omega (arith, ne), m.0, m.2, rw (c.read-x.ensures ∙ whole _ _ _ (omega (arith, m))) (bits_of-lt _ _ _))
+    (omega arith, (omega arith, omega (arith, c.if-ones-eq5.false), omega arith))
 
 pub loop-p-preserved : goal.loop-p-preserved
-loop-p-preserved c =
-    let m = c.looked_at-m.ensures in
-    kept c.loop-p.invariant c.looked_at-m.result c.read-x.result _ _ (omega (arith, m, c.loop-p-test.true)) (omega (arith, m)) c.read-x.ensures c.run_of-run.ensures _ c.write.ensures
+loop-p-preserved c = kept c.loop-p.invariant _ _ _ _ c.put_run-run.ensures c.loop-p-test.true
 
-pub returns : goal.returns
-returns c =
+pub returns-then-ones-eq5-2 : goal.returns-then-ones-eq5-2
+returns-then-ones-eq5-2 c = at_end c.loop-p.invariant c.loop-p-test.false ∙ eq-eqb _ _ c.if-ones-eq5-2.true
+
+pub returns-else-ones-eq5-2 : goal.returns-else-ones-eq5-2
+returns-else-ones-eq5-2 c =
     let d = c.loop-p.invariant in
     let e = all_done d c.loop-p-test.false in
     record {
-      missing_is = sym (at_end d c.loop-p-test.false);
-      count_is = λ h. d.count_is ∙ ap length (sym e);
-      bytes_are = λ h. d.bytes_are ∙ ap filled (sym e);
+      none_missing = at_end d c.loop-p-test.false ∙ ne_eqb _ _ c.if-ones-eq5-2.false;
+      count_is = d.count_is ∙ ap length (sym e);
+      bytes_are = d.bytes_are ∙ ap filled (sym e);
     }

@@ -21,7 +21,7 @@ pub record Done (b : List ℕ) (from to : ℕ) (bytes : List ℕ) (count n p : �
   pub bytes_are : bytes ≡ filled done
 
 abbrev pub invariant-loop-p : goal.invariant-loop-p
-invariant-loop-p l = Done l.b l.from l.to l.bytes l.count l.n l.p
+invariant-loop-p l = Done l.b l.from l.to l.body.bytes l.body.count l.ones l.p
 
 abbrev pub decreases-loop-p : goal.decreases-loop-p
 decreases-loop-p l = l.to - l.p

@@ -19,7 +19,7 @@ pub record Put (b : List ℕ) (n : ℕ) (bytes : List ℕ) (count ones i : ℕ) 
   pub bytes_are : bytes ≡ put_all (replicate 306 0) 0 done
 
 abbrev pub invariant-loop-i : goal.invariant-loop-i
-invariant-loop-i l = Put l.b l.n l.bytes l.count l.ones l.i
+invariant-loop-i l = Put l.body.bytes l.body.count l.stuffed.bytes l.stuffed.count l.ones l.i
 
 abbrev pub decreases-loop-i : goal.decreases-loop-i
-decreases-loop-i l = l.n - l.i
+decreases-loop-i l = l.body.count - l.i

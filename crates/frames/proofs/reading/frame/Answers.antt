@@ -6,9 +6,9 @@ use Rattle.frames.proofs.Judging.{frame_found}
 use Rattle.frames.proofs.reading.frame.Goals as goal
 
 pub overflow_cast-control : goal.overflow_cast-control
-overflow_cast-control c = omega (arith, c.read-control.ensures ∙ whole _ 8 8 (omega arith), bits_of-lt c.args.bytes 8 8)
+overflow_cast-control c = omega (arith, c.read-control.ensures ∙ whole _ 8 8 (omega arith), bits_of-lt c.args.body.now.bytes 8 8)
 
 pub returns : goal.returns
 returns c =
     let a = c.args in
-    sym (frame_found a.bytes a.count _ a.place a.way c.field_of-field.result (omega arith) (c.read-control.ensures ∙ whole _ 8 8 (omega arith)) c.field_of-field.ensures)
+    sym (frame_found a.body.now.bytes a.body.now.count _ a.place a.way c.field_of.result (omega arith) (c.read-control.ensures ∙ whole _ 8 8 (omega arith)) c.field_of.ensures)

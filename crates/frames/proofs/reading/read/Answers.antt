@@ -11,6 +11,7 @@ use Rattle.frames.specs.Frame.{flag}
 use Rattle.frames.specs.Reading.{refused, begins, count_over, read_bits, stream_at, found_at, read_frame}
 use Rattle.frames.specs.Steps.{behind_flag}
 use Rattle.frames.proofs.reading.read.Goals as goal
+use Rattle.frames.proofs.reading.read.Goals.{then-count_over-via-then-count_over, then-count_over-via-else-count_over+then-not-flag_at}
 
 module _ (b : List ℕ) (count place : ℕ) where
   over : count_over (length b) count ≡ true → found_at place (refused R.CountOrFlag) ≡ read_frame b count place
@@ -27,12 +28,12 @@ module _ (b : List ℕ) (count place : ℕ) where
     flagged = sym (rw within refl)
 
 pub returns-then-count_over : goal.returns-then-count_over
-returns-then-count_over c = c.nothing.ensures ∙ over _ _ _ (sym c.count_over.ensures ∙ c.if-count_over.true)
-
-pub returns-then-flag_at : goal.returns-then-flag_at
-returns-then-flag_at c =
-    c.behind_flag.ensures ∙ flagged _ _ _ (sym c.count_over.ensures ∙ c.if-count_over.false)
+returns-then-count_over c =
+    elim c.then-count_over.branch [
+      | then-count_over-via-then-count_over w ↦ c.nothing.ensures ∙ over _ _ _ (sym w.if-count_over.ensures)
+      | then-count_over-via-else-count_over+then-not-flag_at w ↦
+          c.nothing.ensures ∙ no_flag _ _ _ (sym w.if-count_over.ensures) (sym w.if-not-flag_at.ensures)
+    ]
 
 pub returns : goal.returns
-returns c =
-    c.nothing-2.ensures ∙ no_flag _ _ _ (sym c.count_over.ensures ∙ c.if-count_over.false) (sym c.flag_at.ensures ∙ c.if-flag_at.false)
+returns c = c.behind_flag.ensures ∙ flagged _ _ _ (sym c.if-count_over.ensures)

@@ -29,5 +29,5 @@ three s place end bs t u v b e p q r =
 pub returns : goal.returns
 returns c =
     let a = c.args in
-    three a.s.now a.place a.end _ _ _ _ (are_bytes a.s.now (λ j. omega (arith, c.slice_known-1.given j))) (rw (length-bits_from a.b.now 0 a.n) c.requires.0)
+    three a.s.now a.place a.end _ _ _ _ (are_bytes a.s.now (λ j. grind arith)) (rw (length-bits_from a.between.now.bytes 0 a.between.now.count) c.requires.0)
     c.write.ensures c.copy_bits.ensures c.write-2.ensures

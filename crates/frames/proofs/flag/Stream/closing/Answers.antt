@@ -1,4 +1,4 @@
--- `frames::flag::closing` meets its contract: the first flag from p on is the first one from the start on. Assumes nothing.
+-- `frames::flag::Stream::closing` meets its contract: the first flag from p on is the first one from the start on. Assumes nothing.
 use mathlib.Core.Path.{◌≡◌, sym, ap, ◌∙◌}
 use mathlib.Core.List.{List}
 use Prim.Native.Nat.{ℕ, ◌+◌, ◌≤◌}
@@ -10,9 +10,9 @@ use Rattle.frames.specs.Reading.{up_to_flag, stream_at}
 use Rattle.frames.specs.Steps.{NoFlags}
 use Rattle.frames.proofs.Flagged.{flag_is, up-to-flag, up_to_end}
 use Rattle.frames.proofs.Windows.{up_to_clear}
-use Rattle.frames.proofs.flag.closing.Goals as goal
-use Rattle.frames.proofs.flag.closing.Goals.{After-near-place, then-n-gt-WINDOW, else-n-gt-WINDOW}
-use Rattle.frames.proofs.flag.closing.Invariants.{Sought}
+use Rattle.frames.proofs.flag.Stream.closing.Goals as goal
+use Rattle.frames.proofs.flag.Stream.closing.Goals.{After-near-place}
+use Rattle.frames.proofs.flag.Stream.closing.Invariants.{Sought}
 
 -- as many bits of a window as are left
 record Left (count p n : ℕ) : Type 0 where
@@ -35,16 +35,11 @@ module _ {b : List ℕ} {count from p : ℕ} (s : Sought b count from p) where
       let z : length (up_to_flag (stream_at b count p)) ≡ 0 = ap length (up-to-flag _ (flag_is b count p (omega arith) e)) in
       sym (add-zero p) ∙ ap (λ (k : ℕ). p + k) (sym z) ∙ s.same
 
-left : (c : After-near-place) → Left c.args.count c.loop-p.p c.if-n-gt-WINDOW.n
-left c =
-    let l = c.loop-p-test.true in
-    elim c.if-n-gt-WINDOW.branch [
-      | then-n-gt-WINDOW w ↦ record { few = omega arith; many = omega arith; room = omega arith }
-      | else-n-gt-WINDOW w ↦ record { few = omega arith; many = omega arith; room = omega arith }
-    ]
+left : (c : After-near-place) → Left c.args.self.count c.loop-p.p c.min-n.result
+left c = record { few = omega arith; many = omega arith; room = omega arith }
 
 -- where the two steps of a turn lead
-come : (c : After-near-place) → Sought c.args.b.now c.args.count c.args.from c.near-place.result
+come : (c : After-near-place) → Sought c.args.self.bytes.now c.args.self.count c.args.from c.near-place.result
 come c =
     let k = left c in
     let x = c.clear.ensures in

@@ -1,8 +1,8 @@
--- `frames::flag::past_flags` meets its contract: what lies behind the flags from p on lies behind those from the place on. Assumes nothing.
+-- `frames::flag::Stream::past_flags` meets its contract: what lies behind the flags from p on lies behind those from the place on. Assumes nothing.
 use mathlib.Core.Path.{sym, ◌∙◌}
 use native.Mathlib.Omega.{arith}
 use Rattle.frames.proofs.Flagged.{flag_room, past_none, past_one}
-use Rattle.frames.proofs.flag.past_flags.Goals as goal
+use Rattle.frames.proofs.flag.Stream.past_flags.Goals as goal
 
 pub overflow_add-p : goal.overflow_add-p
 overflow_add-p c = omega (arith, flag_room _ _ _ (sym c.flag_at.ensures ∙ c.loop-p-test.true))
