@@ -5,7 +5,7 @@
 
 use case::{Case, Task};
 use lines::What;
-use measures::{CoarseAzimuth, CoarseRange, RunLength, Time};
+use measures::{Azimuth, Range, RunLength, Time};
 use print::{Answer, Found};
 use reports::altitude::Form;
 use reports::{Report, Search};
@@ -82,8 +82,8 @@ fn too_large() -> Report {
         test: false,
         faa: true,
         af: false,
-        range: CoarseRange(320),
-        azimuth: CoarseAzimuth(1024),
+        range: Range(320),
+        azimuth: Azimuth(1024),
         aims: false,
         code: 0,
         run: RunLength(5),
