@@ -1,3 +1,4 @@
+pub mod Names
 pub mod Decimals
 pub mod Bounded
 pub mod Telling

@@ -9,7 +9,9 @@ use native.Mathlib.Omega.{arith}
 use lib.Dec.{eqb, ltb}
 use lib.ListN.{length}
 use borrow.Author.Tests.{ltb-true, ltb-false, eqb-true, eqb-false}
+use Rattle.std.specs.Prelude.{Result, Ok, Err}
 use Rattle.refusals.specs.Numbers.{line_number}
+use Rattle.reports.specs.declared.Report.{Report}
 use Rattle.reports.specs.declared.RunRefusal.{RunRefusal}
 use Rattle.reports.specs.Kinds.{kind_of}
 use Rattle.lines.specs.declared.Outcome.{Outcome}

@@ -4,7 +4,7 @@ use Rattle.std.specs.Prelude.{ℕ, zero, suc, ◌+◌, ◌/◌, ◌%◌, cond, L
 use Prim.Native.Char.{code}
 use Prim.Native.String.{String, [] as []ˢ, ◌∷◌ as ◌∷ˢ◌}
 use Rattle.reports.specs.declared.kinds.Kind.{Kind}
-use Rattle.reports.specs.declared.kinds.Kind.TheVariants as K
+use Rattle.reports.specs.Kinds.{name_of}
 
 -- the bytes of a text
 abbrev pub text : String → List ℕ
@@ -23,24 +23,6 @@ decimal n = digits (suc n) n
 -- a label and a number
 abbrev pub item : String → ℕ → List ℕ
 item label n = text label ++ decimal n
-
--- what each kind is called; with substitution, by what stands in for the height too
-abbrev pub name_of : Kind → List ℕ
-name_of K.Search = text "SEARCH"
-name_of K.Strobe = text "STROBE"
-name_of K.Map = text "MAP"
-name_of K.Status = text "STATUS"
-name_of K.Rtqc = text "RTQC"
-name_of K.Dabs = text "DABS"
-name_of K.DabsCd = text "DABS-CD"
-name_of K.DabsMtd = text "DABS-MTD"
-name_of K.DabsRdas = text "DABS-RDAS"
-name_of K.Atcrbs = text "ATCRBS"
-name_of K.AtcrbsCd = text "ATCRBS-CD"
-name_of K.AtcrbsMtd = text "ATCRBS-MTD"
-name_of K.AtcrbsRdas = text "ATCRBS-RDAS"
-name_of K.Mtd = text "MTD"
-name_of K.Rdas = text "RDAS"
 
 -- a report: its run's place, its kind, how many words
 abbrev pub report_line : ℕ → Kind → ℕ → List ℕ

@@ -1,43 +1,19 @@
 // The three kinds of line that a listing has, each into a text that is empty. Relies on letters. Places and counts of words are below 65,536: of at most five digits.
-ghost use Rattle.std.specs.Prelude.{◌≡◌, ◌≤◌, [], length};
-ghost use Rattle.listing.specs.Letters.{name_of, report_line, refused_line, totals_line};
+ghost use Rattle.std.specs.Prelude.{◌≡◌, []};
+ghost use Rattle.listing.specs.Letters.{report_line, refused_line, totals_line};
 
 use crate::letters::Text;
 use reports::kinds::Kind;
 
-// A kind's name.
-fn name(kind: Kind) -> &'static [u8]
-    ensures is { result.now ≡ name_of kind }
-    ensures short { length result.now ≤ 11 }
-{
-    match kind {
-        Kind::Search => b"SEARCH",
-        Kind::Strobe => b"STROBE",
-        Kind::Map => b"MAP",
-        Kind::Status => b"STATUS",
-        Kind::Rtqc => b"RTQC",
-        Kind::Dabs => b"DABS",
-        Kind::DabsCd => b"DABS-CD",
-        Kind::DabsMtd => b"DABS-MTD",
-        Kind::DabsRdas => b"DABS-RDAS",
-        Kind::Atcrbs => b"ATCRBS",
-        Kind::AtcrbsCd => b"ATCRBS-CD",
-        Kind::AtcrbsMtd => b"ATCRBS-MTD",
-        Kind::AtcrbsRdas => b"ATCRBS-RDAS",
-        Kind::Mtd => b"MTD",
-        Kind::Rdas => b"RDAS",
-    }
-}
-
 // The line of a report.
-#[tactic(auto, using(crate::proofs::Decimals::five))]
+#[tactic(auto, using(crate::proofs::Decimals::five, crate::proofs::Names::short))]
 pub fn report(line: &mut Text, place: u16, kind: Kind, count: u16)
     requires { line.old ≡ [] }
     ensures { line.new ≡ report_line place kind count }
 {
     line.number(usize::from(place));
     line.text(b" ");
-    line.text(name(kind));
+    line.text(kind.name().as_bytes());
     line.item(b" ", usize::from(count));
     line.text(b"\n");
 }
