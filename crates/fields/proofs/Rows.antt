@@ -70,9 +70,9 @@ unfolding known row_at rows table
 unpacked_at i d h = smaller_at rows i d h
 
 -- the last type stands at every place from 20 on
-pub field_at-last : (at a b c d e f g h i j : ℕ) → 20 ≤ at → field_at at a b c d e f g h i j ≡ ControllerAlert a b c d e f g h i j
+pub field_at_last : (at a b c d e f g h i j : ℕ) → 20 ≤ at → field_at at a b c d e f g h i j ≡ ControllerAlert a b c d e f g h i j
 unfolding field_at
-field_at-last at a b c d e f g h i j l = get_or-eq_default (fields_by a b c d e f g h i j) (ControllerAlert a b c d e f g h i j) l
+field_at_last at a b c d e f g h i j l = get_or-eq_default (fields_by a b c d e f g h i j) (ControllerAlert a b c d e f g h i j) l
 
 -- a place that is found stands in the table, and holds the code
 found_in : (c : ℕ) (rs : List Row) (a i : ℕ) → place_from c rs a ≡ Some i → i < a + length rs
