@@ -32,7 +32,7 @@ impl From<u32> for Direction {
 }
 
 // A row of the table. A field of the type has base + step * (more + the values of its counted parts) bits; a part is named by its place in
-// the layout, the type itself being part 0, and NONE names none.
+// the layout, the type itself being part 0.
 #[derive(Clone, Copy)]
 pub struct Row {
     pub code: u64,
@@ -40,9 +40,9 @@ pub struct Row {
     pub base: usize,
     pub step: usize,
     pub more: u64,
-    pub first: usize,
-    pub second: usize,
-    pub third: usize,
+    pub first: Option<usize>,
+    pub second: Option<usize>,
+    pub third: Option<usize>,
 }
 
 // What is wrong with the parts of a field: a spare bit is one; a value is not in use.
