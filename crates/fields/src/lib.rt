@@ -5,6 +5,7 @@
 
 ghost use Rattle.std.specs.Prelude.{◌≡◌};
 ghost use Rattle.fields.specs.Reading.{way_numbered};
+ghost use Rattle.fields.specs.Numbers.{rule_numbered};
 
 pub mod table; // the known types, their lengths, their parts, and the rules of the parts
 pub mod parts; // the parts of a field: their faults, and what the counted ones say
@@ -43,6 +44,42 @@ pub struct Row {
     pub first: Option<usize>,
     pub second: Option<usize>,
     pub third: Option<usize>,
+}
+
+// What a part's value may be.
+#[derive(Clone, Copy, Debug, PartialEq, Eq)]
+pub enum Rule {
+    Any = 0,
+    Spare = 1,
+    NotZero = 2,
+    One = 3,
+    UpTo4 = 4,
+    UpTo5 = 5,
+    Advisory = 6,
+}
+
+// By the number that the definitions name a rule with; any other is any value.
+impl From<u8> for Rule {
+    ghost from_gives = { λ number rule. rule ≡ rule_numbered number };
+
+    fn from(number: u8) -> Rule {
+        match number {
+            1 => Rule::Spare,
+            2 => Rule::NotZero,
+            3 => Rule::One,
+            4 => Rule::UpTo4,
+            5 => Rule::UpTo5,
+            6 => Rule::Advisory,
+            _ => Rule::Any,
+        }
+    }
+}
+
+// What is wrong with a part's value: a spare bit is one; the value is not in use.
+#[derive(Clone, Copy, Debug, PartialEq, Eq)]
+pub enum Fault {
+    Spare = 1,
+    Unused = 2,
 }
 
 // What is wrong with the parts of a field: a spare bit is one; a value is not in use.
