@@ -1,5 +1,6 @@
 // The parts of a field and the bytes of a text, one by one: whether the values fit, and their bits.
 // Relies on `bits`; specs/Writing.antt of `fields` says what each function means.
+// That `before` is at most 4096 stands in each `requires`: it is another sum at each call, kept nowhere, so a type for it would be no plainer.
 ghost use Rattle.std.specs.Prelude.{◌≡◌, ℕ, ◌≤◌, length, get_or, replicate};
 ghost use Rattle.fields.specs.Writing.{fit_all, put_all};
 
