@@ -27,6 +27,10 @@ unfoldable pub same_way_as : Direction → Direction → Bool
 same_way_as ToSensor w = not (from_sensor w)
 same_way_as FromSensor w = from_sensor w
 
+-- the way that C names by a number: 0 is to the sensor, any other from it
+abbrev pub way_numbered : ℕ → Direction
+way_numbered k = cond (k == 0) ToSensor FromSensor
+
 -- ---- the count and the bytes
 
 -- 20: count under 8 or over 2008
@@ -182,6 +186,9 @@ text_of s n w = drop (text_place s (answer_of s n w)) s
 
 -- ---- the number of an answer: 0, or the refusal's
 
+abbrev pub number_of : {T : Type 0} → Result T FieldRefusal → ℕ
+number_of (Ok x) = 0
+number_of (Err r) = field_number r
+
 abbrev pub answer_number : Result Record FieldRefusal → ℕ
-answer_number (Ok r) = 0
-answer_number (Err r) = field_number r
+answer_number = number_of

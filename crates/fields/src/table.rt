@@ -1,322 +1,279 @@
 // The known types (document 01, "Link data fields"): one constant table, looked up by the reader and the writer alike. A type's parts go by the
-// place of its row: eleven widths and eleven rules; a type with fewer has parts of no bits behind them. Those are a `match` on the place and no
-// constant array, since of a constant array the compiler makes a copy at each look into it.
+// place of its row: eleven widths and eleven rules; a type with fewer has parts of no bits behind them. Those are a `match` on the place, so that
+// each stands in one line with its type.
 // Types that are known but not carried have no row: `unknown` of `field_reader` names them.
 // Relies on nothing but the names; specs/Table.antt says what the table holds.
-ghost use Rattle.std.specs.Prelude.{◌≡◌, ◌<◌};
+ghost use Rattle.std.specs.Prelude.{◌≡◌, ◌-◌, ◌≤◌, ◌++◌, map, replicate};
 ghost use Rattle.fields.specs.Table.{place_of, row_at, widths_at, rules_at, fault_of};
-ghost use Rattle.fields.specs.Reading.{from_sensor};
+ghost use Rattle.fields.specs.Numbers.{rule_number, fault_number};
+ghost use Rattle.fields.specs.declared.Rule.TheVariants.{Spare};
 
-use crate::{Direction, Row};
+use crate::{Direction, Fault, Row, Rule};
 
-// No part.
-const NONE: u8 = 11;
-
-// What a part's value may be; 0 is any.
-const SPARE: u8 = 1;
-
-const NOT_ZERO: u8 = 2;
-
-const ONE: u8 = 3;
-
-const UP_TO_4: u8 = 4;
-
-const UP_TO_5: u8 = 5;
-
-const ADVISORY: u8 = 6;
-
-// A row as it stands in the table. Each number is below 256: of a constant array that is looked into at a place known only as the program runs,
-// the compiler makes a copy each time, and so it is a small one.
-#[derive(Clone, Copy)]
-pub struct Known {
-    pub code: u8,
-    pub way: Direction,
-    pub base: u8,
-    pub step: u8,
-    pub more: u8,
-    pub first: u8,
-    pub second: u8,
-    pub third: u8,
-}
-
-const KNOWN: [Known; 22] = [
+// It is a static: of a constant array that is looked into at a place known only as the program runs, the compiler makes a copy each time.
+static KNOWN: [Row; 22] = [
     // tactical: address 9-32, number 33-36, P 37, EXP 38-40, text 41-96
-    Known {
+    Row {
         code: 0x21,
         way: Direction::ToSensor,
         base: 96,
         step: 0,
         more: 0,
-        first: NONE,
-        second: NONE,
-        third: NONE,
+        first: None,
+        second: None,
+        third: None,
     },
     // ELM: the same to 40, spare 41-44, Length 45-48, text
-    Known {
+    Row {
         code: 0x22,
         way: Direction::ToSensor,
         base: 48,
         step: 80,
         more: 1,
-        first: 6,
-        second: NONE,
-        third: NONE,
+        first: Some(6),
+        second: None,
+        third: None,
     },
     // request: to 40, MSRC 41-44, spare
-    Known {
+    Row {
         code: 0x23,
         way: Direction::ToSensor,
         base: 48,
         step: 0,
         more: 0,
-        first: NONE,
-        second: NONE,
-        third: NONE,
+        first: None,
+        second: None,
+        third: None,
     },
     // address, number, spare
-    Known {
+    Row {
         code: 0x24,
         way: Direction::ToSensor,
         base: 40,
         step: 0,
         more: 0,
-        first: NONE,
-        second: NONE,
-        third: NONE,
+        first: None,
+        second: None,
+        third: None,
     },
     // address, number, spare
-    Known {
+    Row {
         code: 0x02,
         way: Direction::ToSensor,
         base: 40,
         step: 0,
         more: 0,
-        first: NONE,
-        second: NONE,
-        third: NONE,
+        first: None,
+        second: None,
+        third: None,
     },
     // cancellation: address, number, referenced number 37-40, referenced type 41-48
-    Known {
+    Row {
         code: 0x25,
         way: Direction::ToSensor,
         base: 48,
         step: 0,
         more: 0,
-        first: NONE,
-        second: NONE,
-        third: NONE,
+        first: None,
+        second: None,
+        third: None,
     },
     // test
-    Known {
+    Row {
         code: 0x61,
         way: Direction::ToSensor,
         base: 56,
         step: 0,
         more: 0,
-        first: NONE,
-        second: NONE,
-        third: NONE,
+        first: None,
+        second: None,
+        third: None,
     },
     // altimeter: spare 9-12, N 13-16, blocks
-    Known {
+    Row {
         code: 0x9B,
         way: Direction::ToSensor,
         base: 16,
         step: 8,
         more: 1,
-        first: 2,
-        second: NONE,
-        third: NONE,
+        first: Some(2),
+        second: None,
+        third: None,
     },
     // state 9-10, spare
-    Known {
+    Row {
         code: 0x99,
         way: Direction::ToSensor,
         base: 16,
         step: 0,
         more: 0,
-        first: NONE,
-        second: NONE,
-        third: NONE,
+        first: None,
+        second: None,
+        third: None,
     },
     // SID 9-12, spare, SSTAT 15-16, spare
-    Known {
+    Row {
         code: 0x65,
         way: Direction::ToSensor,
         base: 24,
         step: 0,
         more: 0,
-        first: NONE,
-        second: NONE,
-        third: NONE,
+        first: None,
+        second: None,
+        third: None,
     },
     // IP 9-11, IS 12-14, IU 15-16, addresses
-    Known {
+    Row {
         code: 0x9A,
         way: Direction::ToSensor,
         base: 16,
         step: 24,
         more: 0,
-        first: 1,
-        second: 2,
-        third: 3,
+        first: Some(1),
+        second: Some(2),
+        third: Some(3),
     },
     // ICA 9-12, IUA 13-16, identifiers
-    Known {
+    Row {
         code: 0x96,
         way: Direction::ToSensor,
         base: 16,
         step: 24,
         more: 0,
-        first: 1,
-        second: 2,
-        third: NONE,
+        first: Some(1),
+        second: Some(2),
+        third: None,
     },
     // address, referenced number 33-36, QUAL 37-39, spare
-    Known {
+    Row {
         code: 0x31,
         way: Direction::FromSensor,
         base: 40,
         step: 0,
         more: 0,
-        first: NONE,
-        second: NONE,
-        third: NONE,
+        first: None,
+        second: None,
+        third: None,
     },
     // DI at 37, spare
-    Known {
+    Row {
         code: 0x32,
         way: Direction::FromSensor,
         base: 40,
         step: 0,
         more: 0,
-        first: NONE,
-        second: NONE,
-        third: NONE,
+        first: None,
+        second: None,
+        third: None,
     },
     // tactical
-    Known {
+    Row {
         code: 0x41,
         way: Direction::FromSensor,
         base: 88,
         step: 0,
         more: 0,
-        first: NONE,
-        second: NONE,
-        third: NONE,
+        first: None,
+        second: None,
+        third: None,
     },
     // ELM: spare 33-36, Length 37-40, text
-    Known {
+    Row {
         code: 0x42,
         way: Direction::FromSensor,
         base: 40,
         step: 80,
         more: 1,
-        first: 3,
-        second: NONE,
-        third: NONE,
+        first: Some(3),
+        second: None,
+        third: None,
     },
     // spare 33-34, UM
-    Known {
+    Row {
         code: 0x43,
         way: Direction::FromSensor,
         base: 40,
         step: 0,
         more: 0,
-        first: NONE,
-        second: NONE,
-        third: NONE,
+        first: None,
+        second: None,
+        third: None,
     },
     // CA 33-35, ACA 36-41, ECA 42-93, spare
-    Known {
+    Row {
         code: 0x44,
         way: Direction::FromSensor,
         base: 96,
         step: 0,
         more: 0,
-        first: NONE,
-        second: NONE,
-        third: NONE,
+        first: None,
+        second: None,
+        third: None,
     },
     // spare 33-36, code 37-48
-    Known {
+    Row {
         code: 0x45,
         way: Direction::FromSensor,
         base: 48,
         step: 0,
         more: 0,
-        first: NONE,
-        second: NONE,
-        third: NONE,
+        first: None,
+        second: None,
+        third: None,
     },
     // test response
-    Known {
+    Row {
         code: 0x62,
         way: Direction::FromSensor,
         base: 56,
         step: 0,
         more: 0,
-        first: NONE,
-        second: NONE,
-        third: NONE,
+        first: None,
+        second: None,
+        third: None,
     },
     // alert: ACID 9-32 and 33-56, then twice CS 2, advisory 11, DEL 3, then V1, V2
-    Known {
+    Row {
         code: 0x83,
         way: Direction::FromSensor,
         base: 90,
         step: 0,
         more: 0,
-        first: NONE,
-        second: NONE,
-        third: NONE,
+        first: None,
+        second: None,
+        third: None,
     },
     // relay: sensor 9-16, then a whole field
-    Known {
+    Row {
         code: 0x03,
         way: Direction::FromSensor,
         base: 16,
         step: 0,
         more: 0,
-        first: NONE,
-        second: NONE,
-        third: NONE,
+        first: None,
+        second: None,
+        third: None,
     },
 ];
 
-fn row_of(known: Known) -> Row
-    ensures { result ≡ record { code = known.code; way = known.way; base = known.base; step = known.step; more = known.more; first = known.first; second = known.second; third = known.third } }
-{
-    let way = known.way;
-    Row {
-        code: known.code as u64,
-        way,
-        base: known.base as usize,
-        step: known.step as usize,
-        more: known.more as u64,
-        first: known.first as usize,
-        second: known.second as usize,
-        third: known.third as usize,
-    }
-}
+// What stands for a row past the end.
+const NO_ROW: Row = Row {
+    code: 0,
+    way: Direction::ToSensor,
+    base: 0,
+    step: 0,
+    more: 0,
+    first: None,
+    second: None,
+    third: None,
+};
 
 // The row at place i, and what stands for one past the end.
+#[tactic(auto, unfolding(crate::specs::Table::table, crate::specs::Table::rows, crate::specs::Table::row_at))]
 pub fn row_at(i: usize) -> Row
     ensures { result ≡ row_at i }
 {
-    if i < 22 {
-        return row_of(KNOWN[i]);
-    }
-    Row {
-        code: 0,
-        way: Direction::ToSensor,
-        base: 0,
-        step: 0,
-        more: 0,
-        first: NONE as usize,
-        second: NONE as usize,
-        third: NONE as usize,
-    }
+    if i < 22 { KNOWN[i] } else { NO_ROW }
 }
 
 // Where a type stands in the table: an index, so that no row is looked at but the one that is asked for.
@@ -383,69 +340,62 @@ pub fn widths_at(i: usize) -> [u8; 11]
     }
 }
 
-// Their rules.
+// The rules of a type's parts; parts of no bits behind them are spare.
+fn ruled<const N: usize>(parts: [Rule; N]) -> [Rule; 11]
+    requires { N ≤ 11 }
+    ensures { result ≡ parts.entry ++ replicate (11 - N) Spare }
+{
+    let mut rules = [Rule::Spare; 11];
+    rules[..N].copy_from_slice(&parts);
+    rules
+}
+
+// Their rules; past the end any value.
 #[tactic(auto, unfolding(crate::specs::Table::table, crate::specs::Table::rules, crate::specs::Table::rules_at))]
-pub fn rules_at(i: usize) -> [u8; 11]
-    ensures { result ≡ rules_at i }
+pub fn rules_at(i: usize) -> [Rule; 11]
+    ensures { map rule_number result ≡ rules_at i }
 {
+    use Rule::{Advisory, Any, NotZero, One, Spare, UpTo4, UpTo5};
     match i {
-        0 => [0, 0, 2, 0, 2, 0, 1, 1, 1, 1, 1], // 21
-        1 => [0, 0, 2, 0, 2, 1, 2, 1, 1, 1, 1], // 22
-        2 => [0, 0, 2, 0, 2, 3, 1, 1, 1, 1, 1], // 23
-        3 => [0, 0, 2, 1, 1, 1, 1, 1, 1, 1, 1], // 24
-        4 => [0, 0, 2, 1, 1, 1, 1, 1, 1, 1, 1], // 02
-        5 => [0, 0, 2, 2, 0, 1, 1, 1, 1, 1, 1], // 25
-        6 => [0, 0, 1, 1, 1, 1, 1, 1, 1, 1, 1], // 61
-        7 => [0, 1, 0, 1, 1, 1, 1, 1, 1, 1, 1], // 9B
-        8 => [0, 2, 1, 1, 1, 1, 1, 1, 1, 1, 1], // 99
-        9 => [0, 0, 1, 2, 1, 1, 1, 1, 1, 1, 1], // 65
-        10 => [0, 0, 0, 0, 1, 1, 1, 1, 1, 1, 1], // 9A
-        11 => [0, 0, 0, 1, 1, 1, 1, 1, 1, 1, 1], // 96
-        12 => [0, 0, 2, 4, 1, 1, 1, 1, 1, 1, 1], // 31
-        13 => [0, 0, 2, 0, 1, 1, 1, 1, 1, 1, 1], // 32
-        14 => [0, 0, 0, 1, 1, 1, 1, 1, 1, 1, 1], // 41
-        15 => [0, 0, 1, 0, 1, 1, 1, 1, 1, 1, 1], // 42
-        16 => [0, 0, 1, 0, 1, 1, 1, 1, 1, 1, 1], // 43
-        17 => [0, 0, 0, 0, 0, 1, 1, 1, 1, 1, 1], // 44
-        18 => [0, 0, 1, 0, 1, 1, 1, 1, 1, 1, 1], // 45
-        19 => [0, 0, 1, 1, 1, 1, 1, 1, 1, 1, 1], // 62
-        20 => [0, 0, 0, 0, 6, 5, 0, 6, 5, 0, 0], // 83
-        21 => [0, 0, 1, 1, 1, 1, 1, 1, 1, 1, 1], // 03
-        _ => [0, 0, 0, 0, 0, 0, 0, 0, 0, 0, 0],
+        0 => ruled([Any, Any, NotZero, Any, NotZero, Any]), // 21
+        1 => ruled([Any, Any, NotZero, Any, NotZero, Spare, NotZero]), // 22
+        2 => ruled([Any, Any, NotZero, Any, NotZero, One, Spare]), // 23
+        3 => ruled([Any, Any, NotZero, Spare]), // 24
+        4 => ruled([Any, Any, NotZero, Spare]), // 02
+        5 => ruled([Any, Any, NotZero, NotZero, Any]), // 25
+        6 => ruled([Any, Any]), // 61
+        7 => ruled([Any, Spare, Any]), // 9B
+        8 => ruled([Any, NotZero, Spare]), // 99
+        9 => ruled([Any, Any, Spare, NotZero, Spare]), // 65
+        10 => ruled([Any, Any, Any, Any]), // 9A
+        11 => ruled([Any, Any, Any]), // 96
+        12 => ruled([Any, Any, NotZero, UpTo4, Spare]), // 31
+        13 => ruled([Any, Any, NotZero, Any, Spare]), // 32
+        14 => ruled([Any, Any, Any]), // 41
+        15 => ruled([Any, Any, Spare, Any]), // 42
+        16 => ruled([Any, Any, Spare, Any]), // 43
+        17 => ruled([Any, Any, Any, Any, Any, Spare]), // 44
+        18 => ruled([Any, Any, Spare, Any]), // 45
+        19 => ruled([Any, Any]), // 62
+        20 => ruled([
+            Any, Any, Any, Any, Advisory, UpTo5, Any, Advisory, UpTo5, Any, Any,
+        ]), // 83
+        21 => ruled([Any, Any]), // 03
+        _ => [Any; 11],
     }
 }
 
-// What is wrong with a part's value: 0 nothing, 1 a spare bit is one, 2 the value is not in use.
-pub fn fault(rule: u8, x: u64) -> u64
-    ensures { result ≡ fault_of rule x }
+// What is wrong with a part's value, if anything is.
+pub fn fault(rule: Rule, x: u64) -> Option<Fault>
+    ensures { fault_number result ≡ fault_of (rule_number rule) x }
 {
-    if rule == SPARE {
-        return if x == 0 { 0 } else { 1 };
-    }
-    if rule == NOT_ZERO {
-        return if x == 0 { 2 } else { 0 };
-    }
-    if rule == ONE {
-        return if x == 1 { 0 } else { 2 };
-    }
-    if rule == UP_TO_4 {
-        return if x <= 4 { 0 } else { 2 };
-    }
-    if rule == UP_TO_5 {
-        return if x <= 5 { 0 } else { 2 };
-    }
-    if rule == ADVISORY {
-        return if x % 8 == 7 { 2 } else { 0 };
-    }
-    0
-}
-
-// Whether a type travels from the sensor, by its way.
-pub fn from_sensor(way: Direction) -> bool
-    ensures { result ≡ from_sensor way }
-{
-    match way {
-        Direction::ToSensor => false,
-        Direction::FromSensor => true,
+    match rule {
+        Rule::Spare if x != 0 => Some(Fault::Spare),
+        Rule::NotZero if x == 0 => Some(Fault::Unused),
+        Rule::One if x != 1 => Some(Fault::Unused),
+        Rule::UpTo4 if 4 < x => Some(Fault::Unused),
+        Rule::UpTo5 if 5 < x => Some(Fault::Unused),
+        Rule::Advisory if x % 8 == 7 => Some(Fault::Unused),
+        _ => None,
     }
 }
