@@ -309,10 +309,8 @@ fn judge_words(
     Ok(report)
 }
 
-// The answer to a run of `n` words whose first seven are given, with 0 for those past its end; its first word that is too wide is at
-// `too_wide` and its first word with an even number of ones at `even`, or these are `n`. Where a word is too wide, `even` does not matter.
-// Altitudes are read in the form.
-pub fn judge(
+// The same of the words one by one.
+fn judge_seven(
     a: u16,
     b: u16,
     c: u16,
@@ -352,4 +350,20 @@ pub fn judge(
         });
     }
     judge_words(a, b, c, d, e, f, g, form)
+}
+
+// The answer to a run of `n` words whose first seven are given, with 0 for those past its end; its first word that is too wide is at
+// `too_wide` and its first word with an even number of ones at `even`, or these are `n`. Where a word is too wide, `even` does not matter.
+// Altitudes are read in the form.
+pub fn judge(
+    words: [u16; 7],
+    n: usize,
+    too_wide: usize,
+    even: usize,
+    form: Form,
+) -> Result<Report, RunRefusal>
+    ensures { result ≡ judged (form_of form) words n too_wide even }
+{
+    let [a, b, c, d, e, f, g] = words;
+    judge_seven(a, b, c, d, e, f, g, n, too_wide, even, form)
 }

@@ -1,13 +1,16 @@
 -- The lister's name of a report, and the number by which a C program knows it. The document gives no numbers: these are ours, above every
 -- refusal's.
 -- Definitions only.
-use Rattle.std.specs.Prelude.{ℕ}
+use Rattle.std.specs.Prelude.{ℕ, ◌≡◌, ◌≢◌, List, [], ◌∷◌, Result, MatchResult}
+use Prim.Native.Char.{code}
+use Prim.Native.String.{String, [] as []ˢ, ◌∷◌ as ◌∷ˢ◌}
 use Rattle.reports.specs.declared.Height.{Height}
 use Rattle.reports.specs.declared.Height.TheVariants as H
 use Rattle.reports.specs.declared.Report.{Report}
 use Rattle.reports.specs.declared.Report.TheVariants as R
 use Rattle.reports.specs.declared.kinds.Kind.{Kind}
 use Rattle.reports.specs.declared.kinds.Kind.TheVariants as K
+use Rattle.reports.specs.declared.kinds.UnknownKind.{UnknownKind}
 
 -- substitution has a name of its own
 abbrev pub dabs_kind : Height → Kind
@@ -51,3 +54,30 @@ kind_number K.AtcrbsMtd = 112
 kind_number K.AtcrbsRdas = 113
 kind_number K.Mtd = 114
 kind_number K.Rdas = 115
+
+-- the kind that has the number, or that none has it
+abbrev pub Numbered : ℕ → Result Kind UnknownKind → Type 0
+Numbered number r = MatchResult r (λ kind. kind_number kind ≡ number) (λ e. (e.0 ≡ number) × ((kind : Kind) → kind_number kind ≢ number))
+
+-- the bytes of a text
+abbrev pub text : String → List ℕ
+text []ˢ = []
+text (c ∷ˢ s) = code c ∷ text s
+
+-- what each kind is called in a listing; with substitution, by what stands in for the height too
+abbrev pub name_of : Kind → List ℕ
+name_of K.Search = text "SEARCH"
+name_of K.Strobe = text "STROBE"
+name_of K.Map = text "MAP"
+name_of K.Status = text "STATUS"
+name_of K.Rtqc = text "RTQC"
+name_of K.Dabs = text "DABS"
+name_of K.DabsCd = text "DABS-CD"
+name_of K.DabsMtd = text "DABS-MTD"
+name_of K.DabsRdas = text "DABS-RDAS"
+name_of K.Atcrbs = text "ATCRBS"
+name_of K.AtcrbsCd = text "ATCRBS-CD"
+name_of K.AtcrbsMtd = text "ATCRBS-MTD"
+name_of K.AtcrbsRdas = text "ATCRBS-RDAS"
+name_of K.Mtd = text "MTD"
+name_of K.Rdas = text "RDAS"

@@ -169,6 +169,11 @@ takes form r = fits form r
 abbrev pub Takes : AltitudeForm → Report → Type 0
 Takes form r = takes form r ≡ true
 
+-- the words in an answer, as one list
+abbrev pub words_in : Words → List ℕ
+words_in (Four ws) = ws
+words_in (Seven ws) = ws
+
 -- four words or seven, as the writer hands them out
 abbrev pub as_written : List ℕ → Result Words LineRefusal
 as_written ws = Ok (cond (eqb (length ws) 4) (Four ws) (Seven ws))

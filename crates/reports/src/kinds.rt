@@ -1,9 +1,11 @@
 // The lister's name of each report: nine kinds, and DABS and ATCRBS once more for each radar that may stand in for the height.
 // Relies on the records of the crate.
-ghost use Rattle.std.specs.Prelude.{◌≡◌};
-ghost use Rattle.reports.specs.Kinds.{dabs_kind, atcrbs_kind, kind_of, kind_number};
+ghost use Rattle.std.specs.Prelude.{◌≡◌, Some};
+ghost use Rattle.reports.specs.Kinds.{dabs_kind, atcrbs_kind, kind_of, kind_number, Numbered, name_of};
 
 use crate::{Height, Report};
+use std::error::Error;
+use std::fmt;
 
 #[derive(Clone, Copy, Debug, PartialEq, Eq)]
 pub enum Kind {
@@ -26,41 +28,84 @@ pub enum Kind {
 
 // ---- the number that a C program knows each kind by
 
-pub const SEARCH: u32 = 101;
-
-pub const STROBE: u32 = 102;
-
-pub const MAP: u32 = 103;
-
-pub const STATUS: u32 = 104;
-
-pub const RTQC: u32 = 105;
-
-pub const DABS: u32 = 106;
-
-pub const DABS_CD: u32 = 107;
-
-pub const DABS_MTD: u32 = 108;
-
-pub const DABS_RDAS: u32 = 109;
-
-pub const ATCRBS: u32 = 110;
-
-pub const ATCRBS_CD: u32 = 111;
-
-pub const ATCRBS_MTD: u32 = 112;
-
-pub const ATCRBS_RDAS: u32 = 113;
-
-pub const MTD: u32 = 114;
-
-pub const RDAS: u32 = 115;
-
 impl From<Kind> for u8 {
     ghost from_gives = { λ kind number. number ≡ kind_number kind };
 
     fn from(kind: Kind) -> u8 {
         kind as u8
+    }
+}
+
+// A number that no kind has.
+#[derive(Clone, Copy, Debug, PartialEq, Eq)]
+pub struct UnknownKind(pub u32);
+
+impl TryFrom<u32> for Kind {
+    type Error = UnknownKind;
+
+    ghost try_from_gives = { Numbered };
+
+    fn try_from(number: u32) -> Result<Kind, UnknownKind> {
+        match number {
+            101 => Ok(Kind::Search),
+            102 => Ok(Kind::Strobe),
+            103 => Ok(Kind::Map),
+            104 => Ok(Kind::Status),
+            105 => Ok(Kind::Rtqc),
+            106 => Ok(Kind::Dabs),
+            107 => Ok(Kind::DabsCd),
+            108 => Ok(Kind::DabsMtd),
+            109 => Ok(Kind::DabsRdas),
+            110 => Ok(Kind::Atcrbs),
+            111 => Ok(Kind::AtcrbsCd),
+            112 => Ok(Kind::AtcrbsMtd),
+            113 => Ok(Kind::AtcrbsRdas),
+            114 => Ok(Kind::Mtd),
+            115 => Ok(Kind::Rdas),
+            _ => Err(UnknownKind(number)),
+        }
+    }
+}
+
+impl fmt::Display for UnknownKind {
+    fn fmt<W: fmt::Write>(&self, f: &mut fmt::Formatter<W>) -> fmt::Result {
+        write!(f, "no kind of report has the number {}", self.0)
+    }
+}
+
+impl Error for UnknownKind {}
+
+// ---- the name that a listing says
+
+impl Kind {
+    pub fn name(self) -> &'static str
+        ensures { result.now ≡ name_of self }
+    {
+        match self {
+            Kind::Search => "SEARCH",
+            Kind::Strobe => "STROBE",
+            Kind::Map => "MAP",
+            Kind::Status => "STATUS",
+            Kind::Rtqc => "RTQC",
+            Kind::Dabs => "DABS",
+            Kind::DabsCd => "DABS-CD",
+            Kind::DabsMtd => "DABS-MTD",
+            Kind::DabsRdas => "DABS-RDAS",
+            Kind::Atcrbs => "ATCRBS",
+            Kind::AtcrbsCd => "ATCRBS-CD",
+            Kind::AtcrbsMtd => "ATCRBS-MTD",
+            Kind::AtcrbsRdas => "ATCRBS-RDAS",
+            Kind::Mtd => "MTD",
+            Kind::Rdas => "RDAS",
+        }
+    }
+}
+
+impl fmt::Display for Kind {
+    ghost output = { λ kind. Some (name_of kind) };
+
+    fn fmt<W: fmt::Write>(&self, f: &mut fmt::Formatter<W>) -> fmt::Result {
+        f.write_str(self.name())
     }
 }
 

@@ -4,6 +4,9 @@
 // Relies on words for bits and layouts, measures for what a count weighs, refusals for names and numbers.
 #![tactic(auto)]
 
+ghost use Rattle.std.specs.Prelude.{◌≡◌};
+ghost use Rattle.reports.specs.Layouts.{words_in};
+
 use measures::{CoarseAzimuth, CoarseRange, FineAzimuth, FineRange, RunLength, Time};
 use refusals::LineRefusal;
 
@@ -182,4 +185,15 @@ pub struct RunRefusal {
 pub enum Words {
     Four([u16; 4]),
     Seven([u16; 7]),
+}
+
+impl Words {
+    pub fn as_slice(&self) -> &[u16]
+        ensures { result.now ≡ words_in self.now }
+    {
+        match self {
+            Words::Four(words) => words,
+            Words::Seven(words) => words,
+        }
+    }
 }
