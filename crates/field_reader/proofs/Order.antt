@@ -1,5 +1,5 @@
 -- The rows as the code asks them, step by step, give what the document's rows give. Assumes nothing.
-use Rattle.std.specs.Prelude.{Err, None, Ok, Result, Some, tt, ⊤}
+use Rattle.std.specs.Prelude.{Err, None, Ok, Result, Some, ⊤}
 use mathlib.Core.Path.{◌≡◌, refl}
 use mathlib.Core.List.{List}
 use mathlib.Core.Bool.{Bool, true, false, cond, not}

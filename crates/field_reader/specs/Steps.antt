@@ -1,7 +1,7 @@
 -- What the private functions of the reader answer: parts of the rows of specs/Reading.antt of `fields`, and for a type that has a row the
 -- steps as the code goes. proofs/Order.antt shows that together they are what Reading.antt says. Definitions only; no promise of a public
 -- function names them.
-use Rattle.std.specs.Prelude.{ℕ, List, [], ◌∷◌, cond, not, ◌||◌, Err, Ok, Result, tt, ⊤}
+use Rattle.std.specs.Prelude.{ℕ, List, [], ◌∷◌, cond, not, ◌||◌, Err, Ok, Result, ⊤}
 use Rattle.rows.specs.Rows.{row, first_of, each}
 use Rattle.refusals.specs.declared.FieldRefusal.{FieldRefusal}
 use Rattle.refusals.specs.declared.FieldRefusal.TheVariants.{UnknownType, TypeNotCarried, WrongDirection, NotRelayed, WrongBitCount, SpareBitSet, ValueNotInUse}

@@ -1,13 +1,13 @@
 -- Facts of the table's rows, each by one test that antt computes over all of them.
 -- Assumes nothing.
-use Rattle.std.proofs.Common.{◌≡◌, ℕ, ◌+◌, ◌-◌, ◌*◌, ◌%◌, ◌^◌, ◌<◌, ◌≤◌, Bool, true, false, cond, not, ◌&&◌, ◌||◌, T, eqb, leb, ◌⊎◌, List, length, get_or, refl, inl, inr, zero-le, mul-le-mul_left, arith, eqb→eq, leb→le, eq-eqb, ne_eqb, eqb-true}
+use Rattle.std.proofs.Common.{◌≡◌, ℕ, ◌+◌, ◌-◌, ◌*◌, ◌%◌, ◌^◌, ◌<◌, ◌≤◌, Bool, true, false, cond, not, ◌&&◌, ◌||◌, T, eqb, leb, ◌⊎◌, List, length, refl, inl, inr, zero-le, mul-le-mul_left, arith, eqb→eq, leb→le, eq-eqb, ne_eqb, eqb-true, None, Option, Some}
 use native.Mathlib.Decide.{ℕ_discrete}
-use lib.ListN.{get_or-eq_default}
+use Rattle.std.specs.Option.{is_none}
 use Rattle.fields.specs.declared.Row.{Row}
-use Rattle.fields.specs.Table.{table, rows, row_at, widths, widths_at, count_in, size_in}
+use Rattle.fields.specs.Table.{table, rows, row_at, widths, widths_at, counted, count_in, size_in}
 use Rattle.fields.specs.Reading.{from_sensor, listed_as}
 use Rattle.fields.specs.Writing.{text_length_by}
-use Rattle.fields.proofs.Rows.{below_at, both_left, both_right, Fit, fit_at}
+use Rattle.fields.proofs.Rows.{below_at, both_left, both_right, Fit, counted_fit}
 
 true_of : (b : Bool) → T b → b ≡ true
 true_of true t = refl
@@ -51,25 +51,26 @@ from_no_list i h e =
 
 -- a type of no steps counts none
 abbrev uncounted : Row → Bool
-uncounted r = eqb r.more 0 && (eqb r.first 11 && (eqb r.second 11 && eqb r.third 11))
+uncounted r = eqb r.more 0 && (is_none r.first && (is_none r.second && is_none r.third))
 
-no_steps : (i : ℕ) (vs : List ℕ) → i < 22 → length vs ≡ 11 → (row_at i).step ≡ 0 → count_in (row_at i) vs ≡ 0
+no_steps : (i : ℕ) (vs : List ℕ) → i < 22 → (row_at i).step ≡ 0 → count_in (row_at i) vs ≡ 0
 unfolding table rows row_at count_in
-no_steps i vs h n e =
+no_steps i vs h e =
     go (eqb (row_at i).step 0) (eq-eqb _ _ e) (below_at (λ (j : ℕ). not (eqb (row_at j).step 0) || uncounted (row_at j)) 22 tt i h)
   where
-    past : (k : ℕ) → k ≡ 11 → get_or vs k 0 ≡ 0
-    past k q = get_or-eq_default vs 0 (omega arith)
+    nothing : (k : Option ℕ) → T (is_none k) → counted vs k ≡ 0
+    nothing None t = refl
+    nothing (Some k) t = absurd t
 
     go : (b : Bool) → b ≡ true → T (not b || uncounted (row_at i)) → count_in (row_at i) vs ≡ 0
     go true q t =
         let r = row_at i in
         let m = both_left (eqb r.more 0) _ t in
-        let t1 = both_right (eqb r.more 0) (eqb r.first 11 && (eqb r.second 11 && eqb r.third 11)) t in
-        let t2 = both_right (eqb r.first 11) (eqb r.second 11 && eqb r.third 11) t1 in
-        let x = past r.first (eqb→eq _ _ (both_left (eqb r.first 11) (eqb r.second 11 && eqb r.third 11) t1)) in
-        let y = past r.second (eqb→eq _ _ (both_left (eqb r.second 11) (eqb r.third 11) t2)) in
-        let z = past r.third (eqb→eq _ _ (both_right (eqb r.second 11) (eqb r.third 11) t2)) in
+        let t1 = both_right (eqb r.more 0) (is_none r.first && (is_none r.second && is_none r.third)) t in
+        let t2 = both_right (is_none r.first) (is_none r.second && is_none r.third) t1 in
+        let x = nothing r.first (both_left (is_none r.first) (is_none r.second && is_none r.third) t1) in
+        let y = nothing r.second (both_left (is_none r.second) (is_none r.third) t2) in
+        let z = nothing r.third (both_right (is_none r.second) (is_none r.third) t2) in
         omega (arith, eqb→eq r.more 0 m)
     go false q t = absurd (let z : ◌≡◌ {A = ℕ} 0 1 = cc in omega arith)
 
@@ -94,7 +95,7 @@ entry_listed i vs h n m = go (step_told i h)
   where
     go : ((row_at i).step ≡ 80) ⊎ (((row_at i).step ≡ 0) ⊎ (((row_at i).step ≡ 8) ⊎ ((row_at i).step ≡ 24))) → ((row_at i).step ≡ 8) ⊎ ((row_at i).step ≡ 24)
     go (inl e) = absurd (let q : 0 < 0 = rw (eq-eqb (row_at i).step 80 e) at m in omega arith)
-    go (inr (inl e)) = absurd (let c = no_steps i vs h n e in let q : 0 < count_in (row_at i) vs = rw (ne_eqb (row_at i).step 80 (λ u. omega arith)) at m in omega arith)
+    go (inr (inl e)) = absurd (let c = no_steps i vs h e in let q : 0 < count_in (row_at i) vs = rw (ne_eqb (row_at i).step 80 (λ u. omega arith)) at m in omega arith)
     go (inr (inr e)) = e
 
 -- and nothing of what comes from the sensor
@@ -104,11 +105,11 @@ none_listed i vs h n f = go (from_no_list i h f)
   where
     go : ((row_at i).step ≡ 80) ⊎ ((row_at i).step ≡ 0) → listed_as (row_at i) vs ≡ 0
     go (inl e) = rw (eq-eqb (row_at i).step 80 e) refl
-    go (inr e) = rw (ne_eqb (row_at i).step 80 (λ u. omega arith)) (no_steps i vs h n e)
+    go (inr e) = rw (ne_eqb (row_at i).step 80 (λ u. omega arith)) (no_steps i vs h e)
 
 -- no field is longer than 1336 bits
 abbrev most : Row → List ℕ → ℕ
-most r ws = r.more + (2 ^ get_or ws r.first 0 - 1) + (2 ^ get_or ws r.second 0 - 1) + (2 ^ get_or ws r.third 0 - 1)
+most r ws = r.more + (2 ^ counted ws r.first - 1) + (2 ^ counted ws r.second - 1) + (2 ^ counted ws r.third - 1)
 
 pub size_most : (i : ℕ) (vs : List ℕ) → i < 22 → Fit (widths_at i) vs → size_in (row_at i) vs ≤ 1400
 unfolding table rows row_at widths widths_at size_in count_in
@@ -116,9 +117,9 @@ size_most i vs h f =
     let r = row_at i in
     let ws = widths_at i in
     let t = leb→le (r.base + r.step * most r ws) 1400 (below_at (λ (j : ℕ). leb ((row_at j).base + (row_at j).step * most (row_at j) (widths_at j)) 1400) 22 tt i h) in
-    let x = fit_at ws vs f r.first in
-    let y = fit_at ws vs f r.second in
-    let z = fit_at ws vs f r.third in
+    let x = counted_fit ws vs f r.first in
+    let y = counted_fit ws vs f r.second in
+    let z = counted_fit ws vs f r.third in
     omega (arith, mul-le-mul_left {m = count_in r vs} {n = most r ws} r.step (omega arith))
 
 -- ---- all of a field's steps are entries or text
@@ -150,7 +151,7 @@ listed_most i vs h f = go (eqb (row_at i).step 80) (below_at (λ (j : ℕ). eqb 
     go false t =
         let r = row_at i in
         let ws = widths_at i in
-        let x = fit_at ws vs f r.first in
-        let y = fit_at ws vs f r.second in
-        let z = fit_at ws vs f r.third in
+        let x = counted_fit ws vs f r.first in
+        let y = counted_fit ws vs f r.second in
+        let z = counted_fit ws vs f r.third in
         omega (arith, leb→le (most r ws) 30 t)

@@ -1,13 +1,12 @@
 -- Laws of the table: what is looked up, row by row.
 -- Assumes nothing.
-use Rattle.std.proofs.Common.{◌≡◌, ℕ, zero, suc, ◌+◌, ◌-◌, ◌%◌, ◌^◌, ◌<◌, ◌≤◌, Bool, true, false, cond, not, ◌&&◌, ◌||◌, T, eqb, leb, List, [], ◌∷◌, length, get_or, sym, refl, zero-le, lt_of_lt_of_le, le_of_suc-le-suc, not-suc-le-zero, arith, eqb→eq, leb→le, pow_mono, eq-eqb, ne_eqb, eqb-true, None, Some}
+use Rattle.std.proofs.Common.{◌≡◌, ℕ, zero, suc, ◌+◌, ◌-◌, ◌%◌, ◌^◌, ◌<◌, ◌≤◌, Bool, true, false, cond, not, ◌&&◌, ◌||◌, T, eqb, leb, List, [], ◌∷◌, length, get_or, sym, refl, zero-le, lt_of_lt_of_le, le_of_suc-le-suc, not-suc-le-zero, arith, eqb→eq, leb→le, pow_mono, eq-eqb, ne_eqb, eqb-true, lit<, None, Option, Some}
 use native.Mathlib.Decide.{ℕ_discrete}
 use lib.ListN.{get_or-eq_default}
 use Rattle.bits.proofs.Laws.{bits_of-lt}
 use Rattle.fields.specs.declared.Row.{Row}
-use Rattle.fields.specs.declared.table.Known.{Known}
 use Rattle.fields.specs.declared.Field.TheVariants.{ControllerAlert}
-use Rattle.fields.specs.Table.{table, rows, no_row, row_at, widths, widths_at, rules, rules_at, place_from, values_of, has_fault, Quiet, count_in, RowSmall}
+use Rattle.fields.specs.Table.{table, rows, no_row, row_at, widths, widths_at, rules, rules_at, place_from, values_of, has_fault, Quiet, counted, count_in, RowSmall}
 use Rattle.fields.specs.Records.{fields_by, field_at}
 use Rattle.fields.specs.Reading.{block_count, type_not_carried}
 
@@ -46,33 +45,10 @@ last_is i n h t = last (not_below i n t)
     last : n ≤ i → i ≡ n
     last l = omega arith
 
--- a row in smaller numbers, as it stands in the code
-abbrev small : Row → Known
-small r = record { code = r.code; way = r.way; base = r.base; step = r.step; more = r.more; first = r.first; second = r.second; third = r.third }
-
-abbrev unpacked : Known → Row
-unpacked k = record { code = k.code; way = k.way; base = k.base; step = k.step; more = k.more; first = k.first; second = k.second; third = k.third }
-
-abbrev smaller : List Row → List Known
-smaller [] = []
-smaller (r ∷ rs) = small r ∷ smaller rs
-
-unfoldable pub known : List Known
-known = smaller rows
-
-smaller_at : (rs : List Row) (i : ℕ) (d : Known) → i < length rs → unpacked (get_or (smaller rs) i d) ≡ get_or rs i no_row
-smaller_at [] i d h = absurd (not-suc-le-zero h)
-smaller_at (r ∷ rs) zero d h = refl
-smaller_at (r ∷ rs) (suc i) d h = smaller_at rs i d (le_of_suc-le-suc h)
-
-pub unpacked_at : (i : ℕ) (d : Known) → i < 22 → unpacked (get_or known i d) ≡ row_at i
-unfolding known row_at rows table
-unpacked_at i d h = smaller_at rows i d h
-
 -- the last type stands at every place from 20 on
-pub field_at-last : (at a b c d e f g h i j : ℕ) → 20 ≤ at → field_at at a b c d e f g h i j ≡ ControllerAlert a b c d e f g h i j
+pub field_at_last : (at a b c d e f g h i j : ℕ) → 20 ≤ at → field_at at a b c d e f g h i j ≡ ControllerAlert a b c d e f g h i j
 unfolding field_at
-field_at-last at a b c d e f g h i j l = get_or-eq_default (fields_by a b c d e f g h i j) (ControllerAlert a b c d e f g h i j) l
+field_at_last at a b c d e f g h i j l = get_or-eq_default (fields_by a b c d e f g h i j) (ControllerAlert a b c d e f g h i j) l
 
 -- a place that is found stands in the table, and holds the code
 found_in : (c : ℕ) (rs : List Row) (a i : ℕ) → place_from c rs a ≡ Some i → i < a + length rs
@@ -165,7 +141,7 @@ widths_taper i h = tapers_at (widths_at i) (below_at (λ (j : ℕ). tapers (widt
 -- ---- the numbers of a row are small
 
 abbrev counted_ok : Row → List ℕ → Bool
-counted_ok r ws = leb (get_or ws r.first 0) 4 && (leb (get_or ws r.second 0) 4 && leb (get_or ws r.third 0) 4)
+counted_ok r ws = leb (counted ws r.first) 4 && (leb (counted ws r.second) 4 && leb (counted ws r.third) 4)
 
 abbrev row_ok : Row → List ℕ → Bool
 row_ok r ws = (leb r.base 96 && (leb r.step 80 && leb r.more 1)) && counted_ok r ws
@@ -192,6 +168,10 @@ fit_at [] (v ∷ vs) f k = absurd f
 fit_at (w ∷ ws) [] f k = absurd f
 fit_at (w ∷ ws) (v ∷ vs) f zero = f.0
 fit_at (w ∷ ws) (v ∷ vs) f (suc k) = fit_at ws vs f.1 k
+
+pub counted_fit : (ws vs : List ℕ) → Fit ws vs → (k : Option ℕ) → counted vs k < 2 ^ counted ws k
+counted_fit ws vs f None = lit< tt
+counted_fit ws vs f (Some k) = fit_at ws vs f k
 
 -- where a width is none the rule is that of a spare
 abbrev spared : List ℕ → List ℕ → Bool
@@ -242,18 +222,18 @@ row_small i vs h f =
     let p = both_left (leb r.base 96 && (leb r.step 80 && leb r.more 1)) (counted_ok r ws) t in
     let q = both_right (leb r.base 96 && (leb r.step 80 && leb r.more 1)) (counted_ok r ws) t in
     let p2 = both_right (leb r.base 96) (leb r.step 80 && leb r.more 1) p in
-    let q2 = both_right (leb (get_or ws r.first 0) 4) (leb (get_or ws r.second 0) 4 && leb (get_or ws r.third 0) 4) q in
+    let q2 = both_right (leb (counted ws r.first) 4) (leb (counted ws r.second) 4 && leb (counted ws r.third) 4) q in
     record {
       base = leb→le _ _ (both_left (leb r.base 96) (leb r.step 80 && leb r.more 1) p);
       step = leb→le _ _ (both_left (leb r.step 80) (leb r.more 1) p2);
       more = leb→le _ _ (both_right (leb r.step 80) (leb r.more 1) p2);
-      first = small r.first (leb→le _ _ (both_left (leb (get_or ws r.first 0) 4) (leb (get_or ws r.second 0) 4 && leb (get_or ws r.third 0) 4) q));
-      second = small r.second (leb→le _ _ (both_left (leb (get_or ws r.second 0) 4) (leb (get_or ws r.third 0) 4) q2));
-      third = small r.third (leb→le _ _ (both_right (leb (get_or ws r.second 0) 4) (leb (get_or ws r.third 0) 4) q2));
+      first = small r.first (leb→le _ _ (both_left (leb (counted ws r.first) 4) (leb (counted ws r.second) 4 && leb (counted ws r.third) 4) q));
+      second = small r.second (leb→le _ _ (both_left (leb (counted ws r.second) 4) (leb (counted ws r.third) 4) q2));
+      third = small r.third (leb→le _ _ (both_right (leb (counted ws r.second) 4) (leb (counted ws r.third) 4) q2));
     }
   where
-    small : (k : ℕ) → get_or (widths_at i) k 0 ≤ 4 → get_or vs k 0 < 16
-    small k l = lt_of_lt_of_le (fit_at (widths_at i) vs f k) (pow_mono l)
+    small : (k : Option ℕ) → counted (widths_at i) k ≤ 4 → counted vs k < 16
+    small k l = lt_of_lt_of_le (counted_fit (widths_at i) vs f k) (pow_mono l)
 
 -- 46 steps at most
 pub count_small : (r : Row) (vs : List ℕ) → RowSmall r vs → count_in r vs ≤ 46

@@ -27,6 +27,10 @@ unfoldable pub same_way_as : Direction → Direction → Bool
 same_way_as ToSensor w = not (from_sensor w)
 same_way_as FromSensor w = from_sensor w
 
+-- the way that C names by a number: 0 is to the sensor, any other from it
+abbrev pub way_numbered : ℕ → Direction
+way_numbered k = cond (k == 0) ToSensor FromSensor
+
 -- ---- the count and the bytes
 
 -- 20: count under 8 or over 2008

@@ -1,6 +1,6 @@
 -- The known types of link data fields (document 01, "Link data fields"; document 004, Table 5-1 and Figures 5-1 and 5-2): which way each
 -- travels, how many bits it has, its parts in order, and what their values may be. Definitions only.
-use Rattle.std.specs.Prelude.{◌≡◌, ℕ, ◌+◌, ◌*◌, ◌%◌, ◌<◌, ◌≤◌, Bool, false, cond, ◌||◌, List, [], ◌∷◌, ◌++◌, get_or, take, drop, replicate, ◌==◌, nat_le, slice_index, slice_index_or, None, Option, Some}
+use Rattle.std.specs.Prelude.{◌≡◌, ℕ, ◌+◌, ◌*◌, ◌%◌, ◌<◌, ◌≤◌, Bool, false, cond, ◌||◌, List, [], ◌∷◌, ◌++◌, take, drop, replicate, ◌==◌, nat_le, slice_index, slice_index_or, None, Option, Some}
 use Rattle.bits.specs.Bits.{bits_of}
 use Rattle.fields.specs.declared.Direction.{Direction}
 use Rattle.fields.specs.declared.Direction.TheVariants.{ToSensor, FromSensor}
@@ -52,12 +52,12 @@ pub record Known : Type 0 where
   pub row : Row
   pub parts : List Part
 
--- no part is counted: the place behind the last of eleven parts, where every value counts as 0
-abbrev pub none : ℕ
-none = 11
+-- no part is counted
+abbrev pub none : Option ℕ
+none = None
 
 -- base + step * (more + the values of the parts first, second and third) bits; part 0 is the type code
-abbrev pub known : ℕ → Direction → ℕ → ℕ → ℕ → ℕ → ℕ → ℕ → List Part → Known
+abbrev pub known : ℕ → Direction → ℕ → ℕ → ℕ → Option ℕ → Option ℕ → Option ℕ → List Part → Known
 known c w b s m i j k ps =
     record { row = record { code = c; way = w; base = b; step = s; more = m; first = i; second = j; third = k }; parts = ps }
 
@@ -67,7 +67,7 @@ table =
     -- tactical: address 9-32, number 33-36, P 37, EXP 38-40, text 41-96; 96
     known 0x21 ToSensor 96 0 0 none none none (any 24 ∷ not_zero 4 ∷ any 1 ∷ not_zero 3 ∷ any 56 ∷ [])
     -- ELM: the same to 40, spare 41-44, Length 45-48 (0 is not in use: at least two segments), text; 48+80(L+1)
-    ∷ known 0x22 ToSensor 48 80 1 6 none none (any 24 ∷ not_zero 4 ∷ any 1 ∷ not_zero 3 ∷ spare 4 ∷ not_zero 4 ∷ [])
+    ∷ known 0x22 ToSensor 48 80 1 (Some 6) none none (any 24 ∷ not_zero 4 ∷ any 1 ∷ not_zero 3 ∷ spare 4 ∷ not_zero 4 ∷ [])
     -- request: to 40, MSRC 41-44, spare; 48
     ∷ known 0x23 ToSensor 48 0 0 none none none (any 24 ∷ not_zero 4 ∷ any 1 ∷ not_zero 3 ∷ one 4 ∷ spare 4 ∷ [])
     -- 24 and 02: address, number, spare; 40
@@ -78,15 +78,15 @@ table =
     -- test; 56
     ∷ known 0x61 ToSensor 56 0 0 none none none (any 48 ∷ [])
     -- altimeter: spare 9-12, N 13-16, blocks; 16+8(N+1)
-    ∷ known 0x9B ToSensor 16 8 1 2 none none (spare 4 ∷ any 4 ∷ [])
+    ∷ known 0x9B ToSensor 16 8 1 (Some 2) none none (spare 4 ∷ any 4 ∷ [])
     -- state 9-10, spare; 16
     ∷ known 0x99 ToSensor 16 0 0 none none none (not_zero 2 ∷ spare 6 ∷ [])
     -- SID 9-12, spare, SSTAT 15-16, spare; 24
     ∷ known 0x65 ToSensor 24 0 0 none none none (any 4 ∷ spare 2 ∷ not_zero 2 ∷ spare 8 ∷ [])
     -- IP 9-11, IS 12-14, IU 15-16, addresses; 16+24(IP+IS+IU)
-    ∷ known 0x9A ToSensor 16 24 0 1 2 3 (any 3 ∷ any 3 ∷ any 2 ∷ [])
+    ∷ known 0x9A ToSensor 16 24 0 (Some 1) (Some 2) (Some 3) (any 3 ∷ any 3 ∷ any 2 ∷ [])
     -- ICA 9-12, IUA 13-16, identifiers; 16+24(ICA+IUA)
-    ∷ known 0x96 ToSensor 16 24 0 1 2 none (any 4 ∷ any 4 ∷ [])
+    ∷ known 0x96 ToSensor 16 24 0 (Some 1) (Some 2) none (any 4 ∷ any 4 ∷ [])
     -- address, referenced number 33-36, QUAL 37-39, spare; 40
     ∷ known 0x31 FromSensor 40 0 0 none none none (any 24 ∷ not_zero 4 ∷ up_to4 3 ∷ spare 1 ∷ [])
     -- the same to 36, DI at 37, spare; 40
@@ -94,7 +94,7 @@ table =
     -- tactical: address 9-32, text; 88
     ∷ known 0x41 FromSensor 88 0 0 none none none (any 24 ∷ any 56 ∷ [])
     -- ELM: address, spare 33-36, Length 37-40 (0 is in use: document 02, Ticket 2), text; 40+80(L+1)
-    ∷ known 0x42 FromSensor 40 80 1 3 none none (any 24 ∷ spare 4 ∷ any 4 ∷ [])
+    ∷ known 0x42 FromSensor 40 80 1 (Some 3) none none (any 24 ∷ spare 4 ∷ any 4 ∷ [])
     -- address, spare 33-34, UM; 40
     ∷ known 0x43 FromSensor 40 0 0 none none none (any 24 ∷ spare 2 ∷ any 6 ∷ [])
     -- address, CA 33-35, ACA 36-41, ECA 42-93, spare; 96
@@ -193,18 +193,23 @@ has_fault k (r ∷ rs) (v ∷ vs) = fault_of r v == k || has_fault k rs vs
 abbrev pub Quiet : List ℕ → List ℕ → List ℕ → Type 0
 Quiet ws rs vs = (k : ℕ) → slice_index ws k ≡ 0 → (has_fault 1 (drop k rs) (drop k vs) ≡ false) × (has_fault 2 (drop k rs) (drop k vs) ≡ false)
 
+-- what a counted part says: its value; 0 where there is none
+abbrev pub counted : List ℕ → Option ℕ → ℕ
+counted vs None = 0
+counted vs (Some k) = slice_index vs k
+
 -- how many steps a field of a row with these values has: L + 1, N + 1, IP + IS + IU, ICA + IUA, or none
 unfoldable pub count_in : Row → List ℕ → ℕ
-count_in r vs = r.more + slice_index vs r.first + slice_index vs r.second + slice_index vs r.third
+count_in r vs = r.more + counted vs r.first + counted vs r.second + counted vs r.third
 
 -- the numbers are small: a row's own, and the values of its counted parts
 pub record RowSmall (r : Row) (vs : List ℕ) : Type 0 where
   pub base : r.base ≤ 96
   pub step : r.step ≤ 80
   pub more : r.more ≤ 1
-  pub first : get_or vs r.first 0 < 16
-  pub second : get_or vs r.second 0 < 16
-  pub third : get_or vs r.third 0 < 16
+  pub first : counted vs r.first < 16
+  pub second : counted vs r.second < 16
+  pub third : counted vs r.third < 16
 
 -- how many bits it has
 unfoldable pub size_in : Row → List ℕ → ℕ

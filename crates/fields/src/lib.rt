@@ -3,6 +3,9 @@
 // Relies on `bits` for the bits of lent bytes and on `refusals` for the names and numbers of what is refused.
 #![tactic(auto)]
 
+ghost use Rattle.std.specs.Prelude.{◌≡◌};
+ghost use Rattle.fields.specs.Reading.{way_numbered};
+
 pub mod table; // the known types, their lengths, their parts, and the rules of the parts
 pub mod parts; // the parts of a field: their faults, and what the counted ones say
 pub mod records; // a record from the values of its parts, and back
@@ -10,14 +13,26 @@ pub mod records; // a record from the values of its parts, and back
 use refusals::FieldRefusal;
 
 // Which way a field travels.
-#[derive(Clone, Copy)]
+#[derive(Clone, Copy, Debug, PartialEq, Eq)]
 pub enum Direction {
     ToSensor,
     FromSensor,
 }
 
+// By the number that C names a way with: 0 is to the sensor, any other from it.
+impl From<u32> for Direction {
+    ghost from_gives = { λ number way. way ≡ way_numbered number };
+
+    fn from(number: u32) -> Direction {
+        match number {
+            0 => Direction::ToSensor,
+            _ => Direction::FromSensor,
+        }
+    }
+}
+
 // A row of the table. A field of the type has base + step * (more + the values of its counted parts) bits; a part is named by its place in
-// the layout, the type itself being part 0, and NONE names none.
+// the layout, the type itself being part 0.
 #[derive(Clone, Copy)]
 pub struct Row {
     pub code: u64,
@@ -25,9 +40,9 @@ pub struct Row {
     pub base: usize,
     pub step: usize,
     pub more: u64,
-    pub first: usize,
-    pub second: usize,
-    pub third: usize,
+    pub first: Option<usize>,
+    pub second: Option<usize>,
+    pub third: Option<usize>,
 }
 
 // What is wrong with the parts of a field: a spare bit is one; a value is not in use.

@@ -1,11 +1,10 @@
 // The parts of a field by the table's rules: their faults, and what the counted ones say.
 // Relies on the table; specs/Table.antt and specs/Steps.antt say what each function means.
-ghost use Rattle.std.specs.Prelude.{◌≡◌, ◌%◌, ◌^◌, ◌||◌, length, ◌==◌, slice_index};
-ghost use Rattle.fields.specs.Table.{count_in};
+ghost use Rattle.std.specs.Prelude.{◌≡◌, ◌%◌, ◌^◌, ◌||◌, ◌==◌};
+ghost use Rattle.fields.specs.Table.{counted, count_in};
 ghost use Rattle.fields.specs.Steps.{fault_within};
 
 use crate::{Faults, Row, table};
-use std::num::wrapping_add_u64;
 
 fn either(a: bool, b: bool) -> bool
     ensures { result ≡ (a || b) }
@@ -45,11 +44,14 @@ pub fn faults(widths: &[u8; 11], rules: &[u8; 11], v: &[u64; 11]) -> Faults
     found
 }
 
-fn part(v: &[u64; 11], k: usize) -> u64
-    requires { length v.now ≡ 11 }
-    ensures { result ≡ slice_index v.now k }
+// What a counted part says; 0 where there is none.
+fn counted(v: &[u64; 11], part: Option<usize>) -> u64
+    ensures { result ≡ counted v.now part }
 {
-    if k < 11 { v[k] } else { 0 }
+    match part {
+        Some(k) if k < 11 => v[k],
+        _ => 0,
+    }
 }
 
 // How many steps a field has: what its counted parts say. Every row and every value is taken, so the sum is said modulo 2^64; of a row of the
@@ -57,7 +59,8 @@ fn part(v: &[u64; 11], k: usize) -> u64
 pub fn count_in(row: Row, v: [u64; 11]) -> usize
     ensures { result ≡ count_in row v % 2 ^ 64 }
 {
-    let one = wrapping_add_u64(row.more, part(&v, row.first));
-    let two = wrapping_add_u64(one, part(&v, row.second));
-    wrapping_add_u64(two, part(&v, row.third)) as usize
+    row.more
+        .wrapping_add(counted(&v, row.first))
+        .wrapping_add(counted(&v, row.second))
+        .wrapping_add(counted(&v, row.third)) as usize
 }

@@ -1,26 +1,16 @@
 // A record from the values of its parts, and the values of a record's parts: the only two functions that go by type.
 // Relies on nothing but the types; specs/Records.antt says what each gives.
 ghost use Rattle.std.specs.Prelude.{◌≡◌};
-ghost use Rattle.fields.specs.Records.{field_at, numbers_of};
+ghost use Rattle.fields.specs.Records.{field_of, numbers_of};
 
 use crate::Field;
 
-// The record of the type at place `at` of the table, from the values of its parts 1 to 10.
-pub fn field_at(
-    at: usize,
-    a: u64,
-    b: u64,
-    c: u64,
-    d: u64,
-    e: u64,
-    f: u64,
-    g: u64,
-    h: u64,
-    i: u64,
-    j: u64,
-) -> Field
-    ensures { result ≡ field_at at a b c d e f g h i j }
+// The record of the type at place `at` of the table, from the values of its parts, the first of which, the type code, is passed over.
+#[tactic(auto, using(crate::proofs::Rows::field_at_last), unfolding(crate::specs::Records::field_at))]
+pub fn field_at(at: usize, v: [u64; 11]) -> Field
+    ensures { result ≡ field_of at v }
 {
+    let [_, a, b, c, d, e, f, g, h, i, j] = v;
     match at {
         0 => Field::TacticalUplink {
             address: a,

@@ -9,9 +9,6 @@ ghost use Rattle.fields.specs.Reading.{from_sensor};
 
 use crate::{Direction, Row};
 
-// No part.
-const NONE: u8 = 11;
-
 // What a part's value may be; 0 is any.
 const SPARE: u8 = 1;
 
@@ -25,298 +22,270 @@ const UP_TO_5: u8 = 5;
 
 const ADVISORY: u8 = 6;
 
-// A row as it stands in the table. Each number is below 256: of a constant array that is looked into at a place known only as the program runs,
-// the compiler makes a copy each time, and so it is a small one.
-#[derive(Clone, Copy)]
-pub struct Known {
-    pub code: u8,
-    pub way: Direction,
-    pub base: u8,
-    pub step: u8,
-    pub more: u8,
-    pub first: u8,
-    pub second: u8,
-    pub third: u8,
-}
-
-const KNOWN: [Known; 22] = [
+// It is a static: of a constant array that is looked into at a place known only as the program runs, the compiler makes a copy each time.
+static KNOWN: [Row; 22] = [
     // tactical: address 9-32, number 33-36, P 37, EXP 38-40, text 41-96
-    Known {
+    Row {
         code: 0x21,
         way: Direction::ToSensor,
         base: 96,
         step: 0,
         more: 0,
-        first: NONE,
-        second: NONE,
-        third: NONE,
+        first: None,
+        second: None,
+        third: None,
     },
     // ELM: the same to 40, spare 41-44, Length 45-48, text
-    Known {
+    Row {
         code: 0x22,
         way: Direction::ToSensor,
         base: 48,
         step: 80,
         more: 1,
-        first: 6,
-        second: NONE,
-        third: NONE,
+        first: Some(6),
+        second: None,
+        third: None,
     },
     // request: to 40, MSRC 41-44, spare
-    Known {
+    Row {
         code: 0x23,
         way: Direction::ToSensor,
         base: 48,
         step: 0,
         more: 0,
-        first: NONE,
-        second: NONE,
-        third: NONE,
+        first: None,
+        second: None,
+        third: None,
     },
     // address, number, spare
-    Known {
+    Row {
         code: 0x24,
         way: Direction::ToSensor,
         base: 40,
         step: 0,
         more: 0,
-        first: NONE,
-        second: NONE,
-        third: NONE,
+        first: None,
+        second: None,
+        third: None,
     },
     // address, number, spare
-    Known {
+    Row {
         code: 0x02,
         way: Direction::ToSensor,
         base: 40,
         step: 0,
         more: 0,
-        first: NONE,
-        second: NONE,
-        third: NONE,
+        first: None,
+        second: None,
+        third: None,
     },
     // cancellation: address, number, referenced number 37-40, referenced type 41-48
-    Known {
+    Row {
         code: 0x25,
         way: Direction::ToSensor,
         base: 48,
         step: 0,
         more: 0,
-        first: NONE,
-        second: NONE,
-        third: NONE,
+        first: None,
+        second: None,
+        third: None,
     },
     // test
-    Known {
+    Row {
         code: 0x61,
         way: Direction::ToSensor,
         base: 56,
         step: 0,
         more: 0,
-        first: NONE,
-        second: NONE,
-        third: NONE,
+        first: None,
+        second: None,
+        third: None,
     },
     // altimeter: spare 9-12, N 13-16, blocks
-    Known {
+    Row {
         code: 0x9B,
         way: Direction::ToSensor,
         base: 16,
         step: 8,
         more: 1,
-        first: 2,
-        second: NONE,
-        third: NONE,
+        first: Some(2),
+        second: None,
+        third: None,
     },
     // state 9-10, spare
-    Known {
+    Row {
         code: 0x99,
         way: Direction::ToSensor,
         base: 16,
         step: 0,
         more: 0,
-        first: NONE,
-        second: NONE,
-        third: NONE,
+        first: None,
+        second: None,
+        third: None,
     },
     // SID 9-12, spare, SSTAT 15-16, spare
-    Known {
+    Row {
         code: 0x65,
         way: Direction::ToSensor,
         base: 24,
         step: 0,
         more: 0,
-        first: NONE,
-        second: NONE,
-        third: NONE,
+        first: None,
+        second: None,
+        third: None,
     },
     // IP 9-11, IS 12-14, IU 15-16, addresses
-    Known {
+    Row {
         code: 0x9A,
         way: Direction::ToSensor,
         base: 16,
         step: 24,
         more: 0,
-        first: 1,
-        second: 2,
-        third: 3,
+        first: Some(1),
+        second: Some(2),
+        third: Some(3),
     },
     // ICA 9-12, IUA 13-16, identifiers
-    Known {
+    Row {
         code: 0x96,
         way: Direction::ToSensor,
         base: 16,
         step: 24,
         more: 0,
-        first: 1,
-        second: 2,
-        third: NONE,
+        first: Some(1),
+        second: Some(2),
+        third: None,
     },
     // address, referenced number 33-36, QUAL 37-39, spare
-    Known {
+    Row {
         code: 0x31,
         way: Direction::FromSensor,
         base: 40,
         step: 0,
         more: 0,
-        first: NONE,
-        second: NONE,
-        third: NONE,
+        first: None,
+        second: None,
+        third: None,
     },
     // DI at 37, spare
-    Known {
+    Row {
         code: 0x32,
         way: Direction::FromSensor,
         base: 40,
         step: 0,
         more: 0,
-        first: NONE,
-        second: NONE,
-        third: NONE,
+        first: None,
+        second: None,
+        third: None,
     },
     // tactical
-    Known {
+    Row {
         code: 0x41,
         way: Direction::FromSensor,
         base: 88,
         step: 0,
         more: 0,
-        first: NONE,
-        second: NONE,
-        third: NONE,
+        first: None,
+        second: None,
+        third: None,
     },
     // ELM: spare 33-36, Length 37-40, text
-    Known {
+    Row {
         code: 0x42,
         way: Direction::FromSensor,
         base: 40,
         step: 80,
         more: 1,
-        first: 3,
-        second: NONE,
-        third: NONE,
+        first: Some(3),
+        second: None,
+        third: None,
     },
     // spare 33-34, UM
-    Known {
+    Row {
         code: 0x43,
         way: Direction::FromSensor,
         base: 40,
         step: 0,
         more: 0,
-        first: NONE,
-        second: NONE,
-        third: NONE,
+        first: None,
+        second: None,
+        third: None,
     },
     // CA 33-35, ACA 36-41, ECA 42-93, spare
-    Known {
+    Row {
         code: 0x44,
         way: Direction::FromSensor,
         base: 96,
         step: 0,
         more: 0,
-        first: NONE,
-        second: NONE,
-        third: NONE,
+        first: None,
+        second: None,
+        third: None,
     },
     // spare 33-36, code 37-48
-    Known {
+    Row {
         code: 0x45,
         way: Direction::FromSensor,
         base: 48,
         step: 0,
         more: 0,
-        first: NONE,
-        second: NONE,
-        third: NONE,
+        first: None,
+        second: None,
+        third: None,
     },
     // test response
-    Known {
+    Row {
         code: 0x62,
         way: Direction::FromSensor,
         base: 56,
         step: 0,
         more: 0,
-        first: NONE,
-        second: NONE,
-        third: NONE,
+        first: None,
+        second: None,
+        third: None,
     },
     // alert: ACID 9-32 and 33-56, then twice CS 2, advisory 11, DEL 3, then V1, V2
-    Known {
+    Row {
         code: 0x83,
         way: Direction::FromSensor,
         base: 90,
         step: 0,
         more: 0,
-        first: NONE,
-        second: NONE,
-        third: NONE,
+        first: None,
+        second: None,
+        third: None,
     },
     // relay: sensor 9-16, then a whole field
-    Known {
+    Row {
         code: 0x03,
         way: Direction::FromSensor,
         base: 16,
         step: 0,
         more: 0,
-        first: NONE,
-        second: NONE,
-        third: NONE,
+        first: None,
+        second: None,
+        third: None,
     },
 ];
 
-fn row_of(known: Known) -> Row
-    ensures { result ≡ record { code = known.code; way = known.way; base = known.base; step = known.step; more = known.more; first = known.first; second = known.second; third = known.third } }
-{
-    let way = known.way;
-    Row {
-        code: known.code as u64,
-        way,
-        base: known.base as usize,
-        step: known.step as usize,
-        more: known.more as u64,
-        first: known.first as usize,
-        second: known.second as usize,
-        third: known.third as usize,
-    }
-}
+// What stands for a row past the end.
+const NO_ROW: Row = Row {
+    code: 0,
+    way: Direction::ToSensor,
+    base: 0,
+    step: 0,
+    more: 0,
+    first: None,
+    second: None,
+    third: None,
+};
 
 // The row at place i, and what stands for one past the end.
+#[tactic(auto, unfolding(crate::specs::Table::table, crate::specs::Table::rows, crate::specs::Table::row_at))]
 pub fn row_at(i: usize) -> Row
     ensures { result ≡ row_at i }
 {
-    if i < 22 {
-        return row_of(KNOWN[i]);
-    }
-    Row {
-        code: 0,
-        way: Direction::ToSensor,
-        base: 0,
-        step: 0,
-        more: 0,
-        first: NONE as usize,
-        second: NONE as usize,
-        third: NONE as usize,
-    }
+    if i < 22 { KNOWN[i] } else { NO_ROW }
 }
 
 // Where a type stands in the table: an index, so that no row is looked at but the one that is asked for.

@@ -9,13 +9,13 @@ use Rattle.fields.specs.Lists.{entries_in}
 use Rattle.fields.specs.Reading.{type_of, list_in, listed_as}
 use Rattle.fields.proofs.Rows.{found_within, first_width, row_base, row_step, row_small, values_fit, widths_narrow, widths_taper, count_whole}
 use Rattle.field_reader.proofs.reading.list_in.Goals as goal
-use Rattle.field_reader.proofs.reading.list_in.Goals.{After-find, After-row_at-row, After-values-v, In-At}
+use Rattle.field_reader.proofs.reading.list_in.Goals.{After-find, After-row_at-row, After-values-v, In-Some}
 
 -- the place that is found is that of the field's type
 place_is : (c : After-find) → place_of (type_of c.args.b.now 0) ≡ c.find.result
 place_is c = rw (← c.type_at-code.ensures) (sym c.find.ensures)
 
-within : (c : In-At) → c.in-Some.i < 22
+within : (c : In-Some) → c.in-Some.i < 22
 within c = found_within _ _ (sym c.find.ensures ∙ c.in-Some.is)
 
 base : (c : After-row_at-row) → c.row_at-row.result.base ≤ 96
@@ -47,13 +47,13 @@ returns-then-step-eq80 c =
 
 pub values-v-requires : goal.values-v-requires
 values-v-requires c =
-    let h = within ((goal.at.values-v-requires c).In-At) in
+    let h = within ((goal.at.values-v-requires c).In-Some) in
     (omega arith, rw (c.widths_at.ensures, first_width _ h) c.type_at-code.ensures, rw c.widths_at.ensures (widths_narrow _ h), rw c.widths_at.ensures (widths_taper _ h))
 
 pub entries-requires-2 : goal.entries-requires-2
 entries-requires-2 c =
     let h = base ((goal.at.entries-requires-2 c).After-row_at-row) in
-    (omega arith, rw c.row_at-row.ensures (row_step _ (within ((goal.at.entries-requires-2 c).In-At)) (λ z. c.if-step-eq80.false (ap (λ (r : Row). r.step) c.row_at-row.ensures ∙ z))))
+    (omega arith, rw c.row_at-row.ensures (row_step _ (within ((goal.at.entries-requires-2 c).In-Some)) (λ z. c.if-step-eq80.false (ap (λ (r : Row). r.step) c.row_at-row.ensures ∙ z))))
 
 pub returns : goal.returns
 unfolding list_in listed_as

@@ -1,4 +1,4 @@
--- `fields::parts::count_in` meets its contract: its three parts are looked up, and sums modulo 2^64 are added up. Assumes nothing.
+-- `fields::parts::count_in` meets its contract: sums modulo 2^64 are added up. Assumes nothing.
 use Rattle.std.proofs.Common.{◌≡◌, ℕ, ◌+◌, ◌%◌, ◌^◌, arith}
 use Rattle.fields.specs.Table.{count_in}
 use Rattle.fields.proofs.parts.count_in.Goals as goal
@@ -8,6 +8,4 @@ sums m a b c = omega arith
 
 pub returns : goal.returns
 unfolding count_in
-returns c =
-    rw (c.wrapping_add_u64.ensures.value, c.part-3.ensures, c.wrapping_add_u64-two.ensures.value, c.part-2.ensures, c.wrapping_add_u64-one.ensures.value, c.part.ensures)
-    (sums _ _ _ _)
+returns c = rw (c.counted.ensures, c.counted-2.ensures, c.counted-3.ensures) (sums _ _ _ _)
