@@ -22,7 +22,6 @@ use Rattle.lines.proofs.Runs.{All, all_runs}
 use Rattle.lines.proofs.Outcomes.{alone_free, one_each}
 use Rattle.reports.specs.declared.Report.{Report}
 use Rattle.reports.specs.declared.RunRefusal.{RunRefusal}
-use Rattle.reports.specs.Runs.{refused_at}
 
 -- ---- they add up
 

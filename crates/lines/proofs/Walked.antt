@@ -20,7 +20,6 @@ use Rattle.words.proofs.Tests.{picked, passed, by_test}
 use Rattle.lines.proofs.Runs.{runs_next, gap_all}
 use Rattle.reports.specs.declared.Report.{Report}
 use Rattle.reports.specs.declared.RunRefusal.{RunRefusal}
-use Rattle.reports.specs.Runs.{refused_at}
 
 -- ---- what runs bring
 

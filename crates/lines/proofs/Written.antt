@@ -65,7 +65,7 @@ only_its_words form line place p r e =
 
 pub refused_leaves : RefusedLeaves
 refused_leaves form line place p r q e = (
-  ⊎_elim (λ h. let f = h.1 in cc) (λ h. let f = h.3 in let z : ◌≡◌ {A = ℕ} 0 1 = cc in absurd (omega arith)) (write_cases form line place r),
+  ⊎_elim (λ h. ap next (sym e ∙ h.1)) (λ h. let f = h.3 in let z : ◌≡◌ {A = ℕ} 0 1 = cc in absurd (omega arith)) (write_cases form line place r),
   ap (λ (w : Result ℕ NotWritten). left_as w line place (words_of form r)) e,
 )
 

@@ -12,7 +12,6 @@ use Rattle.lines.specs.declared.What.TheVariants as W
 use Rattle.lines.specs.declared.Outcome.{Outcome}
 use Rattle.reports.specs.declared.Report.{Report}
 use Rattle.reports.specs.declared.RunRefusal.{RunRefusal}
-use Rattle.reports.specs.Runs.{refused_at}
 
 -- the most words of a line
 abbrev pub most : ℕ

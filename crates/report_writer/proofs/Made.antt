@@ -1,6 +1,6 @@
 -- The words that the writer makes of a layout's data are the layout's words where every value fits, and 11 where one does not.
 -- Assumes nothing.
-use Rattle.std.specs.Prelude.{Err, Result}
+use Rattle.std.specs.Prelude.{Ok, Err, Result}
 use Prim.Native.Nat.{ℕ, ◌+◌, ◌/◌, ◌≤◌}
 use mathlib.Core.Path.{◌≡◌, refl, ◌∙◌}
 use mathlib.Core.Bool.{Bool, true, false, cond}
@@ -75,13 +75,13 @@ four_made : (a b c d : List Field) → twelve_each (a ∷ b ∷ c ∷ d ∷ []) 
 unfolding overs Each
 four_made a b c d t =
     sorted (a ∷ b ∷ c ∷ d ∷ []) (data_or_more a / 4096 + data_or_more b / 4096 + data_or_more c / 4096 + data_or_more d / 4096) _ _ t (omega arith)
-    (λ k i. Ok (Four (word_of (k.0 i)) (word_of (k.1.0 i)) (word_of (k.1.1.0 i)) (word_of (k.1.1.1.0 i)))
+    (λ k i. Ok (Four (word_of (k.0 i) ∷ word_of (k.1.0 i) ∷ word_of (k.1.1.0 i) ∷ word_of (k.1.1.1.0 i) ∷ [])))
 
 seven_made : (a b c d e f g : List Field) → twelve_each (a ∷ b ∷ c ∷ d ∷ e ∷ f ∷ g ∷ []) ≡ true → Made (a ∷ b ∷ c ∷ d ∷ e ∷ f ∷ g ∷ [])
 unfolding overs Each
 seven_made a b c d e f g t =
     sorted (a ∷ b ∷ c ∷ d ∷ e ∷ f ∷ g ∷ []) (data_or_more a / 4096 + data_or_more b / 4096 + data_or_more c / 4096 + data_or_more d / 4096 + data_or_more e / 4096 + data_or_more f / 4096 + data_or_more g / 4096) _ _ t (omega arith)
-    (λ k i. Ok (Seven (word_of (k.0 i)) (word_of (k.1.0 i)) (word_of (k.1.1.0 i)) (word_of (k.1.1.1.0 i)) (word_of (k.1.1.1.1.0 i)) (word_of (k.1.1.1.1.1.0 i)) (word_of (k.1.1.1.1.1.1.0 i)))
+    (λ k i. Ok (Seven (word_of (k.0 i) ∷ word_of (k.1.0 i) ∷ word_of (k.1.1.0 i) ∷ word_of (k.1.1.1.0 i) ∷ word_of (k.1.1.1.1.0 i) ∷ word_of (k.1.1.1.1.1.0 i) ∷ word_of (k.1.1.1.1.1.1.0 i) ∷ [])))
 
 -- ---- every report
 

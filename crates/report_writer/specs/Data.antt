@@ -1,5 +1,5 @@
 -- The data of a report's words as the writer's private functions compute it. Definitions only; no promise of a public function names them.
-use Rattle.std.specs.Prelude.{ℕ, ◌+◌, ◌*◌, ◌/◌, ◌^◌, cond, List, [], ◌∷◌, eqb, length, get_or, Err, Result}
+use Rattle.std.specs.Prelude.{ℕ, ◌+◌, ◌*◌, ◌/◌, ◌^◌, cond, List, [], ◌∷◌, eqb, length, get_or, Ok, Err, Result}
 use Rattle.refusals.specs.declared.LineRefusal.TheVariants.{ValueTooLarge}
 use Rattle.words.specs.Word.{word_of}
 use Rattle.words.specs.Layout.{Field, flag, count, rest, fixed, joined}
