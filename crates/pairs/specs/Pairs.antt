@@ -1,5 +1,5 @@
 -- Pairs of eight-byte numbers in a list of bytes, high byte first: a number, and the value that goes with it. Definitions only.
-use Rattle.std.specs.Prelude.{ℕ, zero, suc, ◌+◌, ◌/◌, ◌≤◌, ◌<◌, Bool, true, false, cond, ◌≡◌, ◌⊎◌, List, [], ◌∷◌, eqb, length, drop, None, Option, Some}
+use Rattle.std.specs.Prelude.{ℕ, zero, suc, ◌+◌, ◌/◌, ◌≤◌, ◌<◌, cond, ◌≡◌, ◌⊎◌, List, [], ◌∷◌, eqb, length, drop, None, Option, Some}
 use Rattle.bits.specs.Bits.{bits_of}
 
 abbrev pub Pair : Type 0
@@ -27,10 +27,6 @@ find_in n (p ∷ ps) = cond (eqb p.0 n) (Some p.1) (find_in n ps)
 abbrev pub value_of : Option ℕ → ℕ
 value_of (Some v) = v
 value_of None = 0
-
-abbrev pub is_found : Option ℕ → Bool
-is_found (Some v) = true
-is_found None = false
 
 -- what f says of what is found for each of k numbers, n the first
 unfoldable pub each_from : {X : Type 0} → ((Option ℕ) → X) → ℕ → ℕ → List Pair → List X
