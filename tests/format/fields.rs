@@ -61,7 +61,7 @@ fn types(page: &[Table]) -> BTreeMap<String, Type> {
     found
 }
 
-// A row of Table.antt: "known CODE WAY base step more first second third (RULE WIDTH ∷ ..)".
+// A row of Table.antt: "known CODE WAY base step more first second third (RULE WIDTH ∷ ..)"; a counted part is "(Some 6)" or "none".
 struct Known {
     way: String,
     size: Size,
@@ -71,7 +71,8 @@ struct Known {
 fn known() -> BTreeMap<u32, Known> {
     let mut found = BTreeMap::new();
     for line in code(TYPES).lines().filter(|line| line.contains("known 0x")) {
-        let words = words(line.split_once("known ").unwrap().1);
+        let mut words = words(line.split_once("known ").unwrap().1);
+        words.retain(|word| *word != "Some");
         let column = |i: usize| words[i].parse::<u32>().unwrap_or_else(|_| panic!("{TYPES}: '{}' is no number in {line}", words[i]));
         let (mut parts, mut at) = (Vec::new(), 9);
         for pair in words[8..].chunks(2).filter(|pair| pair.len() == 2) {

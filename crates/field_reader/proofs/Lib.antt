@@ -1,3 +1,4 @@
 mod Values
 mod Entries
 mod Order
+mod Small

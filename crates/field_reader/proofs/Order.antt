@@ -4,16 +4,19 @@ use mathlib.Core.Path.{◌≡◌, refl}
 use mathlib.Core.List.{List}
 use mathlib.Core.Bool.{Bool, true, false, cond, not}
 use Prim.Native.Nat.{ℕ}
+use denote.Enum.Bare.{sameb}
 use Rattle.rows.specs.Rows.{first_of, each}
 use Rattle.rows.proofs.Claims.{each_of}
 use Rattle.bits.specs.Bits.{bits}
 use Rattle.refusals.specs.declared.FieldRefusal.TheVariants.{UnknownType, TypeNotCarried}
 use Rattle.fields.specs.declared.Direction.{Direction}
+use Rattle.fields.specs.declared.Direction.TheVariants.{ToSensor, FromSensor}
+use Rattle.fields.specs.contracts.Direction.{the_type}
 use Rattle.fields.specs.declared.Field.{Field}
 use Rattle.fields.specs.declared.Record.{Record}
 use Rattle.fields.specs.declared.Record.TheVariants.{Single, Relay}
 use Rattle.fields.specs.Table.{place_of}
-use Rattle.fields.specs.Reading.{type_of, type_not_carried, unknown_type, wrong_direction, wrong_bit_count, spare_bit_set, value_not_in_use, count_rows, field_rows, record_in, opens, answer_of}
+use Rattle.fields.specs.Reading.{from_sensor, same_way_as, type_of, type_not_carried, unknown_type, wrong_direction, wrong_bit_count, spare_bit_set, value_not_in_use, count_rows, field_rows, record_in, opens, answer_of}
 use Rattle.fields.proofs.Rows.{found_within, found_code, carried}
 use Rattle.field_reader.specs.Steps.{passed, outer_of, unless_refused, as_plain, plain_of, unknown_of, judged_by, row_read, handed, answered, relayed, opened_of}
 use Rattle.refusals.specs.declared.FieldRefusal.{FieldRefusal}
@@ -54,3 +57,11 @@ opened_relay s n w e = rw e (field_first s n 16 w (Relay (bits s 9 16)))
 pub opened_field : (s : List ℕ) (n : ℕ) (w : Direction) → opens s n w ≡ false → opened_of s n w ≡ answered (plain_of s n 0 w)
 unfolding opened_of
 opened_field s n w e = rw e (field_first s n 0 w Single)
+
+-- two ways are equal as the table's way and the field's are
+pub same_is : (a w : Direction) → sameb the_type a w ≡ same_way_as a w
+unfolding same_way_as from_sensor
+same_is ToSensor ToSensor = refl
+same_is ToSensor FromSensor = refl
+same_is FromSensor ToSensor = refl
+same_is FromSensor FromSensor = refl

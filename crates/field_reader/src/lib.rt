@@ -5,4 +5,5 @@
 
 mod parts; // the values of a field's parts
 mod lists; // the entries of a list: altimeter blocks, addresses, identifiers
+mod typed; // a field whose type has a row: its count, its faults, its list
 pub mod reading; // the calls that read

@@ -11,7 +11,7 @@ fn signed_of(minus: bool, n: u64) -> i32
     ensures { result ≡ signed minus n }
 {
     let z = n as i32;
-    if minus { 0 - z } else { z }
+    if minus { -z } else { z }
 }
 
 fn block_of(x: u64) -> i32
@@ -25,26 +25,19 @@ fn block_of(x: u64) -> i32
 fn block_unused(x: u64) -> bool
     ensures { result ≡ block_unused x }
 {
-    if 9 < x % 16 {
-        return true;
-    }
-    x == 128
+    9 < x % 16 || x == 128
 }
 
 // The n bits behind the first `at`. A block is a byte of its own, and there may be sixteen of them, so it is not read as a bit field.
+#[tactic(auto, using(bits::proofs::Laws::byte_is, bits::proofs::Laws::whole))]
 fn piece(b: &[u8], at: usize, n: usize) -> u64
     requires { n ≤ 24 }
     ensures { result ≡ bits_of b.now at n }
 {
-    let i = at / 8;
-    if n == 8 {
-        if at % 8 == 0 {
-            if i < b.len() {
-                return b[i] as u64;
-            }
-        }
+    match b.get(at / 8) {
+        Some(byte) if n == 8 && at % 8 == 0 => u64::from(*byte),
+        _ => bits::read(b, at, n),
     }
-    bits::read(b, at, n)
 }
 
 // One of n blocks, of which the first stands behind `before` bits, is not in use.
@@ -52,12 +45,10 @@ pub fn any_unused(b: &[u8], before: usize, n: usize) -> bool
     requires { (before ≤ 4096) × (n ≤ 64) }
     ensures { result ≡ any_unused (values_of b.now before (replicate n 8)) }
 {
-    let mut k: usize = 0;
-    while k < n {
+    for k in 0..n {
         if block_unused(piece(b, before + 8 * k, 8)) {
             return true;
         }
-        k += 1;
     }
     false
 }
@@ -90,10 +81,8 @@ pub fn entries(b: &[u8], before: usize, step: usize, n: usize) -> [i32; 30]
     ensures { result ≡ entries_in step 30 (values_of b.now before (replicate n step)) }
 {
     let mut v = [0i32; 30];
-    let mut k: usize = 0;
-    while k < 30 {
-        v[k] = entry_at(b, before, step, n, k);
-        k += 1;
+    for (k, entry) in v.iter_mut().enumerate() {
+        *entry = entry_at(b, before, step, n, k);
     }
     v
 }

@@ -13,15 +13,13 @@ pub fn values(b: &[u8], before: usize, code: u64, widths: [u8; 11]) -> [u64; 11]
     let mut v = [0u64; 11];
     v[0] = code;
     let mut at: usize = before + widths[0] as usize;
-    let mut i: usize = 1;
-    while i < 11 {
+    for i in 1..11 {
         let w = widths[i] as usize;
         if w == 0 {
             return v;
         }
         v[i] = bits::read(b, at, w);
         at += w;
-        i += 1;
     }
     v
 }

@@ -1,10 +1,13 @@
 -- Laws of the faults of a layout's parts, up to the first part of no bits.
 -- Assumes nothing.
-use Rattle.std.proofs.Common.{◌≡◌, ℕ, zero, suc, ◌+◌, Bool, true, false, ◌||◌, eqb, List, length, get_or, drop, sym, refl, add-one, arith, drop_of_length-le, drop-cons, eq-eqb, ne_eqb, eqb-true}
-use mathlib.Core.Bool.{or_assoc, or-false}
+use Rattle.std.proofs.Common.{◌≡◌, ℕ, zero, suc, ◌+◌, Bool, true, false, ◌||◌, eqb, List, length, get_or, drop, sym, refl, add-one, arith, drop_of_length-le, drop-cons, eq-eqb, ne_eqb, eqb-true, None, Option, Some}
+use mathlib.Core.Bool.{or_assoc, or-false, or-true}
+use Rattle.fields.specs.declared.Fault.{Fault}
+use Rattle.fields.specs.declared.Fault.TheVariants as F
 use Rattle.fields.specs.declared.Faults.{Faults}
 use Rattle.fields.specs.Table.{has_fault, fault_of, Quiet}
-use Rattle.fields.specs.Steps.{fault_within}
+use Rattle.fields.specs.Numbers.{fault_number}
+use Rattle.fields.specs.Steps.{fault_within, faults_within}
 
 -- a fault seen before i or found from i on: the part at i, which has bits, passes from the one to the other
 pub within_next : (k : ℕ) (ws rs vs : List ℕ) (n m i : ℕ) (a b : Bool) (f : ℕ) → n ≡ suc m → (get_or ws i 0 ≡ 0 → ⊥) →
@@ -37,6 +40,18 @@ within_from k ws rs vs quiet (suc n) i r v = go (eqb (get_or ws i 0) 0) refl (wi
     go false e more = rw (e, more, drop-cons rs i 0 (omega (arith, r)), drop-cons vs i 0 (omega (arith, v)), add-one) refl
 
 pub within_quiet : (ws rs vs : List ℕ) → length rs ≡ 11 → length vs ≡ 11 → Quiet ws rs vs →
-    ◌≡◌ {A = Faults} (record { spare = fault_within 1 ws rs vs 11 0; unused = fault_within 2 ws rs vs 11 0 }) (record { spare = has_fault 1 rs vs; unused = has_fault 2 rs vs })
+    faults_within ws rs vs ≡ record { spare = has_fault 1 rs vs; unused = has_fault 2 rs vs }
 within_quiet ws rs vs r v quiet =
     rw (within_from 1 ws rs vs (λ j h. (quiet j h).0) 11 0 r v, within_from 2 ws rs vs (λ j h. (quiet j h).1) 11 0 r v) refl
+
+-- what was found so far, and what is wrong with one part more
+abbrev pub noted : Faults → Option Fault → Faults
+noted f None = f
+noted f (Some F.Spare) = record { spare = true; unused = f.unused }
+noted f (Some F.Unused) = record { spare = f.spare; unused = true }
+
+pub noted_is : (f : Faults) (r : Option Fault) →
+    ((noted f r).spare ≡ (f.spare || eqb (fault_number r) 1)) × ((noted f r).unused ≡ (f.unused || eqb (fault_number r) 2))
+noted_is f None = (sym (or-false f.spare), sym (or-false f.unused))
+noted_is f (Some F.Spare) = (sym (or-true f.spare), sym (or-false f.unused))
+noted_is f (Some F.Unused) = (sym (or-false f.spare), sym (or-true f.unused))

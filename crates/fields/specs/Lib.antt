@@ -1,4 +1,5 @@
 pub mod Table
+pub mod Numbers
 pub mod Steps
 pub mod Records
 pub mod Lists

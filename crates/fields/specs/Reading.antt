@@ -186,6 +186,9 @@ text_of s n w = drop (text_place s (answer_of s n w)) s
 
 -- ---- the number of an answer: 0, or the refusal's
 
+abbrev pub number_of : {T : Type 0} → Result T FieldRefusal → ℕ
+number_of (Ok x) = 0
+number_of (Err r) = field_number r
+
 abbrev pub answer_number : Result Record FieldRefusal → ℕ
-answer_number (Ok r) = 0
-answer_number (Err r) = field_number r
+answer_number = number_of

@@ -5,6 +5,8 @@ use Rattle.bits.specs.Bits.{bits_of}
 use Rattle.fields.specs.declared.Direction.{Direction}
 use Rattle.fields.specs.declared.Direction.TheVariants.{ToSensor, FromSensor}
 use Rattle.fields.specs.declared.Row.{Row}
+use Rattle.fields.specs.declared.Behind.{Behind}
+use Rattle.fields.specs.declared.Behind.TheVariants.{Nothing, Text, Blocks, Numbers}
 
 -- ---- a part, and the rule of its value
 
@@ -60,6 +62,10 @@ none = None
 abbrev pub known : ℕ → Direction → ℕ → ℕ → ℕ → Option ℕ → Option ℕ → Option ℕ → List Part → Known
 known c w b s m i j k ps =
     record { row = record { code = c; way = w; base = b; step = s; more = m; first = i; second = j; third = k }; parts = ps }
+
+-- what stands behind the parts of a field, by the bits of each step
+abbrev pub behind_of : Row → Behind
+behind_of r = cond (r.step == 0) Nothing (cond (r.step == 80) Text (cond (r.step == 8) Blocks Numbers))
 
 -- code, way, base, step, more, the counted parts; then the parts
 unfoldable pub table : List Known

@@ -5,7 +5,6 @@ use Rattle.std.specs.Prelude.{ℕ, ◌+◌, ◌-◌, ◌*◌, ◌/◌, ◌%◌, 
 use Rattle.rows.specs.Rows.{Row, row, first_of}
 use Rattle.bits.specs.Bits.{put_bits}
 use Rattle.refusals.specs.declared.FieldRefusal.TheVariants.{NotWritable, NoRoom}
-use Rattle.refusals.specs.Numbers.{field_number}
 use Rattle.fields.specs.declared.Direction.{Direction}
 use Rattle.fields.specs.declared.Direction.TheVariants.{ToSensor}
 use Rattle.fields.specs.declared.Row as table
@@ -15,7 +14,7 @@ use Rattle.fields.specs.declared.Record.TheVariants.{Single, Relay}
 use Rattle.fields.specs.Table.{place_of, by_place, row_at, widths_at, rules_at, has_fault, count_in, size_in}
 use Rattle.fields.specs.Records.{numbers_of}
 use Rattle.fields.specs.Lists.{list_fits, entries_bits}
-use Rattle.fields.specs.Reading.{from_sensor, listed}
+use Rattle.fields.specs.Reading.{from_sensor, listed, number_of}
 use Rattle.refusals.specs.declared.FieldRefusal.{FieldRefusal}
 
 -- ---- a record
@@ -151,5 +150,4 @@ bytes_in r l t = put_in r l t (replicate ((bits_in r + 7) / 8) 0)
 -- ---- the number of an answer: 0, or the refusal's
 
 abbrev pub written_number : Result ℕ FieldRefusal → ℕ
-written_number (Ok n) = 0
-written_number (Err r) = field_number r
+written_number = number_of

@@ -4,7 +4,9 @@
 #![tactic(auto)]
 
 ghost use Rattle.std.specs.Prelude.{◌≡◌};
-ghost use Rattle.fields.specs.Reading.{way_numbered};
+ghost use Rattle.fields.specs.Reading.{way_numbered, number_of};
+ghost use Rattle.fields.specs.Numbers.{rule_numbered};
+ghost use Rattle.fields.specs.Table.{behind_of};
 
 pub mod table; // the known types, their lengths, their parts, and the rules of the parts
 pub mod parts; // the parts of a field: their faults, and what the counted ones say
@@ -43,6 +45,75 @@ pub struct Row {
     pub first: Option<usize>,
     pub second: Option<usize>,
     pub third: Option<usize>,
+}
+
+// What stands behind the parts of a field: nothing, the text of an ELM, altimeter blocks, or numbers of 24 bits (addresses, identifiers).
+#[derive(Clone, Copy, Debug, PartialEq, Eq)]
+pub enum Behind {
+    Nothing,
+    Text,
+    Blocks,
+    Numbers,
+}
+
+impl Row {
+    // By the bits of each step; a type with none has nothing there.
+    pub fn behind(self) -> Behind
+        ensures { result ≡ behind_of self }
+    {
+        match self.step {
+            0 => Behind::Nothing,
+            80 => Behind::Text,
+            8 => Behind::Blocks,
+            _ => Behind::Numbers,
+        }
+    }
+}
+
+// The document's number of a refusal; 0 where there is none.
+pub fn number<T: Drop>(answer: Result<T, FieldRefusal>) -> u8
+    ensures { result ≡ number_of answer }
+{
+    match answer {
+        Ok(_) => 0,
+        Err(refusal) => u8::from(refusal),
+    }
+}
+
+// What a part's value may be.
+#[derive(Clone, Copy, Debug, PartialEq, Eq)]
+pub enum Rule {
+    Any = 0,
+    Spare = 1,
+    NotZero = 2,
+    One = 3,
+    UpTo4 = 4,
+    UpTo5 = 5,
+    Advisory = 6,
+}
+
+// By the number that the definitions name a rule with; any other is any value.
+impl From<u8> for Rule {
+    ghost from_gives = { λ number rule. rule ≡ rule_numbered number };
+
+    fn from(number: u8) -> Rule {
+        match number {
+            1 => Rule::Spare,
+            2 => Rule::NotZero,
+            3 => Rule::One,
+            4 => Rule::UpTo4,
+            5 => Rule::UpTo5,
+            6 => Rule::Advisory,
+            _ => Rule::Any,
+        }
+    }
+}
+
+// What is wrong with a part's value: a spare bit is one; the value is not in use.
+#[derive(Clone, Copy, Debug, PartialEq, Eq)]
+pub enum Fault {
+    Spare = 1,
+    Unused = 2,
 }
 
 // What is wrong with the parts of a field: a spare bit is one; a value is not in use.

@@ -1,45 +1,29 @@
 // The parts of a field by the table's rules: their faults, and what the counted ones say.
 // Relies on the table; specs/Table.antt and specs/Steps.antt say what each function means.
-ghost use Rattle.std.specs.Prelude.{◌≡◌, ◌%◌, ◌^◌, ◌||◌, ◌==◌};
+ghost use Rattle.std.specs.Prelude.{◌≡◌, ◌%◌, ◌^◌, map};
 ghost use Rattle.fields.specs.Table.{counted, count_in};
-ghost use Rattle.fields.specs.Steps.{fault_within};
+ghost use Rattle.fields.specs.Numbers.{rule_number};
+ghost use Rattle.fields.specs.Steps.{faults_within};
 
-use crate::{Faults, Row, table};
-
-fn either(a: bool, b: bool) -> bool
-    ensures { result ≡ (a || b) }
-{
-    if a { true } else { b }
-}
-
-// What was found so far, and the fault of one part more. Most parts have none, and are let through by one test.
-fn noted(found: Faults, fault: u64) -> Faults
-    ensures { result ≡ record { spare = found.spare || (fault == 1); unused = found.unused || (fault == 2) } }
-{
-    if fault == 0 {
-        return found;
-    }
-    Faults {
-        spare: either(found.spare, fault == 1),
-        unused: either(found.unused, fault == 2),
-    }
-}
+use crate::{Fault, Faults, Row, Rule, table};
 
 // What is wrong with the parts up to the first of no bits, in one pass: both kinds of fault.
-pub fn faults(widths: &[u8; 11], rules: &[u8; 11], v: &[u64; 11]) -> Faults
-    ensures { result ≡ record { spare = fault_within 1 widths.now rules.now v.now 11 0; unused = fault_within 2 widths.now rules.now v.now 11 0 } }
+pub fn faults(widths: &[u8; 11], rules: &[Rule; 11], v: &[u64; 11]) -> Faults
+    ensures { result ≡ faults_within widths.now (map rule_number rules.now) v.now }
 {
     let mut found = Faults {
         spare: false,
         unused: false,
     };
-    let mut i: usize = 0;
-    while i < 11 {
-        if widths[i] == 0 {
+    for (i, width) in widths.iter().enumerate() {
+        if *width == 0 {
             return found;
         }
-        found = noted(found, table::fault(rules[i], v[i]));
-        i += 1;
+        match table::fault(rules[i], v[i]) {
+            None => {}
+            Some(Fault::Spare) => found.spare = true,
+            Some(Fault::Unused) => found.unused = true,
+        }
     }
     found
 }

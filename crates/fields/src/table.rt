@@ -3,24 +3,12 @@
 // constant array, since of a constant array the compiler makes a copy at each look into it.
 // Types that are known but not carried have no row: `unknown` of `field_reader` names them.
 // Relies on nothing but the names; specs/Table.antt says what the table holds.
-ghost use Rattle.std.specs.Prelude.{◌≡◌, ◌<◌};
+ghost use Rattle.std.specs.Prelude.{◌≡◌, ◌-◌, ◌≤◌, ◌++◌, map, replicate};
 ghost use Rattle.fields.specs.Table.{place_of, row_at, widths_at, rules_at, fault_of};
-ghost use Rattle.fields.specs.Reading.{from_sensor};
+ghost use Rattle.fields.specs.Numbers.{rule_number, fault_number};
+ghost use Rattle.fields.specs.declared.Rule.TheVariants.{Spare};
 
-use crate::{Direction, Row};
-
-// What a part's value may be; 0 is any.
-const SPARE: u8 = 1;
-
-const NOT_ZERO: u8 = 2;
-
-const ONE: u8 = 3;
-
-const UP_TO_4: u8 = 4;
-
-const UP_TO_5: u8 = 5;
-
-const ADVISORY: u8 = 6;
+use crate::{Direction, Fault, Row, Rule};
 
 // It is a static: of a constant array that is looked into at a place known only as the program runs, the compiler makes a copy each time.
 static KNOWN: [Row; 22] = [
@@ -352,69 +340,62 @@ pub fn widths_at(i: usize) -> [u8; 11]
     }
 }
 
-// Their rules.
+// The rules of a type's parts; parts of no bits behind them are spare.
+fn ruled<const N: usize>(parts: [Rule; N]) -> [Rule; 11]
+    requires { N ≤ 11 }
+    ensures { result ≡ parts.entry ++ replicate (11 - N) Spare }
+{
+    let mut rules = [Rule::Spare; 11];
+    rules[..N].copy_from_slice(&parts);
+    rules
+}
+
+// Their rules; past the end any value.
 #[tactic(auto, unfolding(crate::specs::Table::table, crate::specs::Table::rules, crate::specs::Table::rules_at))]
-pub fn rules_at(i: usize) -> [u8; 11]
-    ensures { result ≡ rules_at i }
+pub fn rules_at(i: usize) -> [Rule; 11]
+    ensures { map rule_number result ≡ rules_at i }
 {
+    use Rule::{Advisory, Any, NotZero, One, Spare, UpTo4, UpTo5};
     match i {
-        0 => [0, 0, 2, 0, 2, 0, 1, 1, 1, 1, 1], // 21
-        1 => [0, 0, 2, 0, 2, 1, 2, 1, 1, 1, 1], // 22
-        2 => [0, 0, 2, 0, 2, 3, 1, 1, 1, 1, 1], // 23
-        3 => [0, 0, 2, 1, 1, 1, 1, 1, 1, 1, 1], // 24
-        4 => [0, 0, 2, 1, 1, 1, 1, 1, 1, 1, 1], // 02
-        5 => [0, 0, 2, 2, 0, 1, 1, 1, 1, 1, 1], // 25
-        6 => [0, 0, 1, 1, 1, 1, 1, 1, 1, 1, 1], // 61
-        7 => [0, 1, 0, 1, 1, 1, 1, 1, 1, 1, 1], // 9B
-        8 => [0, 2, 1, 1, 1, 1, 1, 1, 1, 1, 1], // 99
-        9 => [0, 0, 1, 2, 1, 1, 1, 1, 1, 1, 1], // 65
-        10 => [0, 0, 0, 0, 1, 1, 1, 1, 1, 1, 1], // 9A
-        11 => [0, 0, 0, 1, 1, 1, 1, 1, 1, 1, 1], // 96
-        12 => [0, 0, 2, 4, 1, 1, 1, 1, 1, 1, 1], // 31
-        13 => [0, 0, 2, 0, 1, 1, 1, 1, 1, 1, 1], // 32
-        14 => [0, 0, 0, 1, 1, 1, 1, 1, 1, 1, 1], // 41
-        15 => [0, 0, 1, 0, 1, 1, 1, 1, 1, 1, 1], // 42
-        16 => [0, 0, 1, 0, 1, 1, 1, 1, 1, 1, 1], // 43
-        17 => [0, 0, 0, 0, 0, 1, 1, 1, 1, 1, 1], // 44
-        18 => [0, 0, 1, 0, 1, 1, 1, 1, 1, 1, 1], // 45
-        19 => [0, 0, 1, 1, 1, 1, 1, 1, 1, 1, 1], // 62
-        20 => [0, 0, 0, 0, 6, 5, 0, 6, 5, 0, 0], // 83
-        21 => [0, 0, 1, 1, 1, 1, 1, 1, 1, 1, 1], // 03
-        _ => [0, 0, 0, 0, 0, 0, 0, 0, 0, 0, 0],
+        0 => ruled([Any, Any, NotZero, Any, NotZero, Any]), // 21
+        1 => ruled([Any, Any, NotZero, Any, NotZero, Spare, NotZero]), // 22
+        2 => ruled([Any, Any, NotZero, Any, NotZero, One, Spare]), // 23
+        3 => ruled([Any, Any, NotZero, Spare]), // 24
+        4 => ruled([Any, Any, NotZero, Spare]), // 02
+        5 => ruled([Any, Any, NotZero, NotZero, Any]), // 25
+        6 => ruled([Any, Any]), // 61
+        7 => ruled([Any, Spare, Any]), // 9B
+        8 => ruled([Any, NotZero, Spare]), // 99
+        9 => ruled([Any, Any, Spare, NotZero, Spare]), // 65
+        10 => ruled([Any, Any, Any, Any]), // 9A
+        11 => ruled([Any, Any, Any]), // 96
+        12 => ruled([Any, Any, NotZero, UpTo4, Spare]), // 31
+        13 => ruled([Any, Any, NotZero, Any, Spare]), // 32
+        14 => ruled([Any, Any, Any]), // 41
+        15 => ruled([Any, Any, Spare, Any]), // 42
+        16 => ruled([Any, Any, Spare, Any]), // 43
+        17 => ruled([Any, Any, Any, Any, Any, Spare]), // 44
+        18 => ruled([Any, Any, Spare, Any]), // 45
+        19 => ruled([Any, Any]), // 62
+        20 => ruled([
+            Any, Any, Any, Any, Advisory, UpTo5, Any, Advisory, UpTo5, Any, Any,
+        ]), // 83
+        21 => ruled([Any, Any]), // 03
+        _ => [Any; 11],
     }
 }
 
-// What is wrong with a part's value: 0 nothing, 1 a spare bit is one, 2 the value is not in use.
-pub fn fault(rule: u8, x: u64) -> u64
-    ensures { result ≡ fault_of rule x }
+// What is wrong with a part's value, if anything is.
+pub fn fault(rule: Rule, x: u64) -> Option<Fault>
+    ensures { fault_number result ≡ fault_of (rule_number rule) x }
 {
-    if rule == SPARE {
-        return if x == 0 { 0 } else { 1 };
-    }
-    if rule == NOT_ZERO {
-        return if x == 0 { 2 } else { 0 };
-    }
-    if rule == ONE {
-        return if x == 1 { 0 } else { 2 };
-    }
-    if rule == UP_TO_4 {
-        return if x <= 4 { 0 } else { 2 };
-    }
-    if rule == UP_TO_5 {
-        return if x <= 5 { 0 } else { 2 };
-    }
-    if rule == ADVISORY {
-        return if x % 8 == 7 { 2 } else { 0 };
-    }
-    0
-}
-
-// Whether a type travels from the sensor, by its way.
-pub fn from_sensor(way: Direction) -> bool
-    ensures { result ≡ from_sensor way }
-{
-    match way {
-        Direction::ToSensor => false,
-        Direction::FromSensor => true,
+    match rule {
+        Rule::Spare if x != 0 => Some(Fault::Spare),
+        Rule::NotZero if x == 0 => Some(Fault::Unused),
+        Rule::One if x != 1 => Some(Fault::Unused),
+        Rule::UpTo4 if 4 < x => Some(Fault::Unused),
+        Rule::UpTo5 if 5 < x => Some(Fault::Unused),
+        Rule::Advisory if x % 8 == 7 => Some(Fault::Unused),
+        _ => None,
     }
 }

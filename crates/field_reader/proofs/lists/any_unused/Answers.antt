@@ -19,15 +19,13 @@ pub returns-then-block_unused : goal.returns-then-block_unused
 returns-then-block_unused c =
     let l = c.loop-k in
     let a = c.args in
-    sym (any_unused_hit a.b.now a.before a.n l.k (omega arith) (told ((goal.at.returns-then-block_unused c).After-block_unused) ∙ c.if-block_unused.true)) ∙ l.invariant.1
+    sym (any_unused_hit a.b.now a.before a.n l.k (omega arith) (told ((goal.at.returns-then-block_unused c).After-block_unused) ∙ c.if-block_unused.true)) ∙ l.invariant
 
 pub loop-k-preserved : goal.loop-k-preserved
 loop-k-preserved c =
     let l = c.loop-k in
-    let a = c.args in (
-      omega arith,
-      sym (any_unused_miss a.b.now a.before a.n l.k (omega arith) (told ((goal.at.loop-k-preserved c).After-block_unused) ∙ c.if-block_unused.false)) ∙ l.invariant.1,
-    )
+    let a = c.args in
+    sym (any_unused_miss a.b.now a.before a.n l.k (omega arith) (told ((goal.at.loop-k-preserved c).After-block_unused) ∙ c.if-block_unused.false)) ∙ l.invariant
 
 pub returns : goal.returns
-returns c = sym (any_unused_none _ _ _ _ c.loop-k-test.false) ∙ c.loop-k.invariant.1
+returns c = sym (any_unused_none _ _ _ _ (omega arith)) ∙ c.loop-k.invariant

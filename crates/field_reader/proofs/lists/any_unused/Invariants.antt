@@ -8,7 +8,5 @@ use Rattle.field_reader.proofs.lists.any_unused.Given as goal
 
 abbrev pub invariant-loop-k : goal.invariant-loop-k
 invariant-loop-k l =
-    (l.k ≤ l.n) × (any_unused (values_of l.b (l.before + 8 * l.k) (replicate (l.n - l.k) 8)) ≡ any_unused (values_of l.b l.before (replicate l.n 8)))
+    any_unused (values_of l.b (l.before + 8 * l.k) (replicate (l.n - l.k) 8)) ≡ any_unused (values_of l.b l.before (replicate l.n 8))
 
-abbrev pub decreases-loop-k : goal.decreases-loop-k
-decreases-loop-k l = l.n - l.k

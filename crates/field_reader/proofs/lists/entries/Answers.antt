@@ -20,10 +20,9 @@ loop-k-preserved c =
     let a = c.args in
     let x = to_z w32 (of_z w32 c.entry_at.result) in
     let e : x ≡ entry_at a.b.now a.before a.step a.n l.k = to_z-of_z {w = w32} (record { sfits = c.entry_at.type_inv }) ∙ c.entry_at.ensures in
-    let t : take (l.k + 1) (set l.v l.k x) ≡ take l.k l.v ++ (x ∷ []) = rw add-one (take-suc-set l.v l.k x (omega arith)) in (
-      omega arith,
-      simp length-set l.invariant.1,
-      rw (t, append_assoc, e, ← rest_step a.b.now a.before a.step a.n l.k (omega arith)) l.invariant.2,
+    let t : take (l.k + 1) (set l.entry-items l.k x) ≡ take l.k l.entry-items ++ (x ∷ []) = rw add-one (take-suc-set l.entry-items l.k x (omega arith)) in (
+      simp length-set l.invariant.0,
+      rw (t, append_assoc, e, ← rest_step a.b.now a.before a.step a.n l.k (omega arith)) l.invariant.1,
     )
 
 pub returns : goal.returns
@@ -31,4 +30,4 @@ unfolding entries_in
 returns c =
     let l = c.loop-k in
     let e : l.k ≡ 30 = omega arith in
-    sym (take_all 30 l.v (omega arith)) ∙ sym (append-nil _) ∙ (rw e at l.invariant.2)
+    sym (take_all 30 l.entry-items (omega arith)) ∙ sym (append-nil _) ∙ (rw e at l.invariant.1)

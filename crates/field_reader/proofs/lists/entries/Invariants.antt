@@ -10,7 +10,5 @@ use Rattle.field_reader.proofs.lists.entries.Given as goal
 
 abbrev pub invariant-loop-k : goal.invariant-loop-k
 invariant-loop-k l =
-    (l.k ≤ 30) × (length l.v ≡ 30) × (take l.k l.v ++ rest l.b l.before l.step l.n l.k ≡ entries_in l.step 30 (values_of l.b l.before (replicate l.n l.step)))
+    (length l.entry-items ≡ 30) × (take l.k l.entry-items ++ rest l.b l.before l.step l.n l.k ≡ entries_in l.step 30 (values_of l.b l.before (replicate l.n l.step)))
 
-abbrev pub decreases-loop-k : goal.decreases-loop-k
-decreases-loop-k l = 30 - l.k

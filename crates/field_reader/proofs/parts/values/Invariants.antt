@@ -8,7 +8,5 @@ use Rattle.field_reader.proofs.parts.values.Given as goal
 
 abbrev pub invariant-loop-i : goal.invariant-loop-i
 invariant-loop-i l =
-    (l.i ≤ 11) × (length l.v ≡ 11) × (l.at ≤ l.before + l.i * 64) × (l.at ≡ l.before + sum_of (take l.i l.widths)) × (take l.i l.v ≡ values_of l.b l.before (take l.i l.widths)) × ((k : ℕ) → l.i ≤ k → get_or l.v k 0 ≡ 0)
+    (length l.v ≡ 11) × (l.at ≤ l.before + l.i * 64) × (l.at ≡ l.before + sum_of (take l.i l.widths)) × (take l.i l.v ≡ values_of l.b l.before (take l.i l.widths)) × ((k : ℕ) → l.i ≤ k → get_or l.v k 0 ≡ 0)
 
-abbrev pub decreases-loop-i : goal.decreases-loop-i
-decreases-loop-i l = 11 - l.i
