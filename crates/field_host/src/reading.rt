@@ -23,7 +23,7 @@ fn answer(bytes: &[u8], count: usize, from_sensor: u32) -> Result<Record, FieldR
 pub extern "C" fn siamrung_field_refusal(bytes: &[u8], count: usize, from_sensor: u32) -> u32
     ensures { result ≡ answer_number (answer_of bytes.now count (way_of from_sensor)) }
 {
-    u32::from(reading::number(answer(bytes, count, from_sensor)))
+    u32::from(fields::number(answer(bytes, count, from_sensor)))
 }
 
 fn outer(r: Record) -> u32
