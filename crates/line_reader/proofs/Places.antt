@@ -1,7 +1,7 @@
 -- The run that four searches find, and that the answer which the readers make of its places is the definition's. Assumes nothing.
 use Rattle.std.specs.Prelude.{Result}
-use Prim.Native.Nat.{ℕ, suc, ◌+◌, ◌-◌, ◌≤◌, ◌<◌, min}
-use mathlib.Core.Path.{◌≡◌, refl, ap, sym, ◌∙◌}
+use Prim.Native.Nat.{ℕ, suc, ◌+◌, ◌-◌, ◌%◌, ◌≤◌, ◌<◌, min}
+use mathlib.Core.Path.{◌≡◌, refl, ap, sym, ◌∙◌, subst}
 use mathlib.Core.Bool.{Bool, true, not, cond}
 use mathlib.Core.List.{List, [], ◌∷◌}
 use native.Mathlib.Omega.{arith}
@@ -21,33 +21,30 @@ use Rattle.reports.specs.Claims.{first_seven}
 use Rattle.reports.proofs.Refusals.{judged_is_read}
 use Rattle.reports.proofs.Tests.{by_cond}
 use Rattle.lines.specs.declared.Outcome.{Outcome}
-use Rattle.lines.specs.Line.{gap, stretch, run_in, end_of, placed, outcome_at, run_at}
+use Rattle.lines.specs.Line.{most, gap, stretch, run_in, end_of, placed, outcome_at, run_at, read_by, read_at}
+use Rattle.lines.specs.Bytes.{most_bytes, words_in, read_bytes}
 use Rattle.lines.proofs.Runs.{gap_all}
+use Rattle.lines.proofs.Walked.{stretch_front}
 use Rattle.line_reader.specs.declared.run.Places.{Places}
-use Rattle.line_reader.specs.declared.run.Stop.TheVariants.{NotIdle, Fault, Idle, TooWide}
-use Rattle.line_reader.specs.Places.{stops_at, RunPlaces, run_words, answer_at, answered}
+use Rattle.line_reader.specs.Places.{not_idle, faulty, is_idle, Ended, RunPlaces, run_words, answer_at, answered, found_in, wide_refused, bytes_refused}
 use Rattle.line_reader.proofs.Searches.{to_end, next_through}
 use Rattle.reports.specs.declared.Report.{Report}
 use Rattle.reports.specs.declared.RunRefusal.{RunRefusal}
 
 -- ---- what the searches stop at, and the run
 
--- a word with a fault
-abbrev faulty : ℕ → Bool
-faulty = stops_at Fault
-
-idle_faulty : (w : ℕ) → stops_at Idle w ≡ true → faulty w ≡ true
+idle_faulty : (w : ℕ) → is_idle w ≡ true → faulty w ≡ true
 idle_faulty w e = ap faulty (eqb-true w idle e) ∙ idle_is_even
 
-too_wide_faulty : (w : ℕ) → stops_at TooWide w ≡ true → faulty w ≡ true
+too_wide_faulty : (w : ℕ) → wider_than_a_word w ≡ true → faulty w ≡ true
 too_wide_faulty w e = picked _ _ e
 
-gap_found : (ws : List ℕ) → first (stops_at NotIdle) ws ≡ gap ws
+gap_found : (ws : List ℕ) → first not_idle ws ≡ gap ws
 unfolding first gap
 gap_found [] = refl
 gap_found (w ∷ ws) = by_test (eqb w idle) (λ e. rw e (ap suc (gap_found ws))) (λ e. rw e)
 
-idle_found : (ws : List ℕ) → first (stops_at Idle) ws ≡ length (stretch ws)
+idle_found : (ws : List ℕ) → first is_idle ws ≡ length (stretch ws)
 unfolding first stretch
 idle_found [] = refl
 idle_found (w ∷ ws) = by_test (eqb w idle) (λ e. rw e) (λ e. rw e (ap suc (idle_found ws)))
@@ -59,11 +56,6 @@ fault_found fault [] = refl
 fault_found fault (w ∷ ws) =
     let k = fault_found fault ws in
     by_test (eqb w idle) (λ e. rw e (omega arith)) (λ e. rw e (by_test (fault w) (λ f. rw f (omega arith)) (λ f. rw f (omega arith))))
-
-taken : (ws : List ℕ) → take (length (stretch ws)) ws ≡ stretch ws
-unfolding stretch
-taken [] = refl
-taken (w ∷ ws) = by_test (eqb w idle) (λ e. rw e) (λ e. rw e (ap (λ (l : List ℕ). w ∷ l) (taken ws)))
 
 -- ---- the answer to a run
 
@@ -110,6 +102,20 @@ answer_is form n place (w ∷ ws) h =
 
 -- ---- the places of the run
 
+-- four searches in a row, up to the line's end, find them
+pub run_found : {line : List ℕ} {n place : ℕ} {run : Places} → n ≡ length line
+    → Ended line place n not_idle run.first
+    → Ended line run.first n faulty run.fault
+    → Ended line run.fault n is_idle run.after
+    → Ended line run.fault run.after wider_than_a_word run.too_wide
+    → RunPlaces line place run
+run_found {line} {n} {place} {run} e h k m o = record {
+  first = subst (λ (j : ℕ). Ended line place j not_idle run.first) e h;
+  fault = subst (λ (j : ℕ). Ended line run.first j faulty run.fault) e k;
+  after = subst (λ (j : ℕ). Ended line run.fault j is_idle run.after) e m;
+  too_wide = o;
+}
+
 module _ {line : List ℕ} {place : ℕ} {run : Places} (r : RunPlaces line place run) where
   first_at : run.first ≡ place + gap (drop place line)
   first_at = to_end r.first ∙ ap (λ (n : ℕ). place + n) (gap_found (drop place line))
@@ -120,7 +126,7 @@ module _ {line : List ℕ} {place : ℕ} {run : Places} (r : RunPlaces line plac
   after_at : run.after ≡ run.first + length (stretch (drop run.first line))
   after_at =
       to_end r.after
-      ∙ next_through line run.first run.fault Fault Idle idle_faulty (to_end r.fault)
+      ∙ next_through line run.first run.fault faulty is_idle idle_faulty (to_end r.fault)
       ∙ ap (λ (n : ℕ). run.first + n) (idle_found (drop run.first line))
 
   count_is : run.after - run.first ≡ length (run_in (drop place line))
@@ -139,14 +145,14 @@ module _ {line : List ℕ} {place : ℕ} {run : Places} (r : RunPlaces line plac
   too_wide_at =
       let a = after_at in
       let v = r.too_wide.there in
-      let t = next_through line run.first run.fault Fault TooWide too_wide_faulty (to_end r.fault) in
+      let t = next_through line run.first run.fault faulty wider_than_a_word too_wide_faulty (to_end r.fault) in
       let k = fault_found wider_than_a_word (drop run.first line) in
       let n : run.too_wide - run.first ≡ first wider_than_a_word (stretch (drop run.first line)) = omega arith in
       n ∙ ap (first wider_than_a_word) run_there
 
   words_are : run_words line run ≡ run_in (drop place line)
   words_are =
-      ap (λ (n : ℕ). take n (drop run.first line)) (count_is ∙ ap length (sym run_there)) ∙ taken (drop run.first line) ∙ run_there
+      ap (λ (n : ℕ). take n (drop run.first line)) (count_is ∙ ap length (sym run_there)) ∙ stretch_front (drop run.first line) ∙ run_there
 
   no_words : run_in (drop place line) ≡ [] → place + gap (drop place line) ≡ length line
   no_words e =
@@ -183,3 +189,14 @@ pub word_past : (line : List ℕ) (run : Places) (k : ℕ) → run.after - run.f
 word_past line run k h =
     let n = length-take (run.after - run.first) (drop run.first line) in
     sym (get_or-eq_default (run_words line run) 0 {n = k} (omega arith))
+
+-- ---- what is found in each form of a line is what the definition of that form has
+
+pub wide_found : (form : AltitudeForm) (line : List ℕ) (place : ℕ) → found_in form (wide_refused line) line place ≡ read_at form line place
+unfolding read_by
+wide_found form line place = by_test (ltb most (length line)) (λ e. rw e refl) (λ e. rw e refl)
+
+pub bytes_found : (form : AltitudeForm) (bytes : List ℕ) (place : ℕ) → found_in form (bytes_refused bytes) (words_in bytes) place ≡ read_bytes form bytes place
+unfolding read_bytes
+bytes_found form bytes place =
+    by_test (ltb most_bytes (length bytes)) (λ e. rw e refl) (λ e. rw e (by_test (eqb (length bytes % 2) 1) (λ f. rw f refl) (λ f. rw f refl)))

@@ -9,40 +9,39 @@ use lib.ListN.{length, get_or, drop, length-drop}
 use lib.Seq.{drop-cons, drop-drop}
 use Rattle.words.specs.Word.{first}
 use Rattle.words.proofs.Tests.{picked, passed, by_test}
-use Rattle.line_reader.specs.declared.run.Stop.{Stop}
-use Rattle.line_reader.specs.Places.{stops_at, next_at, Ended}
+use Rattle.line_reader.specs.Places.{next_at, Ended}
 
 -- ---- word by word
 
 -- up to a place the search did not stop
-pub record Going (line : List ℕ) (from to : ℕ) (stop : Stop) (i : ℕ) : Type 0 where
+pub record Going (line : List ℕ) (from to : ℕ) (stop : ℕ → Bool) (i : ℕ) : Type 0 where
   pub onward : from ≤ i
   pub within : i ≤ to
   pub same : next_at line from stop ≡ next_at line i stop
 
-module _ {line : List ℕ} {from to : ℕ} {stop : Stop} {i w : ℕ} {b : Bool} (g : Going line from to stop i) where
+module _ {line : List ℕ} {from to : ℕ} {stop : ℕ → Bool} {i w : ℕ} {b : Bool} (g : Going line from to stop i) where
   -- the word at i was fetched, and it was asked whether the search stops there
-  told : {t : Bool} → w ≡ get_or line i 0 → b ≡ stops_at stop w → b ≡ t → stops_at stop (get_or line i 0) ≡ t
-  told a e f = ap (stops_at stop) (sym a) ∙ sym e ∙ f
+  told : {t : Bool} → w ≡ get_or line i 0 → b ≡ stop w → b ≡ t → stop (get_or line i 0) ≡ t
+  told a e f = ap stop (sym a) ∙ sym e ∙ f
 
-  pub goes_on : i < to → i < length line → w ≡ get_or line i 0 → b ≡ stops_at stop w → b ≡ false → Going line from to stop (i + 1)
+  pub goes_on : i < to → i < length line → w ≡ get_or line i 0 → b ≡ stop w → b ≡ false → Going line from to stop (i + 1)
   unfolding first
   goes_on m h a e f =
-      let k : first (stops_at stop) (drop i line) ≡ suc (first (stops_at stop) (drop (suc i) line)) =
-      ap (first (stops_at stop)) (drop-cons line i 0 h) ∙ passed _ _ (told a e f) in
+      let k : first stop (drop i line) ≡ suc (first stop (drop (suc i) line)) =
+      ap (first stop) (drop-cons line i 0 h) ∙ passed _ _ (told a e f) in
       let s : i + 1 ≡ suc i = omega arith in
       let o = g.onward in
       record { onward = omega arith; within = omega arith; same = g.same ∙ rw (s, k) (omega arith) }
 
-  pub stops_there : i < length line → w ≡ get_or line i 0 → b ≡ stops_at stop w → b ≡ true → Ended line from to stop i
+  pub stops_there : i < length line → w ≡ get_or line i 0 → b ≡ stop w → b ≡ true → Ended line from to stop i
   unfolding first
   stops_there h a e f =
-      let k : first (stops_at stop) (drop i line) ≡ 0 = ap (first (stops_at stop)) (drop-cons line i 0 h) ∙ picked _ _ (told a e f) in
+      let k : first stop (drop i line) ≡ 0 = ap (first stop) (drop-cons line i 0 h) ∙ picked _ _ (told a e f) in
       let s = g.same in
       let m = g.within in
       record { onward = g.onward; within = m; there = omega arith }
 
-pub stops_at_end : {line : List ℕ} {from to : ℕ} {stop : Stop} {i : ℕ} → Going line from to stop i → to ≤ i → Ended line from to stop i
+pub stops_at_end : {line : List ℕ} {from to : ℕ} {stop : ℕ → Bool} {i : ℕ} → Going line from to stop i → to ≤ i → Ended line from to stop i
 stops_at_end g h = let s = g.same in let m = g.within in record { onward = g.onward; within = m; there = omega arith }
 
 -- ---- a search up to the line's end
@@ -52,12 +51,12 @@ unfolding first
 first_short p [] = omega arith
 first_short p (w ∷ ws) = let h = first_short p ws in by_test (p w) (λ e. rw e (omega arith)) (λ e. rw e (omega arith))
 
-pub to_end : {line : List ℕ} {from : ℕ} {stop : Stop} {place : ℕ} → Ended line from (length line) stop place → place ≡ next_at line from stop
+pub to_end : {line : List ℕ} {from : ℕ} {stop : ℕ → Bool} {place : ℕ} → Ended line from (length line) stop place → place ≡ next_at line from stop
 to_end {line} {from} {stop} {place} e =
     let t = e.there in
     let o = e.onward in
     let m = e.within in
-    let s = first_short (stops_at stop) (drop from line) in
+    let s = first_short stop (drop from line) in
     let d = length-drop from line in
     omega arith
 
@@ -71,11 +70,11 @@ through p q h (w ∷ ws) =
     (λ e. let f : p w ≡ false = by_test (p w) (λ t. t ∙ sym (h w t) ∙ e) (λ t. t) in rw (e, f) (let k = through p q h ws in omega arith))
 
 -- from the start on a search ends where it ends from the place on where another one stopped, if that one stops at all its words
-pub next_through : (line : List ℕ) (from at : ℕ) (one other : Stop) → ((w : ℕ) → stops_at other w ≡ true → stops_at one w ≡ true)
+pub next_through : (line : List ℕ) (from at : ℕ) (one other : ℕ → Bool) → ((w : ℕ) → other w ≡ true → one w ≡ true)
     → at ≡ next_at line from one → next_at line at other ≡ next_at line from other
 next_through line from at one other h a =
-    let p = stops_at other in
-    let q = stops_at one in
+    let p = other in
+    let q = one in
     let rest = drop from line in
     let e : drop (first q rest) rest ≡ drop at line = drop-drop (first q rest) from line ∙ ap (λ (n : ℕ). drop n line) (sym a) in
     let k : first p rest ≡ first q rest + first p (drop at line) = through p q h rest ∙ ap (λ (l : List ℕ). first q rest + first p l) e in

@@ -1,172 +1,169 @@
 -- The answer from what a report was made into is the answer by the writer's rows; where it is a place, there is room. Assumes nothing.
-use Rattle.std.specs.Prelude.{Err, Ok, Result}
-use Prim.Native.Nat.{ℕ, ◌+◌, ◌-◌, ◌/◌, ◌%◌, ◌≤◌, ◌<◌}
+use Rattle.std.specs.Prelude.{Err, Ok, Result, Option, Some, None}
+use Prim.Native.Nat.{ℕ, ◌+◌, ◌-◌, ◌/◌, ◌%◌, ◌<◌}
 use mathlib.Core.Path.{◌≡◌, refl, ap, sym, ◌∙◌}
 use mathlib.Core.Bool.{Bool, true, false, not, cond}
-use mathlib.Core.Logic.{⊎_elim}
 use mathlib.Core.List.{List, [], ◌∷◌}
 use native.Mathlib.Omega.{arith}
 use lib.Dec.{eqb, ltb}
 use lib.ListN.{length}
-use borrow.Author.Tests.{ltb-false, eq-eqb, ne_eqb}
+use borrow.Author.Tests.{ltb-false}
 use Rattle.rows.specs.Rows.{first_of}
 use Rattle.refusals.specs.declared.LineRefusal.{LineRefusal}
-use Rattle.refusals.specs.declared.LineRefusal.TheVariants.{LineTooLong, OddByteCount, PlaceBeyondLine, ValueTooLarge}
+use Rattle.refusals.specs.declared.LineRefusal.TheVariants.{PlaceBeyondLine, ValueTooLarge}
+use Rattle.words.specs.Word.{idle}
 use Rattle.words.proofs.Tests.{picked, passed, by_test}
 use Rattle.reports.specs.declared.Report.{Report}
-use Rattle.reports.specs.Altitude.{AltitudeForm}
-use Rattle.reports.specs.Layouts.{words_of, takes, as_written, written}
-use Rattle.reports.proofs.Demand2.{words_length}
-use Rattle.lines.specs.Line.{most}
-use Rattle.lines.specs.Bytes.{most_bytes, words_in}
-use Rattle.lines.specs.Writing.{place_rows, wrote_after, write_at, Writes}
-use Rattle.lines.specs.ByteWriting.{write_bytes, WritesBytes}
-use Rattle.lines.proofs.ByteWords as bytes
-use Rattle.line_writer.specs.Deciding.{room, room_for, decided, wide_answer, byte_answer, Puts, PutsBytes}
 use Rattle.reports.specs.declared.Words.{Words}
-use Rattle.lines.specs.declared.NotWritten.{NotWritten}
-use Rattle.lines.specs.Writing.{not_written}
 use Rattle.reports.specs.declared.Words.TheVariants.{Four, Seven}
+use Rattle.reports.specs.Altitude.{AltitudeForm}
+use Rattle.reports.specs.Layouts.{words_of, takes, words_in, as_written, written}
+use Rattle.lines.specs.declared.NotWritten.{NotWritten}
+use Rattle.lines.specs.Line.{most}
+use Rattle.lines.specs.Bytes as lent
+use Rattle.lines.specs.Bytes.{most_bytes}
+use Rattle.lines.specs.Claims.{put}
+use Rattle.lines.specs.Writing.{not_written, place_rows, wrote_after, write_at, left_as, Writes}
+use Rattle.lines.specs.ByteWriting.{write_bytes, bytes_left, WritesBytes}
+use Rattle.lines.proofs.ByteWords as bytes
+use Rattle.lines.proofs.Puts.{put_put}
+use Rattle.line_writer.specs.Deciding.{room, room_for, decided, lent_answer, wide_refused, bytes_refused, handed, left_by, put_bytes}
+use Rattle.line_writer.proofs.Leaves.{bytes_put}
 
 -- ---- a report's words
 
--- the words of what the report layer hands out
-abbrev pub handed : Result Words LineRefusal → List ℕ
-handed (Ok (Four ws)) = ws
-handed (Ok (Seven ws)) = ws
-handed (Err q) = []
+in_either : (b : Bool) (ws : List ℕ) → words_in (cond b (Four ws) (Seven ws)) ≡ ws
+in_either true ws = refl
+in_either false ws = refl
 
-four_handed : (ws : List ℕ) → length ws ≡ 4 → handed (as_written ws) ≡ ws
-four_handed [] n = absurd (omega arith)
-four_handed (a ∷ []) n = absurd (omega arith)
-four_handed (a ∷ b ∷ []) n = absurd (omega arith)
-four_handed (a ∷ b ∷ c ∷ []) n = absurd (omega arith)
-four_handed (a ∷ b ∷ c ∷ d ∷ []) n = refl
-four_handed (a ∷ b ∷ c ∷ d ∷ e ∷ ws) n = absurd (omega arith)
-
-seven_handed : (ws : List ℕ) → length ws ≡ 7 → handed (as_written ws) ≡ ws
-seven_handed [] n = absurd (omega arith)
-seven_handed (a ∷ []) n = absurd (omega arith)
-seven_handed (a ∷ b ∷ []) n = absurd (omega arith)
-seven_handed (a ∷ b ∷ c ∷ []) n = absurd (omega arith)
-seven_handed (a ∷ b ∷ c ∷ d ∷ []) n = absurd (omega arith)
-seven_handed (a ∷ b ∷ c ∷ d ∷ e ∷ []) n = absurd (omega arith)
-seven_handed (a ∷ b ∷ c ∷ d ∷ e ∷ f ∷ []) n = absurd (omega arith)
-seven_handed (a ∷ b ∷ c ∷ d ∷ e ∷ f ∷ g ∷ []) n = refl
-seven_handed (a ∷ b ∷ c ∷ d ∷ e ∷ f ∷ g ∷ h ∷ ws) n = absurd (omega arith)
-
-as_handed : (form : AltitudeForm) (r : Report) → handed (as_written (words_of form r)) ≡ words_of form r
-as_handed form r = ⊎_elim (four_handed (words_of form r)) (seven_handed (words_of form r)) (words_length form r)
-
--- what was handed out are the report's words
-handed_words : (form : AltitudeForm) (r : Report) (m : Result Words LineRefusal) → written form r ≡ m → 0 < length (handed m) → words_of form r ≡ handed m
-handed_words form r m e h =
-    by_test (takes form r)
-    (λ t. sym (as_handed form r) ∙ ap handed (sym (picked (as_written (words_of form r)) (Err ValueTooLarge) t) ∙ e))
-    (λ t. let z = ap (λ (x : Result Words LineRefusal). length (handed x)) (sym e ∙ passed (as_written (words_of form r)) (Err ValueTooLarge) t) in absurd (omega arith))
+as_handed : (form : AltitudeForm) (r : Report) → takes form r ≡ true → handed (written form r) ≡ words_of form r
+as_handed form r t = ap handed (picked (as_written (words_of form r)) (Err ValueTooLarge) t) ∙ in_either (eqb (length (words_of form r)) 4) (words_of form r)
 
 -- ---- the answer by rows
 
 decided_rows : (form : AltitudeForm) (n place : ℕ) (r : Report) → decided n place (written form r) ≡ first_of (place_rows form n place r) (wrote_after form place r)
 unfolding decided
-decided_rows form n place r = ap (cond (ltb n place) (not_written PlaceBeyondLine place)) (go (takes form r) refl)
+decided_rows form n place r = ap (cond (ltb n place) (not_written PlaceBeyondLine place)) (by_test (takes form r) taken refused)
   where
     ws : List ℕ
     ws = words_of form r
 
-    has : (m : Result Words LineRefusal) → as_written ws ≡ m → room_for n place (as_written ws) ≡ room n place (length ws)
-    has m e =
-        ⊎_elim (λ k. ap (room_for n place) (picked _ _ (eq-eqb (length ws) 4 k)) ∙ ap (room n place) (sym k))
-        (λ k. ap (room_for n place) (passed _ _ (ne_eqb (length ws) 4 (λ z. omega arith))) ∙ ap (room n place) (sym k))
-        (words_length form r)
+    Same : Type 0
+    Same = room_for n place (written form r) ≡ cond (not (takes form r)) (not_written ValueTooLarge place) (room n place (length ws))
 
-    go : (b : Bool) → takes form r ≡ b → room_for n place (written form r) ≡ cond (not (takes form r)) (not_written ValueTooLarge place) (room n place (length ws))
-    go true t = ap (room_for n place) (picked (as_written ws) (Err ValueTooLarge) t) ∙ has _ refl ∙ sym (passed _ _ (ap not t))
-    go false t = ap (room_for n place) (passed (as_written ws) (Err ValueTooLarge) t) ∙ sym (picked _ _ (ap not t))
+    taken : takes form r ≡ true → Same
+    taken t =
+        ap (room_for n place) (picked (as_written ws) (Err ValueTooLarge) t)
+        ∙ ap (λ (l : List ℕ). room n place (length l)) (in_either (eqb (length ws) 4) ws)
+        ∙ sym (passed _ _ (ap not t))
 
-pub wide_rows : (form : AltitudeForm) (line : List ℕ) (place : ℕ) (r : Report) → wide_answer (length line) place (written form r) ≡ write_at form line place r
-unfolding write_at wide_answer
-wide_rows form line place r = ap (cond (ltb most (length line)) (not_written LineTooLong place)) (decided_rows form (length line) place r)
+    refused : takes form r ≡ false → Same
+    refused t = ap (room_for n place) (passed (as_written ws) (Err ValueTooLarge) t) ∙ sym (picked _ _ (ap not t))
 
-pub byte_rows : (form : AltitudeForm) (bytes : List ℕ) (place : ℕ) (r : Report) → byte_answer (length bytes) place (written form r) ≡ write_bytes form bytes place r
-unfolding write_bytes byte_answer
+pub wide_rows : (form : AltitudeForm) (line : List ℕ) (place : ℕ) (r : Report)
+    → lent_answer (wide_refused (length line)) (length line) place (written form r) ≡ write_at form line place r
+unfolding write_at
+wide_rows form line place r = by_test (ltb most (length line)) (λ e. rw e refl) (λ e. rw e (decided_rows form (length line) place r))
+
+pub byte_rows : (form : AltitudeForm) (bytes : List ℕ) (place : ℕ) (r : Report)
+    → lent_answer (bytes_refused (length bytes)) (length bytes / 2) place (written form r) ≡ write_bytes form bytes place r
+unfolding write_bytes
 byte_rows form bs place r =
-    ap (λ (w : Result ℕ NotWritten). cond (ltb most_bytes (length bs)) (not_written LineTooLong place) (cond (eqb (length bs % 2) 1) (not_written OddByteCount place) w))
-    (ap (λ (n : ℕ). decided n place (written form r)) (sym (bytes.words_length bs)) ∙ decided_rows form (length (words_in bs)) place r)
+    by_test (ltb most_bytes (length bs)) (λ e. rw e refl)
+    (λ e. rw e
+    (by_test (eqb (length bs % 2) 1) (λ f. rw f refl)
+    (λ f. rw f (ap (λ (n : ℕ). decided n place (written form r)) (sym (bytes.words_length bs)) ∙ decided_rows form (length (lent.words_in bs)) place r))))
 
 -- ---- where the answer is a place
 
 clash : {X : Type 0} (q : LineRefusal) (p x : ℕ) → not_written q p ≡ Ok x → X
 clash q p x e = let z : ◌≡◌ {A = ℕ} 0 1 = cc in absurd (omega arith)
 
--- one row did not hold
-past : (b : Bool) (q : LineRefusal) (p x : ℕ) (w : Result ℕ NotWritten) → cond b (not_written q p) w ≡ Ok x → w ≡ Ok x
-past true q p x w e = clash q p x e
-past false q p x w e = e
+-- there is room for the words, and the place is the one behind them and the idle word
+pub record Room (n place next : ℕ) (ws : List ℕ) : Type 0 where
+  pub fits : place + length ws < n
+  pub there : next ≡ place + length ws + 1
 
-pub wide_past : (size place : ℕ) (m : Result Words LineRefusal) (x : ℕ) → wide_answer size place m ≡ Ok x → decided size place m ≡ Ok x
-unfolding wide_answer
-wide_past size place m x e = past (ltb most size) LineTooLong place x _ e
-
-pub byte_past : (size place : ℕ) (m : Result Words LineRefusal) (x : ℕ) → byte_answer size place m ≡ Ok x → decided (size / 2) place m ≡ Ok x
-unfolding byte_answer
-byte_past size place m x e = past (eqb (size % 2) 1) OddByteCount place x _ (past (ltb most_bytes size) LineTooLong place x _ e)
-
-room_next : (size place n x : ℕ) → place ≤ size → room size place n ≡ Ok x → (place + n < size) × (x ≡ place + n + 1)
-room_next size place n x h e =
-    by_test (ltb (size - place) (n + 1)) (λ t. clash _ _ _ (sym (picked _ _ t) ∙ e))
-    (λ t.
-    let l = ltb-false (size - place) (n + 1) t in
-    let f = sym (passed _ _ t) ∙ e in
-    (omega arith, cc))
-
--- there is room for the words, and the place is the one behind them
-pub has_room : (size place : ℕ) (m : Result Words LineRefusal) (x : ℕ) → decided size place m ≡ Ok x
-    → (place ≤ size) × (place + length (handed m) < size) × (0 < length (handed m)) × (x ≡ place + length (handed m) + 1)
+decided_room : (n place : ℕ) (ws : Words) (x : ℕ) → decided n place (Ok ws) ≡ Ok x → Room n place x (words_in ws)
 unfolding decided
-has_room size place m x e =
-    by_test (ltb size place) (λ t. clash _ _ _ (sym (picked _ _ t) ∙ e)) (λ t. go m (ltb-false size place t) (sym (passed _ _ t) ∙ e))
-  where
-    go : (m : Result Words LineRefusal) → place ≤ size → room_for size place m ≡ Ok x → (place ≤ size) × (place + length (handed m) < size) × (0 < length (handed m)) × (x ≡ place + length (handed m) + 1)
-    go (Ok (Four ws)) h f = let k = room_next size place 4 x h f in (h, k.0, omega arith, k.1)
-    go (Ok (Seven ws)) h f = let k = room_next size place 7 x h f in (h, k.0, omega arith, k.1)
-    go (Err q) h f = clash q place x f
+decided_room n place ws x e =
+    let k = length (words_in ws) in
+    by_test (ltb n place) (λ t. clash _ _ _ (sym (picked _ _ t) ∙ e))
+    (λ t. by_test (ltb (n - place) (k + 1)) (λ u. clash _ _ _ (sym (passed _ _ t ∙ picked _ _ u) ∙ e))
+    (λ u.
+    let h = ltb-false n place t in
+    let l = ltb-false (n - place) (k + 1) u in
+    let f = sym (passed _ _ t ∙ passed _ _ u) ∙ e in
+    record { fits = omega arith; there = cc }))
+
+pub lent_room : (why : Option LineRefusal) (n place : ℕ) (ws : Words) (x : ℕ) → lent_answer why n place (Ok ws) ≡ Ok x → Room n place x (words_in ws)
+lent_room (Some q) n place ws x e = clash q place x e
+lent_room None n place ws x e = decided_room n place ws x e
 
 -- a refusal has no words, and no place is answered to it
-pub no_words : {X : Type 0} (size place : ℕ) (q : LineRefusal) (x : ℕ) → wide_answer size place (Err q) ≡ Ok x → X
-no_words size place q x e = let h = (has_room size place (Err q) x (wide_past size place (Err q) x e)).2 in absurd (omega arith)
+no_place : {X : Type 0} (n place : ℕ) (q : LineRefusal) (x : ℕ) → decided n place (Err q) ≡ Ok x → X
+unfolding decided
+no_place n place q x e = by_test (ltb n place) (λ t. clash _ _ _ (sym (picked _ _ t) ∙ e)) (λ t. clash _ _ _ (sym (passed _ _ t) ∙ e))
 
-pub no_words_bytes : {X : Type 0} (size place : ℕ) (q : LineRefusal) (x : ℕ) → byte_answer size place (Err q) ≡ Ok x → X
-no_words_bytes size place q x e = let h = (has_room (size / 2) place (Err q) x (byte_past size place (Err q) x e)).2 in absurd (omega arith)
+pub no_words : {X : Type 0} (why : Option LineRefusal) (n place : ℕ) (q : LineRefusal) (x : ℕ) → lent_answer why n place (Err q) ≡ Ok x → X
+no_words (Some p) n place q x e = clash p place x e
+no_words None n place q x e = no_place n place q x e
+
+-- so a report was taken, and its words have room
+pub taken_room : (why : Option LineRefusal) (n place : ℕ) (form : AltitudeForm) (r : Report) (x : ℕ) → lent_answer why n place (written form r) ≡ Ok x
+    → (takes form r ≡ true) × Room n place x (handed (written form r))
+taken_room why n place form r x e = go (takes form r) refl
+  where
+    go : (b : Bool) → takes form r ≡ b → (takes form r ≡ true) × Room n place x (handed (written form r))
+    go true t =
+        let w = picked (as_written (words_of form r)) (Err ValueTooLarge) t in
+        (t, rw w (lent_room why n place _ x (sym (ap (lent_answer why n place) w) ∙ e)))
+    go false t = no_words why n place ValueTooLarge x (sym (ap (lent_answer why n place) (passed (as_written (words_of form r)) (Err ValueTooLarge) t)) ∙ e)
 
 -- ---- a call
 
--- a refused call leaves the line, and the bytes
-pub refused_writes : (form : AltitudeForm) (line : List ℕ) (place : ℕ) (r : Report) (q : LineRefusal) (p : ℕ)
-    → write_at form line place r ≡ not_written q p → Writes form line place r (not_written q p) line
-refused_writes form line place r q p e = record { answers = sym e; leaves = rw e }
+-- what is left where two leaves have put words and an idle word
+pub left_law : {U : Type 0} (into : List U → ℕ → List ℕ → List U) (line mid exit : List U) (place next : ℕ) (ws vs : List ℕ)
+    → ws ≡ vs → next ≡ place + length ws + 1 → mid ≡ into line place ws → exit ≡ into mid (next - 1) (idle ∷ [])
+    → exit ≡ into (into line place vs) (place + length vs) (idle ∷ [])
+left_law into line mid exit place next ws vs e n m x =
+    let k : next - 1 ≡ place + length ws = omega arith in
+    x ∙ (λ i. into (m i) (k i) (idle ∷ [])) ∙ ap (λ (l : List ℕ). into (into line place l) (place + length l) (idle ∷ [])) e
 
-pub refused_bytes : (form : AltitudeForm) (bytes : List ℕ) (place : ℕ) (r : Report) (q : LineRefusal) (p : ℕ)
-    → write_bytes form bytes place r ≡ not_written q p → WritesBytes form bytes place r (not_written q p) bytes
-refused_bytes form bs place r q p e = record { answers = sym e; leaves = rw e }
+pub wide_writes : (form : AltitudeForm) (line exit : List ℕ) (place : ℕ) (r : Report) (w : Result ℕ NotWritten)
+    → w ≡ lent_answer (wide_refused (length line)) (length line) place (written form r)
+    → exit ≡ left_by put w line place (handed (written form r)) → Writes form line place r w exit
+wide_writes form line exit place r w a l =
+    let b = a ∙ wide_rows form line place r in
+    record { answers = b; leaves = go w a l ∙ ap (λ (v : Result ℕ NotWritten). left_as v line place (words_of form r)) b }
+  where
+    go : (v : Result ℕ NotWritten) → v ≡ lent_answer (wide_refused (length line)) (length line) place (written form r)
+        → exit ≡ left_by put v line place (handed (written form r)) → exit ≡ left_as v line place (words_of form r)
+    go (Err q) e f = f
+    go (Ok x) e f =
+        let k = taken_room _ _ _ form r x (sym e) in
+        let room = k.1.fits in
+        let ws = handed (written form r) in
+        f
+        ∙ put_put line place ws (idle ∷ []) (omega arith)
+        ∙ ap (λ (n : ℕ). left_as (Ok n) line place ws) (sym k.1.there)
+        ∙ ap (left_as (Ok x) line place) (as_handed form r k.0)
 
--- the words of a report were put
-pub words_writes : (form : AltitudeForm) (line : List ℕ) (place : ℕ) (r : Report) (m : Result Words LineRefusal) (x : ℕ) (w : Result ℕ NotWritten) (exit : List ℕ)
-    → written form r ≡ m → wide_answer (length line) place m ≡ Ok x → Puts line place (handed m) w exit → Writes form line place r w exit
-words_writes form line place r m x w exit e a p =
-    let h = has_room (length line) place m x (wide_past (length line) place m x a) in
-    let y = h.3 in
-    let same : words_of form r ≡ handed m = handed_words form r m e h.2 in
-    let answer : write_at form line place r ≡ Ok (place + length (handed m) + 1) =
-    sym (wide_rows form line place r) ∙ ap (wide_answer (length line) place) e ∙ a ∙ ap Ok y in
-    record { answers = p.answers ∙ sym answer; leaves = rw (answer, same) p.leaves }
-
-pub words_bytes : (form : AltitudeForm) (bytes : List ℕ) (place : ℕ) (r : Report) (m : Result Words LineRefusal) (x : ℕ) (w : Result ℕ NotWritten) (exit : List ℕ)
-    → written form r ≡ m → byte_answer (length bytes) place m ≡ Ok x → PutsBytes bytes place (handed m) w exit → WritesBytes form bytes place r w exit
-words_bytes form bs place r m x w exit e a p =
-    let h = has_room (length bs / 2) place m x (byte_past (length bs) place m x a) in
-    let y = h.3 in
-    let same : words_of form r ≡ handed m = handed_words form r m e h.2 in
-    let answer : write_bytes form bs place r ≡ Ok (place + length (handed m) + 1) =
-    sym (byte_rows form bs place r) ∙ ap (byte_answer (length bs) place) e ∙ a ∙ ap Ok y in
-    record { answers = p.answers ∙ sym answer; leaves = rw (answer, same) p.leaves }
+pub byte_writes : (form : AltitudeForm) (bytes exit : List ℕ) (place : ℕ) (r : Report) (w : Result ℕ NotWritten)
+    → w ≡ lent_answer (bytes_refused (length bytes)) (length bytes / 2) place (written form r)
+    → exit ≡ left_by put_bytes w bytes place (handed (written form r)) → WritesBytes form bytes place r w exit
+byte_writes form bs exit place r w a l =
+    let b = a ∙ byte_rows form bs place r in
+    record { answers = b; leaves = go w a l ∙ ap (λ (v : Result ℕ NotWritten). bytes_left v bs place (words_of form r)) b }
+  where
+    go : (v : Result ℕ NotWritten) → v ≡ lent_answer (bytes_refused (length bs)) (length bs / 2) place (written form r)
+        → exit ≡ left_by put_bytes v bs place (handed (written form r)) → exit ≡ bytes_left v bs place (words_of form r)
+    go (Err q) e f = f
+    go (Ok x) e f =
+        let k = taken_room _ _ _ form r x (sym e) in
+        let room = k.1.fits in
+        let ws = handed (written form r) in
+        f
+        ∙ bytes_put bs place ws (omega arith)
+        ∙ ap (λ (n : ℕ). bytes_left (Ok n) bs place ws) (sym k.1.there)
+        ∙ ap (bytes_left (Ok x) bs place) (as_handed form r k.0)

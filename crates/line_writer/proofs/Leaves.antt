@@ -1,4 +1,4 @@
--- The writers' leaves, one word after the other, in a line of words and in a line of bytes; and the two leaves of a call. Assumes nothing.
+-- Words put into a line of bytes: one word after the other, and the two leaves of a call. Assumes nothing.
 use Rattle.std.specs.Prelude.{Ok}
 use Prim.Native.Nat.{ℕ, suc, ◌+◌, ◌*◌, ◌-◌, ◌/◌, ◌%◌, ◌≤◌, ◌<◌}
 use mathlib.Core.Path.{◌≡◌, refl, ap, sym, ◌∙◌}
@@ -10,20 +10,10 @@ use lib.Seq.{take_all, drop-cons, take-suc, set_at, append_snoc, length-take-le}
 use Rattle.words.specs.Word.{idle}
 use Rattle.lines.specs.Bytes.{bytes_of}
 use Rattle.lines.specs.Claims.{put}
+use Rattle.lines.specs.ByteWriting.{bytes_left}
 use Rattle.lines.proofs.ByteWords.{bytes_length}
 use Rattle.lines.proofs.Puts.{put_put}
-use Rattle.line_writer.specs.Deciding.{Puts, PutsBytes}
-
--- ---- a leaf's loop
-
-pub fill_more : (part ws : List ℕ) (i : ℕ) → i < length part → i < length ws → set (take i ws ++ drop i part) i (get_or ws i 0) ≡ take (i + 1) ws ++ drop (i + 1) part
-fill_more part ws i h k =
-    let n : length (take i ws) ≡ i = length-take-le i ws (omega arith) in
-    rw (add-one i)
-    (ap (λ (l : List ℕ). set (take i ws ++ l) i (get_or ws i 0)) (drop-cons part i 0 h)
-    ∙ set_at (take i ws) (get_or part i 0) (drop (suc i) part) (get_or ws i 0) i n
-    ∙ sym (append_snoc (take i ws) (get_or ws i 0) (drop (suc i) part))
-    ∙ ap (λ (l : List ℕ). l ++ drop (suc i) part) (sym (take-suc ws i 0 k)))
+use Rattle.line_writer.specs.Deciding.{put_bytes}
 
 -- ---- a part that was lent and came back
 
@@ -83,31 +73,18 @@ pair_more part ws i h k =
 
 -- ---- words and an idle word behind them
 
-pub puts_words : (line : List ℕ) (place n : ℕ) (ws exit : List ℕ) → length ws ≡ n → place ≤ length line
-    → exit ≡ put (put line place ws) (place + n) (idle ∷ [])
-    → Puts line place ws (Ok (place + n + 1)) exit
-puts_words line place n ws exit e h f =
-    record {
-      answers = ap (λ (k : ℕ). Ok (place + k + 1)) (sym e);
-      leaves = f ∙ ap (λ (k : ℕ). put (put line place ws) (place + k) (idle ∷ [])) (sym e) ∙ put_put line place ws (idle ∷ []) h;
-    }
-
-pub puts_bytes : (bytes : List ℕ) (place n : ℕ) (ws exit : List ℕ) → length ws ≡ n → place * 2 ≤ length bytes
-    → exit ≡ put (put bytes (place * 2) (bytes_of ws)) ((place + n) * 2) (bytes_of (idle ∷ []))
-    → PutsBytes bytes place ws (Ok (place + n + 1)) exit
+pub bytes_put : (bytes : List ℕ) (place : ℕ) (ws : List ℕ) → place * 2 ≤ length bytes
+    → put_bytes (put_bytes bytes place ws) (place + length ws) (idle ∷ []) ≡ bytes_left (Ok (place + length ws + 1)) bytes place ws
 unfolding bytes_of
-puts_bytes bytes place n ws exit e h f =
+bytes_put bytes place ws h =
+    let front = bytes_of ws in
+    let one = bytes_of (idle ∷ []) in
     let m = bytes_length ws in
-    let at : (place + n) * 2 ≡ place * 2 + length (bytes_of ws) = omega arith in
-    let next : place * 2 + length (bytes_of ws) + 2 ≡ (place + length ws + 1) * 2 = omega arith in
-    record {
-      answers = ap (λ (k : ℕ). Ok (place + k + 1)) (sym e);
-      leaves =
-          f
-          ∙ ap (λ (k : ℕ). put (put bytes (place * 2) (bytes_of ws)) k (bytes_of (idle ∷ []))) at
-          ∙ put_put bytes (place * 2) (bytes_of ws) (bytes_of (idle ∷ [])) h
-          ∙ ap (λ (l : List ℕ). take (place * 2) bytes ++ l)
-          (sym (append_assoc (bytes_of ws) (bytes_of (idle ∷ [])) (drop (place * 2 + length (bytes_of ws) + 2) bytes))
-          ∙ ap (λ (l : List ℕ). l ++ drop (place * 2 + length (bytes_of ws) + 2) bytes) (sym (bytes_append ws (idle ∷ []))))
-          ∙ ap (λ (k : ℕ). take (place * 2) bytes ++ (bytes_of (ws ++ (idle ∷ [])) ++ drop k bytes)) next;
-    }
+    let at : (place + length ws) * 2 ≡ place * 2 + length front = omega arith in
+    let next : place * 2 + length front + 2 ≡ (place + length ws + 1) * 2 = omega arith in
+    ap (λ (k : ℕ). take k (put_bytes bytes place ws) ++ (one ++ drop 2 (drop k (put_bytes bytes place ws)))) at
+    ∙ put_put bytes (place * 2) front one h
+    ∙ ap (λ (l : List ℕ). take (place * 2) bytes ++ l)
+    (sym (append_assoc front one (drop (place * 2 + length front + 2) bytes))
+    ∙ ap (λ (l : List ℕ). l ++ drop (place * 2 + length front + 2) bytes) (sym (bytes_append ws (idle ∷ []))))
+    ∙ ap (λ (k : ℕ). take (place * 2) bytes ++ (bytes_of (ws ++ (idle ∷ [])) ++ drop k bytes)) next

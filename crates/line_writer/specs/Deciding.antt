@@ -1,17 +1,17 @@
 -- What the writers' private functions compute: the answer from numbers alone and from what a report was made into, and what is put on the
 -- line. Definitions only; no promise of a public function names them.
-use Rattle.std.specs.Prelude.{ℕ, ◌+◌, ◌-◌, ◌/◌, ◌%◌, ◌≡◌, List, [], ◌∷◌, eqb, ltb, length, Err, Ok, Result}
+use Rattle.std.specs.Prelude.{ℕ, ◌+◌, ◌*◌, ◌-◌, ◌%◌, cond, List, [], ◌∷◌, eqb, ltb, length, Err, Ok, Result, Option, Some, None}
 use Rattle.rows.specs.Rows.{row, first_of}
 use Rattle.refusals.specs.declared.LineRefusal.TheVariants.{LineTooLong, OddByteCount, PlaceBeyondLine, NoRoom}
 use Rattle.lines.specs.Line.{most}
-use Rattle.lines.specs.Bytes.{most_bytes}
-use Rattle.lines.specs.Writing.{left_as}
-use Rattle.lines.specs.ByteWriting.{bytes_left}
+use Rattle.lines.specs.Bytes.{most_bytes, bytes_of}
+use Rattle.lines.specs.Claims.{put}
+use Rattle.words.specs.Word.{idle}
+use Rattle.reports.specs.Layouts.{words_in}
 use Rattle.refusals.specs.declared.LineRefusal.{LineRefusal}
 use Rattle.reports.specs.declared.Words.{Words}
 use Rattle.lines.specs.declared.NotWritten.{NotWritten}
 use Rattle.lines.specs.Writing.{not_written}
-use Rattle.reports.specs.declared.Words.TheVariants.{Four, Seven}
 
 -- ---- the answer
 
@@ -19,32 +19,41 @@ use Rattle.reports.specs.declared.Words.TheVariants.{Four, Seven}
 abbrev pub room : ℕ → ℕ → ℕ → Result ℕ NotWritten
 room size place n = first_of (row (ltb (size - place) (n + 1)) (not_written NoRoom place) ∷ []) (Ok (place + n + 1))
 
--- for four words or for seven; a report that has none gets its own refusal
+-- for a report's words; a report that has none gets its own refusal
 abbrev pub room_for : ℕ → ℕ → Result Words LineRefusal → Result ℕ NotWritten
-room_for size place (Ok (Four ws)) = room size place 4
-room_for size place (Ok (Seven ws)) = room size place 7
+room_for size place (Ok ws) = room size place (length (words_in ws))
 room_for size place (Err q) = not_written q place
 
 -- in every form of a line, once it is taken: 1, 11, 10
 unfoldable pub decided : ℕ → ℕ → Result Words LineRefusal → Result ℕ NotWritten
 decided size place made = first_of (row (ltb size place) (not_written PlaceBeyondLine place) ∷ []) (room_for size place made)
 
--- a line of so many words: 2 before that
-unfoldable pub wide_answer : ℕ → ℕ → Result Words LineRefusal → Result ℕ NotWritten
-wide_answer size place made = first_of (row (ltb most size) (not_written LineTooLong place) ∷ []) (decided size place made)
+-- in a form of a line that is not taken for a reason, or has so many words
+abbrev pub lent_answer : Option LineRefusal → ℕ → ℕ → Result Words LineRefusal → Result ℕ NotWritten
+lent_answer (Some why) size place made = not_written why place
+lent_answer None size place made = decided size place made
 
--- so many bytes: 2 and 14 before that
-unfoldable pub byte_answer : ℕ → ℕ → Result Words LineRefusal → Result ℕ NotWritten
-byte_answer size place made =
-    first_of (row (ltb most_bytes size) (not_written LineTooLong place) ∷ row (eqb (size % 2) 1) (not_written OddByteCount place) ∷ []) (decided (size / 2) place made)
+-- of so many words: 2
+abbrev pub wide_refused : ℕ → Option LineRefusal
+wide_refused size = cond (ltb most size) (Some LineTooLong) None
+
+-- of so many bytes: 2, 14
+abbrev pub bytes_refused : ℕ → Option LineRefusal
+bytes_refused size = cond (ltb most_bytes size) (Some LineTooLong) (cond (eqb (size % 2) 1) (Some OddByteCount) None)
 
 -- ---- what is put
 
--- these words and an idle word from a place on, and the place after them
-pub record Puts (line : List ℕ) (place : ℕ) (ws : List ℕ) (answer : Result ℕ NotWritten) (exit : List ℕ) : Type 0 where
-  pub answers : answer ≡ Ok (place + length ws + 1)
-  pub leaves : exit ≡ left_as (Ok (place + length ws + 1)) line place ws
+-- the words that a report was made into
+abbrev pub handed : Result Words LineRefusal → List ℕ
+handed (Ok ws) = words_in ws
+handed (Err q) = []
 
-pub record PutsBytes (bytes : List ℕ) (place : ℕ) (ws : List ℕ) (answer : Result ℕ NotWritten) (exit : List ℕ) : Type 0 where
-  pub answers : answer ≡ Ok (place + length ws + 1)
-  pub leaves : exit ≡ bytes_left (Ok (place + length ws + 1)) bytes place ws
+-- the line that a call leaves, in a form in which words are put into a line by `into`: the words, and one idle word right behind them; refused,
+-- nothing has changed
+abbrev pub left_by : {U : Type 0} → (List U → ℕ → List ℕ → List U) → Result ℕ NotWritten → List U → ℕ → List ℕ → List U
+left_by into (Ok next) line place ws = into (into line place ws) (place + length ws) (idle ∷ [])
+left_by into (Err refusal) line place ws = line
+
+-- words put into a line that is lent as bytes
+abbrev pub put_bytes : List ℕ → ℕ → List ℕ → List ℕ
+put_bytes bytes place ws = put bytes (place * 2) (bytes_of ws)

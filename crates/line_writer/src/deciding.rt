@@ -1,6 +1,6 @@
 // What every form of a line asks before a word is written, once the line itself is taken: rows 1, 11 and 10, on a line of so many words.
 // Relies on what a report was made into. specs/Deciding.antt says what each function computes.
-ghost use Rattle.std.specs.Prelude.{◌≡◌, ◌≤◌, ◌<◌};
+ghost use Rattle.std.specs.Prelude.{◌≡◌, ◌≤◌};
 ghost use Rattle.line_writer.specs.Deciding.{room, decided};
 
 use lines::NotWritten;
@@ -9,7 +9,7 @@ use reports::Words;
 
 // The place behind n words and an idle word, or number 10.
 fn room_for(size: usize, place: usize, n: usize) -> Result<usize, NotWritten>
-    requires { (place ≤ size) × (n < 8) }
+    requires { place ≤ size }
     ensures { result ≡ room size place n }
 {
     if size - place <= n {
@@ -22,6 +22,7 @@ fn room_for(size: usize, place: usize, n: usize) -> Result<usize, NotWritten>
 }
 
 // The answer on a line of so many words, to a place and what a report was made into.
+#[tactic(auto, unfolding(crate::specs::Deciding::decided))]
 pub fn decide(
     size: usize,
     place: usize,
@@ -35,9 +36,6 @@ pub fn decide(
             place,
         });
     }
-    match made {
-        Ok(Words::Four(_)) => room_for(size, place, 4),
-        Ok(Words::Seven(_)) => room_for(size, place, 7),
-        Err(why) => Err(NotWritten { why, place }),
-    }
+    let words = made.map_err(|why| NotWritten { why, place })?;
+    room_for(size, place, words.as_slice().len())
 }

@@ -60,7 +60,7 @@ stretch_solid (w ∷ ws) =
     (λ e. subst Solid (sym (passed [] (w ∷ stretch ws) e)) (eqb-false w idle e, stretch_solid ws))
 
 -- the words in front of the first idle word, and the idle words in front
-stretch_front : (ws : List ℕ) → take (length (stretch ws)) ws ≡ stretch ws
+pub stretch_front : (ws : List ℕ) → take (length (stretch ws)) ws ≡ stretch ws
 unfolding stretch
 stretch_front [] = refl
 stretch_front (w ∷ ws) =

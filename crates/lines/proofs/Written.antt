@@ -1,7 +1,7 @@
 -- Calls of the writer one after the other, and what one call leaves: the claims WrittenSo, Composed, OnlyItsWords and RefusedLeaves.
 -- Assumes nothing.
 use Rattle.std.specs.Prelude.{Ok, Result}
-use Prim.Native.Nat.{ℕ, zero, suc, ◌+◌, ◌-◌, ◌<◌}
+use Prim.Native.Nat.{ℕ, ◌+◌, ◌-◌, ◌<◌}
 use native.Mathlib.Nat.{zero-add}
 use mathlib.Core.Path.{◌≡◌, refl, ap, sym, ◌∙◌}
 use mathlib.Core.Logic.{⊎_elim}
@@ -9,6 +9,7 @@ use mathlib.Core.List.{List, [], ◌∷◌, ◌++◌, append_assoc}
 use native.Mathlib.Omega.{arith}
 use lib.ListN.{length, take, drop, replicate, length-append, length-drop, length-replicate, replicate-append-replicate}
 use lib.Seq.{take-append-add, take_at, drop_at, drop-append-add, length-take-le}
+use Rattle.std.proofs.lemmas.List.{drop-replicate}
 use Rattle.words.specs.Word.{idle}
 use Rattle.reports.specs.declared.Report.{Report}
 use Rattle.reports.specs.Altitude.{AltitudeForm}
@@ -74,11 +75,6 @@ refused_leaves form line place p r q e = (
 abbrev idles : ℕ → List ℕ
 idles n = replicate n idle
 
-drop_idles : (j m : ℕ) → drop j (idles m) ≡ idles (m - j)
-drop_idles zero m = ap idles (let z : m ≡ m - 0 = omega arith in z)
-drop_idles (suc j) zero = ap idles (let z : 0 ≡ 0 - suc j = omega arith in z)
-drop_idles (suc j) (suc m) = drop_idles j m ∙ ap idles (let z : m - j ≡ suc m - suc j = omega arith in z)
-
 -- words before the place, so many idle words, and idle words from the place on
 abbrev spread : List ℕ → ℕ → ℕ → List ℕ
 spread pre g m = pre ++ (idles g ++ idles m)
@@ -97,7 +93,7 @@ line_after form pre g m r =
     ∙ drop-append-add pre (idles g ++ idles m) (g + (k + 1))
     ∙ ap (λ (j : ℕ). drop (j + (k + 1)) (idles g ++ idles m)) (sym (length-replicate g idle))
     ∙ drop-append-add (idles g) (idles m) (k + 1)
-    ∙ drop_idles (k + 1) m in
+    ∙ drop-replicate (k + 1) m idle in
     ap (λ (l : List ℕ). l ++ (ws ++ (idle ∷ drop (length pre + g + k + 1) (spread pre g m)))) front
     ∙ ap (λ (l : List ℕ). (pre ++ idles g) ++ (ws ++ (idle ∷ l))) behind
     ∙ append_assoc pre (idles g) (ws ++ rest)

@@ -17,7 +17,7 @@ pub const MOST: usize = 32768;
 // The most bytes of a line that is lent as bytes.
 pub const MOST_BYTES: usize = 65536;
 
-// What reading at a place found.
+// What reading at a place found. It stays an enum: the document names these three, and `Option<Result<Report, LineRefusal>>` is no plainer.
 #[derive(Clone, Copy)]
 pub enum What {
     Accepted(Report),

@@ -1,11 +1,23 @@
-// The counts of a report's fields, a type for each weight, and what each stands for: exactly, for every count that the type holds.
-// WEIGHT is a count's weight in 1024ths of the unit (document 01, "Formats and fields"); a run length's is in ACP.
+// The counts of a report's fields, a type for each unit and weight, and what each stands for: exactly, for every count that the type holds.
+// A weight is in 1024ths of the unit (document 01, "Formats and fields"); a run length's is in ACP.
 // Relies on nothing; specs/Weight.antt has the document's weights once more, and specs/Exact.antt says what exact means.
 #![tactic(auto)]
 
 ghost use Rattle.std.specs.Prelude.{◌≡◌, ◌*◌};
 ghost use Rattle.measures.specs.Exact.{Exact, AllExact};
 ghost use Rattle.measures.specs.Weight as weight;
+
+// ---- the weights: the claim WeightsInCode says that they are the document's
+
+pub const FINE_RANGE: u16 = 8;
+
+pub const COARSE_RANGE: u16 = 128;
+
+pub const FINE_AZIMUTH: u16 = 45;
+
+pub const COARSE_AZIMUTH: u16 = 90;
+
+pub const TIME: u16 = 128;
 
 // n / 1024: the one place that computes with a float.
 fn of_1024ths(n: u32) -> f64
@@ -14,81 +26,64 @@ fn of_1024ths(n: u32) -> f64
     n as f64 / 1024.0
 }
 
-// ---- range
+// What n counts of so many 1024ths each stand for.
+fn weighed(n: u16, each: u16) -> f64
+    ensures { Exact (n * each) result }
+{
+    of_1024ths(u32::from(n) * u32::from(each))
+}
+
+// ---- range, azimuth and time: three types, so that none is taken for another
+
+// A count of WEIGHT 1024ths of a nmi.
+#[derive(Clone, Copy)]
+pub struct Range<const WEIGHT: u16>(pub u16);
 
 // The range of seven words: counts of 1/128 nmi.
-#[derive(Clone, Copy)]
-pub struct FineRange(pub u16);
-
-impl FineRange {
-    pub const WEIGHT: u32 = 8;
-
-    pub fn nmi(self) -> f64
-        ensures { Exact (self.0 * weight.fine_range) result }
-    {
-        of_1024ths(self.0 as u32 * Self::WEIGHT)
-    }
-}
+pub type FineRange = Range<FINE_RANGE>;
 
 // The range of four words: counts of 1/8 nmi.
-#[derive(Clone, Copy)]
-pub struct CoarseRange(pub u16);
+pub type CoarseRange = Range<COARSE_RANGE>;
 
-impl CoarseRange {
-    pub const WEIGHT: u32 = 128;
-
+impl<const WEIGHT: u16> Range<WEIGHT> {
     pub fn nmi(self) -> f64
-        ensures { Exact (self.0 * weight.coarse_range) result }
+        ensures { Exact (self.entry.0 * WEIGHT) result }
     {
-        of_1024ths(self.0 as u32 * Self::WEIGHT)
+        weighed(self.0, WEIGHT)
     }
 }
 
-// ---- azimuth
+// A count of WEIGHT 1024ths of a degree.
+#[derive(Clone, Copy)]
+pub struct Azimuth<const WEIGHT: u16>(pub u16);
 
 // The azimuth of seven words: 8192 counts to the circle.
-#[derive(Clone, Copy)]
-pub struct FineAzimuth(pub u16);
-
-impl FineAzimuth {
-    pub const WEIGHT: u32 = 45;
-
-    pub fn degrees(self) -> f64
-        ensures { Exact (self.0 * weight.fine_azimuth) result }
-    {
-        of_1024ths(self.0 as u32 * Self::WEIGHT)
-    }
-}
+pub type FineAzimuth = Azimuth<FINE_AZIMUTH>;
 
 // The azimuth of four words, in ACP: 4096 counts to the circle.
-#[derive(Clone, Copy)]
-pub struct CoarseAzimuth(pub u16);
+pub type CoarseAzimuth = Azimuth<COARSE_AZIMUTH>;
 
-impl CoarseAzimuth {
-    pub const WEIGHT: u32 = 90;
-
+impl<const WEIGHT: u16> Azimuth<WEIGHT> {
     pub fn degrees(self) -> f64
-        ensures { Exact (self.0 * weight.coarse_azimuth) result }
+        ensures { Exact (self.entry.0 * WEIGHT) result }
     {
-        of_1024ths(self.0 as u32 * Self::WEIGHT)
+        weighed(self.0, WEIGHT)
     }
 }
-
-// ---- time and run length
 
 // Time in storage: counts of 1/8 s.
 #[derive(Clone, Copy)]
 pub struct Time(pub u8);
 
 impl Time {
-    pub const WEIGHT: u32 = 128;
-
     pub fn seconds(self) -> f64
         ensures { Exact (self.0 * weight.time) result }
     {
-        of_1024ths(self.0 as u32 * Self::WEIGHT)
+        weighed(u16::from(self.0), TIME)
     }
 }
+
+// ---- run length
 
 // Run length: counts of 4 ACP, a whole number of them and no float.
 #[derive(Clone, Copy)]
@@ -100,7 +95,7 @@ impl RunLength {
     pub fn acp(self) -> u16
         ensures { result ≡ self.0 * weight.run_length }
     {
-        self.0 as u16 * Self::WEIGHT
+        u16::from(self.0) * Self::WEIGHT
     }
 }
 
@@ -115,20 +110,9 @@ pub struct Measured {
 }
 
 impl Measured {
-    // From the counts of seven words.
-    pub fn fine(range: FineRange, azimuth: FineAzimuth, time: Time) -> Measured
-        ensures { AllExact (range.0 * weight.fine_range) (azimuth.0 * weight.fine_azimuth) (time.0 * weight.time) result }
-    {
-        Measured {
-            range: range.nmi(),
-            azimuth: azimuth.degrees(),
-            time: time.seconds(),
-        }
-    }
-
-    // From the counts of four words.
-    pub fn coarse(range: CoarseRange, azimuth: CoarseAzimuth, time: Time) -> Measured
-        ensures { AllExact (range.0 * weight.coarse_range) (azimuth.0 * weight.coarse_azimuth) (time.0 * weight.time) result }
+    // From the counts, of seven words or of four.
+    pub fn of<const R: u16, const A: u16>(range: Range<R>, azimuth: Azimuth<A>, time: Time) -> Measured
+        ensures { AllExact (range.entry.0 * R) (azimuth.entry.0 * A) (time.0 * weight.time) result }
     {
         Measured {
             range: range.nmi(),

@@ -1,67 +1,32 @@
-// The altitude of twelve bits, in hundreds of feet, as it is read: in each form by a function of its own, and by the form's name.
-// Relies on words for the bits; specs/Altitude.antt of reports says what each form is.
+// The altitude of twelve bits, in hundreds of feet, as it is read in each form.
+// No trait with an impl for each form: a form is chosen by a number from C when the program runs, so a match on its name is plainer.
+// Relies on nothing; specs/Altitude.antt of reports says what each form is.
 ghost use Rattle.std.specs.Prelude.{◌≡◌};
-ghost use Rattle.reports.specs.Altitude.{sign_magnitude, twos_complement, form_of};
+ghost use Rattle.reports.specs.Altitude.{form_of};
 
 use reports::altitude::Form;
-use words::weights::ELEVEN_BITS;
 
-// What is taken away in two's complement where the first of twelve bits is one.
-const FIRST: i16 = ELEVEN_BITS as i16;
-
-// A sign, 1 negative, and eleven bits.
-fn sign_magnitude_of(n: u16) -> i16
-    ensures { result ≡ sign_magnitude.altitude n }
-{
-    let magnitude = (n % ELEVEN_BITS) as i16;
-    if n / ELEVEN_BITS == 1 {
-        0 - magnitude
-    } else {
-        magnitude
-    }
-}
-
-// Eleven bits, and -2048 where the first bit is one.
-fn twos_complement_of(n: u16) -> i16
-    ensures { result ≡ twos_complement.altitude n }
-{
-    let magnitude = (n % ELEVEN_BITS) as i16;
-    if n / ELEVEN_BITS == 1 {
-        magnitude - FIRST
-    } else {
-        magnitude
-    }
-}
+// What the first of twelve bits weighs: a sign, 1 negative, in document 01's form.
+const FIRST: u16 = 2048;
 
 // The altitude of twelve bits.
 pub fn altitude_of(n: u16, form: Form) -> i16
     ensures { result ≡ (form_of form).altitude n }
 {
+    let magnitude = (n % FIRST) as i16;
     match form {
-        Form::SignMagnitude => sign_magnitude_of(n),
-        Form::TwosComplement => twos_complement_of(n),
+        _ if n / FIRST != 1 => magnitude,
+        Form::SignMagnitude => -magnitude,
+        Form::TwosComplement => magnitude - FIRST as i16,
     }
 }
 
-// Minus zero: sign 1 and magnitude 0.
-fn is_sign_alone(n: u16) -> bool
-    ensures { result ≡ sign_magnitude.refused n }
-{
-    if n / ELEVEN_BITS == 1 {
-        if n % ELEVEN_BITS == 0 {
-            return true;
-        }
-        return false;
-    }
-    false
-}
-
-// Twelve bits that are no altitude: in two's complement none are.
+// Twelve bits that are no altitude: minus zero, which is sign 1 and magnitude 0; in two's complement none are.
 pub fn is_refused(n: u16, form: Form) -> bool
     ensures { result ≡ (form_of form).refused n }
 {
     match form {
-        Form::SignMagnitude => is_sign_alone(n),
+        Form::SignMagnitude => n / FIRST == 1 && n % FIRST == 0,
         Form::TwosComplement => false,
     }
 }

@@ -2,354 +2,195 @@
 // Relies on records for the fields; what each test means stands in specs/Conditions.antt of reports.
 #![tactic(auto)]
 
-ghost use Rattle.std.specs.Prelude.{◌≡◌, true, false, [], ◌∷◌};
+ghost use Rattle.std.specs.Prelude.{◌≡◌, ◌<◌, true, false, MatchOption};
 ghost use Rattle.reports.specs.Altitude.{form_of};
-ghost use Rattle.reports.specs.Forms.{is_four, is_seven, word_count, radar_code};
-ghost use Rattle.reports.specs.Conditions.{unknown_form, unassigned, minus_zero};
-ghost use Rattle.report_reader.specs.Content.{four_content, height_content, seven_content, content_of};
-ghost use Rattle.reports.specs.Records.{report_of};
-ghost use Rattle.reports.specs.Runs.{last_rows, judged};
-ghost use Rattle.rows.specs.Rows.{first_of};
+ghost use Rattle.words.specs.Word.{bits, bit};
+ghost use Rattle.reports.specs.Forms.{is_four, is_seven, word_count};
+ghost use Rattle.reports.specs.Conditions.{unknown_form, unassigned, minus_zero, four_zeros, height_spares, seven_spares, zeros};
+ghost use Rattle.reports.specs.Records.{four_of, height_of, seven_of, report_of};
+ghost use Rattle.reports.specs.Runs.{judged};
+ghost use Rattle.report_reader.specs.Rows.{tested};
 
+use bits::{bit, bits};
 use measures::RunLength;
 use refusals::LineRefusal;
 use reports::altitude::Form;
 use reports::{Height, Report, RunRefusal, forms};
-use words::weights::*;
 
 mod altitude; // altitude.rt: the altitude of twelve bits, in each form
+mod bits; // bits.rt: the bits of a report by number
 mod records; // records.rt: what words hold, field by field
 
-// A report, and the sum of the bits that are zero in an accepted one.
-#[derive(Clone, Copy)]
-struct Content {
-    report: Report,
-    spare: u16,
-}
+// ---- what words hold, and the sum of the bits that are zero in an accepted report
 
-// The same of the height of DABS and ATCRBS.
-#[derive(Clone, Copy)]
-struct HeightContent {
-    height: Height,
-    spare: u16,
-}
-
-// ---- four words
-
-// The content of four words of a known form: what is none of the first four is an RTQC.
-fn four_of(a: u16, b: u16, c: u16, d: u16) -> Content
-    requires { is_four (a ∷ []) ≡ true }
-    ensures { result ≡ four_content (a ∷ b ∷ c ∷ d ∷ []) }
+// Of four words of a known form: what is none of the first four is an RTQC.
+#[tactic(auto, unfolding(reports::specs::Records::four_of, reports::specs::Conditions::four_zeros))]
+fn four_of(words: &[u16; 7]) -> (Report, u16)
+    requires { is_four words.now ≡ true }
+    ensures report { result.0 ≡ four_of words.now }
+    ensures zeros { result.1 ≡ four_zeros words.now }
 {
-    let pattern = a / BIT_10 % SEVEN_BITS; // 4-10
-    let bit25 = b / BIT_12 % ONE_BIT; // 25
-    if pattern == forms::SEARCH_PATTERN {
-        return Content {
-            report: Report::Search(records::search_of(a, b, c, d)),
-            spare: bit25,
-        };
-    }
-    if pattern == forms::STROBE_PATTERN {
-        return Content {
-            report: Report::Strobe(records::strobe_of(a, b, c, d)),
-            spare: bit25,
-        };
-    }
-    if pattern == forms::STATUS_PATTERN {
-        return Content {
-            report: Report::Status(records::status_of(a, b, c, d)),
-            spare: 0,
-        };
-    }
-    if a / BIT_8 % FIVE_BITS == forms::MAP_PATTERN {
-        return Content {
-            report: Report::Map(records::map_of(a, b, c, d)),
-            spare: bit25 + d / BIT_12 % ONE_BIT, // 51
-        };
-    }
-    Content {
-        report: Report::Rtqc(records::rtqc_of(a, b, c, d)),
-        spare: bit25,
+    let bit25 = bits(words, 25, 25);
+    match bits(words, 4, 10) {
+        forms::SEARCH_PATTERN => (Report::Search(records::search_of(words)), bit25),
+        forms::STROBE_PATTERN => (Report::Strobe(records::strobe_of(words)), bit25),
+        forms::STATUS_PATTERN => (Report::Status(records::status_of(words)), 0),
+        _ if bits(words, 4, 8) == forms::MAP_PATTERN => {
+            (
+                Report::Map(records::map_of(words)),
+                bit25 + bits(words, 51, 51),
+            )
+        }
+        _ => (Report::Rtqc(records::rtqc_of(words)), bit25),
     }
 }
 
-// ---- seven words
-
-// Bits 88 to 90 where bit 12 is one, else what no three bits are.
-fn radar_code(a: u16, g: u16) -> u16
-    ensures { result ≡ radar_code (a ∷ 0 ∷ 0 ∷ 0 ∷ 0 ∷ 0 ∷ g ∷ []) }
+// Bits 88 to 90 where bit 12 is one.
+fn radar_code(words: &[u16; 7]) -> Option<u16>
+    ensures { MatchOption result (bit words.now 12 ≡ false) (λ code. (bit words.now 12 ≡ true) × (code ≡ bits words.now 88 90)) }
 {
-    let radar = a / BIT_12 % ONE_BIT; // 12
-    if radar == 1 {
-        g / BIT_12 % THREE_BITS // 88-90
+    if bit(words, 12) {
+        Some(bits(words, 88, 90))
     } else {
-        forms::NO_RADAR
+        None
     }
 }
 
-// Bits 6, 12 and 79 to 90 of DABS and ATCRBS.
-fn height_of(a: u16, g: u16, form: Form) -> HeightContent
-    requires { is_seven (a ∷ []) ≡ true }
-    ensures { result ≡ height_content (form_of form) (a ∷ 0 ∷ 0 ∷ 0 ∷ 0 ∷ 0 ∷ g ∷ []) }
+// Of bits 6, 12 and 79 to 90 of DABS and ATCRBS.
+#[tactic(auto, unfolding(reports::specs::Records::height_of, reports::specs::Conditions::height_spares))]
+fn height_of(words: &[u16; 7], form: Form) -> (Height, u16)
+    requires { is_seven words.now ≡ true }
+    ensures height { result.0 ≡ height_of (form_of form) words.now }
+    ensures spares { result.1 ≡ height_spares words.now }
+    ensures seven_bits { result.1 < 128 }
 {
-    let code = radar_code(a, g);
-    let mode_c = a / BIT_6 % ONE_BIT == 1; // 6
-    if code == forms::CD_CODE {
-        let run = RunLength((g / BIT_3 % THREE_BITS) as u8); // 79-81
-        return HeightContent {
-            height: Height::Cd { mode_c, run },
-            spare: g / BIT_9 % SIX_BITS, // 82-87
-        };
-    }
-    if code == forms::MTD_CODE {
-        let quality = (g / BIT_2 % TWO_BITS) as u8; // 79-80
-        return HeightContent {
-            height: Height::Mtd { mode_c, quality },
-            spare: g / BIT_9 % SEVEN_BITS, // 81-87
-        };
-    }
-    if code == forms::RDAS_CODE {
-        let quality = (g / BIT_4 % FOUR_BITS) as u8; // 79-82
-        return HeightContent {
-            height: Height::Rdas { mode_c, quality },
-            spare: g / BIT_9 % FIVE_BITS, // 83-87
-        };
-    }
-    if a / BIT_6 % ONE_BIT == 1 {
-        return HeightContent {
-            height: Height::Altitude(altitude::altitude_of(g / BIT_12 % TWELVE_BITS, form)), // 79-90
-            spare: 0,
-        };
-    }
-    HeightContent {
-        height: Height::Carried(g / BIT_12 % TWELVE_BITS), // 79-90
-        spare: 0,
+    let mode_c = bit(words, 6);
+    match radar_code(words) {
+        Some(forms::CD_CODE) => {
+            let run = RunLength(bits(words, 79, 81) as u8);
+            (Height::Cd { mode_c, run }, bits(words, 82, 87))
+        }
+        Some(forms::MTD_CODE) => {
+            let quality = bits(words, 79, 80) as u8;
+            (Height::Mtd { mode_c, quality }, bits(words, 81, 87))
+        }
+        Some(forms::RDAS_CODE) => {
+            let quality = bits(words, 79, 82) as u8;
+            (Height::Rdas { mode_c, quality }, bits(words, 83, 87))
+        }
+        _ if mode_c => (
+            Height::Altitude(altitude::altitude_of(bits(words, 79, 90), form)),
+            0,
+        ),
+        _ => (Height::Carried(bits(words, 79, 90)), 0),
     }
 }
 
-// The content of seven words: what is none of the first three is an ATCRBS.
-fn seven_of(a: u16, b: u16, c: u16, d: u16, e: u16, f: u16, g: u16, form: Form) -> Content
-    requires { is_seven (a ∷ []) ≡ true }
-    ensures { result ≡ seven_content (form_of form) (a ∷ b ∷ c ∷ d ∷ e ∷ f ∷ g ∷ []) }
+// Of seven words: what is none of the first three is an ATCRBS.
+#[tactic(auto, unfolding(reports::specs::Records::seven_of, reports::specs::Conditions::seven_spares))]
+fn seven_of(words: &[u16; 7], form: Form) -> (Report, u16)
+    requires { is_seven words.now ≡ true }
+    ensures report { result.0 ≡ seven_of (form_of form) words.now }
+    ensures spares { result.1 ≡ seven_spares words.now }
 {
-    let last = height_of(a, g, form);
-    let height = last.height;
-    let code = radar_code(a, g);
-    if a / BIT_4 % ONE_BIT == 1 {
-        let spare = d / BIT_7 % TWO_BITS + last.spare; // 45-46
-        return Content {
-            report: Report::Dabs(records::dabs_of(a, b, c, d, e, f, height)),
-            spare,
-        };
+    if bit(words, 4) {
+        let (height, spare) = height_of(words, form);
+        return (
+            Report::Dabs(records::dabs_of(words, height)),
+            bits(words, 45, 46) + spare,
+        );
     }
-    if code == forms::MTD_SEARCH_CODE {
-        // 5-10, 45 and 87
-        let spare = a / BIT_10 % SIX_BITS + d / BIT_6 % ONE_BIT + g / BIT_9 % ONE_BIT;
-        return Content {
-            report: Report::Mtd(records::mtd_of(a, b, c, d, e, f, g)),
-            spare,
-        };
-    }
-    if code == forms::RDAS_SEARCH_CODE {
-        // 5-10, 45, 53-64, 83-84 and 86-87
-        let spare = a / BIT_10 % SIX_BITS
-            + d / BIT_6 % ONE_BIT
-            + e / BIT_12 % TWELVE_BITS
-            + g / BIT_6 % TWO_BITS
-            + g / BIT_9 % TWO_BITS;
-        return Content {
-            report: Report::Rdas(records::rdas_of(a, b, c, d, f, g)),
-            spare,
-        };
-    }
-    Content {
-        report: Report::Atcrbs(records::atcrbs_of(a, b, c, d, e, f, height)),
-        spare: last.spare,
+    match radar_code(words) {
+        Some(forms::MTD_SEARCH_CODE) => {
+            let spare = bits(words, 5, 10) + bits(words, 45, 45) + bits(words, 87, 87);
+            (Report::Mtd(records::mtd_of(words)), spare)
+        }
+        Some(forms::RDAS_SEARCH_CODE) => {
+            let spare = bits(words, 5, 10)
+                + bits(words, 45, 45)
+                + bits(words, 53, 64)
+                + bits(words, 83, 84)
+                + bits(words, 86, 87);
+            (Report::Rdas(records::rdas_of(words)), spare)
+        }
+        _ => {
+            let (height, spare) = height_of(words, form);
+            (Report::Atcrbs(records::atcrbs_of(words, height)), spare)
+        }
     }
 }
 
-// The content of words of a known form.
-fn content_of(a: u16, b: u16, c: u16, d: u16, e: u16, f: u16, g: u16, form: Form) -> Content
-    requires { unknown_form (a ∷ []) ≡ false }
-    ensures { result ≡ content_of (form_of form) (a ∷ b ∷ c ∷ d ∷ e ∷ f ∷ g ∷ []) }
+// Of words of a known form.
+#[tactic(auto, unfolding(reports::specs::Records::report_of, reports::specs::Conditions::zeros))]
+fn report_of(words: &[u16; 7], form: Form) -> (Report, u16)
+    requires { unknown_form words.now ≡ false }
+    ensures report { result.0 ≡ report_of (form_of form) words.now }
+    ensures zeros { result.1 ≡ zeros words.now }
 {
-    if a / BIT_3 % TWO_BITS == forms::SEVEN_WORDS {
-        seven_of(a, b, c, d, e, f, g, form)
+    if bits(words, 2, 3) == forms::SEVEN_WORDS {
+        seven_of(words, form)
     } else {
-        four_of(a, b, c, d)
+        four_of(words)
     }
 }
 
 // ---- the conditions
 
-fn is_unknown_form(a: u16) -> bool
-    ensures { result ≡ unknown_form (a ∷ []) }
+fn is_unknown_form(words: &[u16; 7]) -> bool
+    ensures { result ≡ unknown_form words.now }
 {
-    let pattern = a / BIT_10 % SEVEN_BITS; // 4-10
-    if a / BIT_3 % TWO_BITS == forms::FOUR_WORDS {
-        if pattern == forms::SEARCH_PATTERN {
-            return false;
-        }
-        if pattern == forms::STROBE_PATTERN {
-            return false;
-        }
-        if pattern == forms::STATUS_PATTERN {
-            return false;
-        }
-        if a / BIT_8 % FIVE_BITS == forms::MAP_PATTERN {
-            return false;
-        }
-        if pattern == forms::RTQC_PATTERN {
-            if a / BIT_1 % ONE_BIT == 1 {
-                return false;
-            }
-            return true;
-        }
-        return true;
+    match bits(words, 2, 3) {
+        forms::FOUR_WORDS => match bits(words, 4, 10) {
+            forms::SEARCH_PATTERN | forms::STROBE_PATTERN | forms::STATUS_PATTERN => false,
+            forms::RTQC_PATTERN => !bit(words, 1),
+            _ => bits(words, 4, 8) != forms::MAP_PATTERN,
+        },
+        forms::SEVEN_WORDS => false,
+        _ => true,
     }
-    if a / BIT_3 % TWO_BITS == forms::SEVEN_WORDS {
-        return false;
-    }
-    true
 }
 
-fn word_count(a: u16) -> usize
-    ensures { result ≡ word_count (a ∷ []) }
+fn word_count(words: &[u16; 7]) -> usize
+    ensures { result ≡ word_count words.now }
 {
-    if a / BIT_3 % TWO_BITS == forms::SEVEN_WORDS {
+    if bits(words, 2, 3) == forms::SEVEN_WORDS {
         7
     } else {
         4
     }
 }
 
-fn is_unassigned(a: u16, g: u16) -> bool
-    ensures { result ≡ unassigned (a ∷ 0 ∷ 0 ∷ 0 ∷ 0 ∷ 0 ∷ g ∷ []) }
+fn is_unassigned(words: &[u16; 7]) -> bool
+    ensures { result ≡ unassigned words.now }
 {
-    let code = g / BIT_12 % THREE_BITS; // 88-90
-    if a / BIT_3 % TWO_BITS == forms::SEVEN_WORDS {
-        if a / BIT_12 % ONE_BIT == 1 {
-            if code == forms::CD_CODE {
-                return false;
-            }
-            if code == forms::MTD_CODE {
-                return false;
-            }
-            if code == forms::RDAS_CODE {
-                return false;
-            }
-            if a / BIT_4 % ONE_BIT == 1 {
-                return true;
-            }
-            if code == forms::MTD_SEARCH_CODE {
-                return false;
-            }
-            if code == forms::RDAS_SEARCH_CODE {
-                return false;
-            }
-            return true;
+    bits(words, 2, 3) == forms::SEVEN_WORDS
+        && match radar_code(words) {
+            None | Some(forms::CD_CODE | forms::MTD_CODE | forms::RDAS_CODE) => false,
+            Some(forms::MTD_SEARCH_CODE | forms::RDAS_SEARCH_CODE) => bit(words, 4),
+            Some(_) => true,
         }
-        return false;
-    }
-    false
 }
 
-fn is_minus_zero(a: u16, g: u16, form: Form) -> bool
-    ensures { result ≡ minus_zero (form_of form) (a ∷ 0 ∷ 0 ∷ 0 ∷ 0 ∷ 0 ∷ g ∷ []) }
+fn is_minus_zero(words: &[u16; 7], form: Form) -> bool
+    ensures { result ≡ minus_zero (form_of form) words.now }
 {
-    if a / BIT_3 % TWO_BITS == forms::SEVEN_WORDS {
-        if a / BIT_12 % ONE_BIT == 1 {
-            return false;
-        }
-        if a / BIT_6 % ONE_BIT == 1 {
-            return altitude::is_refused(g / BIT_12 % TWELVE_BITS, form); // 79-90
-        }
-        return false;
-    }
-    false
+    bits(words, 2, 3) == forms::SEVEN_WORDS
+        && !bit(words, 12)
+        && bit(words, 6)
+        && altitude::is_refused(bits(words, 79, 90), form)
 }
 
 // ---- the answer
 
-// The answer to words of a known form, as many as it has.
-fn judge_words(
-    a: u16,
-    b: u16,
-    c: u16,
-    d: u16,
-    e: u16,
-    f: u16,
-    g: u16,
-    form: Form,
-) -> Result<Report, RunRefusal>
-    requires { unknown_form (a ∷ []) ≡ false }
-    ensures { result ≡ first_of (last_rows (form_of form) (a ∷ b ∷ c ∷ d ∷ e ∷ f ∷ g ∷ [])) (Ok (report_of (form_of form) (a ∷ b ∷ c ∷ d ∷ e ∷ f ∷ g ∷ []))) }
+// A row of the table: the refusal, where its condition holds.
+fn row(holds: bool, why: LineRefusal, offset: usize) -> Result<(), RunRefusal>
+    ensures { result ≡ tested holds why offset }
 {
-    if is_unassigned(a, g) {
-        return Err(RunRefusal {
-            why: LineRefusal::UnassignedRadar,
-            offset: 0,
-        });
+    if holds {
+        Err(RunRefusal { why, offset })
+    } else {
+        Ok(())
     }
-    let content = content_of(a, b, c, d, e, f, g, form);
-    let spare = content.spare;
-    if spare != 0 {
-        return Err(RunRefusal {
-            why: LineRefusal::SpareBitSet,
-            offset: 0,
-        });
-    }
-    if is_minus_zero(a, g, form) {
-        return Err(RunRefusal {
-            why: LineRefusal::MinusZero,
-            offset: 0,
-        });
-    }
-    let report = content.report;
-    Ok(report)
-}
-
-// The same of the words one by one.
-fn judge_seven(
-    a: u16,
-    b: u16,
-    c: u16,
-    d: u16,
-    e: u16,
-    f: u16,
-    g: u16,
-    n: usize,
-    too_wide: usize,
-    even: usize,
-    form: Form,
-) -> Result<Report, RunRefusal>
-    ensures { result ≡ judged (form_of form) (a ∷ b ∷ c ∷ d ∷ e ∷ f ∷ g ∷ []) n too_wide even }
-{
-    if too_wide < n {
-        return Err(RunRefusal {
-            why: LineRefusal::WordTooWide,
-            offset: too_wide,
-        });
-    }
-    if even < n {
-        return Err(RunRefusal {
-            why: LineRefusal::EvenWord,
-            offset: even,
-        });
-    }
-    if is_unknown_form(a) {
-        return Err(RunRefusal {
-            why: LineRefusal::UnknownForm,
-            offset: 0,
-        });
-    }
-    if n != word_count(a) {
-        return Err(RunRefusal {
-            why: LineRefusal::WrongLength,
-            offset: 0,
-        });
-    }
-    judge_words(a, b, c, d, e, f, g, form)
 }
 
 // The answer to a run of `n` words whose first seven are given, with 0 for those past its end; its first word that is too wide is at
@@ -364,6 +205,13 @@ pub fn judge(
 ) -> Result<Report, RunRefusal>
     ensures { result ≡ judged (form_of form) words n too_wide even }
 {
-    let [a, b, c, d, e, f, g] = words;
-    judge_seven(a, b, c, d, e, f, g, n, too_wide, even, form)
+    row(too_wide < n, LineRefusal::WordTooWide, too_wide)?;
+    row(even < n, LineRefusal::EvenWord, even)?;
+    row(is_unknown_form(&words), LineRefusal::UnknownForm, 0)?;
+    row(n != word_count(&words), LineRefusal::WrongLength, 0)?;
+    row(is_unassigned(&words), LineRefusal::UnassignedRadar, 0)?;
+    let (report, spare) = report_of(&words, form);
+    row(spare != 0, LineRefusal::SpareBitSet, 0)?;
+    row(is_minus_zero(&words, form), LineRefusal::MinusZero, 0)?;
+    Ok(report)
 }

@@ -1,9 +1,8 @@
 -- The lister's name of a report, and the number by which a C program knows it. The document gives no numbers: these are ours, above every
 -- refusal's.
 -- Definitions only.
-use Rattle.std.specs.Prelude.{ℕ, ◌≡◌, ◌≢◌, List, [], ◌∷◌, Result, MatchResult}
-use Prim.Native.Char.{code}
-use Prim.Native.String.{String, [] as []ˢ, ◌∷◌ as ◌∷ˢ◌}
+use Rattle.std.specs.Prelude.{ℕ, ◌≡◌, ◌≢◌, List, ◌++◌, codes, Result, MatchResult}
+use Rattle.std.specs.Fmt.{decimal}
 use Rattle.reports.specs.declared.Height.{Height}
 use Rattle.reports.specs.declared.Height.TheVariants as H
 use Rattle.reports.specs.declared.Report.{Report}
@@ -12,20 +11,20 @@ use Rattle.reports.specs.declared.kinds.Kind.{Kind}
 use Rattle.reports.specs.declared.kinds.Kind.TheVariants as K
 use Rattle.reports.specs.declared.kinds.UnknownKind.{UnknownKind}
 
+-- one of four kinds, by what stands in for the height
+abbrev pub kind_by : Height → Kind → Kind → Kind → Kind → Kind
+kind_by (H.Altitude z) plain with_cd with_mtd with_rdas = plain
+kind_by (H.Carried n) plain with_cd with_mtd with_rdas = plain
+kind_by (H.Cd m n) plain with_cd with_mtd with_rdas = with_cd
+kind_by (H.Mtd m n) plain with_cd with_mtd with_rdas = with_mtd
+kind_by (H.Rdas m n) plain with_cd with_mtd with_rdas = with_rdas
+
 -- substitution has a name of its own
 abbrev pub dabs_kind : Height → Kind
-dabs_kind (H.Altitude z) = K.Dabs
-dabs_kind (H.Carried n) = K.Dabs
-dabs_kind (H.Cd m n) = K.DabsCd
-dabs_kind (H.Mtd m n) = K.DabsMtd
-dabs_kind (H.Rdas m n) = K.DabsRdas
+dabs_kind h = kind_by h K.Dabs K.DabsCd K.DabsMtd K.DabsRdas
 
 abbrev pub atcrbs_kind : Height → Kind
-atcrbs_kind (H.Altitude z) = K.Atcrbs
-atcrbs_kind (H.Carried n) = K.Atcrbs
-atcrbs_kind (H.Cd m n) = K.AtcrbsCd
-atcrbs_kind (H.Mtd m n) = K.AtcrbsMtd
-atcrbs_kind (H.Rdas m n) = K.AtcrbsRdas
+atcrbs_kind h = kind_by h K.Atcrbs K.AtcrbsCd K.AtcrbsMtd K.AtcrbsRdas
 
 abbrev pub kind_of : Report → Kind
 kind_of (R.Search s) = K.Search
@@ -59,25 +58,24 @@ kind_number K.Rdas = 115
 abbrev pub Numbered : ℕ → Result Kind UnknownKind → Type 0
 Numbered number r = MatchResult r (λ kind. kind_number kind ≡ number) (λ e. (e.0 ≡ number) × ((kind : Kind) → kind_number kind ≢ number))
 
--- the bytes of a text
-abbrev pub text : String → List ℕ
-text []ˢ = []
-text (c ∷ˢ s) = code c ∷ text s
-
 -- what each kind is called in a listing; with substitution, by what stands in for the height too
 abbrev pub name_of : Kind → List ℕ
-name_of K.Search = text "SEARCH"
-name_of K.Strobe = text "STROBE"
-name_of K.Map = text "MAP"
-name_of K.Status = text "STATUS"
-name_of K.Rtqc = text "RTQC"
-name_of K.Dabs = text "DABS"
-name_of K.DabsCd = text "DABS-CD"
-name_of K.DabsMtd = text "DABS-MTD"
-name_of K.DabsRdas = text "DABS-RDAS"
-name_of K.Atcrbs = text "ATCRBS"
-name_of K.AtcrbsCd = text "ATCRBS-CD"
-name_of K.AtcrbsMtd = text "ATCRBS-MTD"
-name_of K.AtcrbsRdas = text "ATCRBS-RDAS"
-name_of K.Mtd = text "MTD"
-name_of K.Rdas = text "RDAS"
+name_of K.Search = codes "SEARCH"
+name_of K.Strobe = codes "STROBE"
+name_of K.Map = codes "MAP"
+name_of K.Status = codes "STATUS"
+name_of K.Rtqc = codes "RTQC"
+name_of K.Dabs = codes "DABS"
+name_of K.DabsCd = codes "DABS-CD"
+name_of K.DabsMtd = codes "DABS-MTD"
+name_of K.DabsRdas = codes "DABS-RDAS"
+name_of K.Atcrbs = codes "ATCRBS"
+name_of K.AtcrbsCd = codes "ATCRBS-CD"
+name_of K.AtcrbsMtd = codes "ATCRBS-MTD"
+name_of K.AtcrbsRdas = codes "ATCRBS-RDAS"
+name_of K.Mtd = codes "MTD"
+name_of K.Rdas = codes "RDAS"
+
+-- what is said of a number that no kind has
+abbrev pub no_kind : UnknownKind → List ℕ
+no_kind e = codes "no kind of report has the number " ++ decimal e.0

@@ -1,7 +1,7 @@
 // The lister's name of each report: nine kinds, and DABS and ATCRBS once more for each radar that may stand in for the height.
 // Relies on the records of the crate.
 ghost use Rattle.std.specs.Prelude.{◌≡◌, Some};
-ghost use Rattle.reports.specs.Kinds.{dabs_kind, atcrbs_kind, kind_of, kind_number, Numbered, name_of};
+ghost use Rattle.reports.specs.Kinds.{kind_by, kind_of, kind_number, Numbered, no_kind, name_of};
 
 use crate::{Height, Report};
 use std::error::Error;
@@ -68,6 +68,8 @@ impl TryFrom<u32> for Kind {
 }
 
 impl fmt::Display for UnknownKind {
+    ghost output = { λ e. Some (no_kind e) };
+
     fn fmt<W: fmt::Write>(&self, f: &mut fmt::Formatter<W>) -> fmt::Result {
         write!(f, "no kind of report has the number {}", self.0)
     }
@@ -109,41 +111,17 @@ impl fmt::Display for Kind {
     }
 }
 
-// A DABS report's kind, by what stands in bits 79 to 90.
-fn dabs_kind(height: Height) -> Kind
-    ensures { result ≡ dabs_kind height }
-{
-    match height {
-        Height::Altitude(_) => Kind::Dabs,
-        Height::Carried(_) => Kind::Dabs,
-        Height::Cd { mode_c: _, run: _ } => Kind::DabsCd,
-        Height::Mtd {
-            mode_c: _,
-            quality: _,
-        } => Kind::DabsMtd,
-        Height::Rdas {
-            mode_c: _,
-            quality: _,
-        } => Kind::DabsRdas,
-    }
-}
+// ---- a report's kind
 
-// An ATCRBS report's kind, by what stands in bits 79 to 90.
-fn atcrbs_kind(height: Height) -> Kind
-    ensures { result ≡ atcrbs_kind height }
+// Which of four kinds a DABS or ATCRBS is of, by what stands in bits 79 to 90.
+fn kind_by(height: Height, plain: Kind, cd: Kind, mtd: Kind, rdas: Kind) -> Kind
+    ensures { result ≡ kind_by height plain cd mtd rdas }
 {
     match height {
-        Height::Altitude(_) => Kind::Atcrbs,
-        Height::Carried(_) => Kind::Atcrbs,
-        Height::Cd { mode_c: _, run: _ } => Kind::AtcrbsCd,
-        Height::Mtd {
-            mode_c: _,
-            quality: _,
-        } => Kind::AtcrbsMtd,
-        Height::Rdas {
-            mode_c: _,
-            quality: _,
-        } => Kind::AtcrbsRdas,
+        Height::Altitude(_) | Height::Carried(_) => plain,
+        Height::Cd { .. } => cd,
+        Height::Mtd { .. } => mtd,
+        Height::Rdas { .. } => rdas,
     }
 }
 
@@ -156,14 +134,20 @@ pub fn kind_of(report: Report) -> Kind
         Report::Map(_) => Kind::Map,
         Report::Status(_) => Kind::Status,
         Report::Rtqc(_) => Kind::Rtqc,
-        Report::Dabs(d) => {
-            let height = d.height;
-            dabs_kind(height)
-        }
-        Report::Atcrbs(a) => {
-            let height = a.height;
-            atcrbs_kind(height)
-        }
+        Report::Dabs(d) => kind_by(
+            d.height,
+            Kind::Dabs,
+            Kind::DabsCd,
+            Kind::DabsMtd,
+            Kind::DabsRdas,
+        ),
+        Report::Atcrbs(a) => kind_by(
+            a.height,
+            Kind::Atcrbs,
+            Kind::AtcrbsCd,
+            Kind::AtcrbsMtd,
+            Kind::AtcrbsRdas,
+        ),
         Report::Mtd(_) => Kind::Mtd,
         Report::Rdas(_) => Kind::Rdas,
     }

@@ -9,14 +9,14 @@ pub fn values_of(report: Report) -> Option<Measured>
     ensures { Yields (counted_of report) result }
 {
     match report {
-        Report::Search(s) => Some(Measured::coarse(s.range, s.azimuth, s.time)),
-        Report::Strobe(s) => Some(Measured::coarse(s.range, s.azimuth, s.time)),
-        Report::Map(m) => Some(Measured::coarse(m.start, m.azimuth, Time(0))),
+        Report::Search(s) => Some(Measured::of(s.range, s.azimuth, s.time)),
+        Report::Strobe(s) => Some(Measured::of(s.range, s.azimuth, s.time)),
+        Report::Map(m) => Some(Measured::of(m.start, m.azimuth, Time(0))),
         Report::Status(_) => None,
-        Report::Rtqc(s) => Some(Measured::coarse(s.range, s.azimuth, s.time)),
-        Report::Dabs(d) => Some(Measured::fine(d.range, d.azimuth, d.time)),
-        Report::Atcrbs(a) => Some(Measured::fine(a.range, a.azimuth, a.time)),
-        Report::Mtd(m) => Some(Measured::fine(m.range, m.azimuth, m.time)),
-        Report::Rdas(r) => Some(Measured::fine(r.range, r.azimuth, r.time)),
+        Report::Rtqc(s) => Some(Measured::of(s.range, s.azimuth, s.time)),
+        Report::Dabs(d) => Some(Measured::of(d.range, d.azimuth, d.time)),
+        Report::Atcrbs(a) => Some(Measured::of(a.range, a.azimuth, a.time)),
+        Report::Mtd(m) => Some(Measured::of(m.range, m.azimuth, m.time)),
+        Report::Rdas(r) => Some(Measured::of(r.range, r.azimuth, r.time)),
     }
 }

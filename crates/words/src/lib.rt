@@ -32,7 +32,7 @@ pub fn is_too_wide(w: u16) -> bool
 pub fn is_odd(w: u16) -> bool
     ensures { result ≡ odd w }
 {
-    u16::count_ones(w) % 2 == 1
+    w.count_ones() % 2 == 1
 }
 
 // The word of any data: bit 13 is one where the data has an even number of ones, so the word has an odd number. Data of more than twelve bits is not
@@ -40,6 +40,6 @@ pub fn is_odd(w: u16) -> bool
 pub fn word(data: u16) -> u32
     ensures { result ≡ word_of «data» }
 {
-    let doubled = data as u32 * 2;
+    let doubled = u32::from(data) * 2;
     if is_odd(data) { doubled } else { doubled + 1 }
 }

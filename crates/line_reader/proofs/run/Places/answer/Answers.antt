@@ -2,7 +2,6 @@
 use Rattle.std.specs.Prelude.{Result}
 use Prim.Native.Nat.{◌-◌, ◌≤◌}
 use mathlib.Core.Path.{sym, subst}
-use mathlib.Core.List.{[], ◌∷◌}
 use Rattle.reports.specs.Altitude.{form_of}
 use Rattle.reports.specs.Runs.{answer_offset}
 use Rattle.line_reader.proofs.Places.{offset_within}
@@ -17,5 +16,5 @@ set_at-requires c =
     let s = x.self in (
       omega arith,
       subst (λ (r : Result Report RunRefusal). answer_offset r ≤ s.after - s.first) (sym c.judge-answer.ensures)
-          (offset_within (form_of x.form) (x.a ∷ x.b ∷ x.c ∷ x.d ∷ x.e ∷ x.f ∷ x.g ∷ []) (s.after - s.first) (s.too_wide - s.first) (s.fault - s.first)),
+          (offset_within (form_of x.form) x.words (s.after - s.first) (s.too_wide - s.first) (s.fault - s.first)),
     )
