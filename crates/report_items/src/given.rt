@@ -11,7 +11,7 @@ ghost use Rattle.report_items.specs.Given.{as_signed, flag_of, count_of, item_ga
 
 use crate::items::item_of;
 use crate::numbers;
-use measures::{CoarseAzimuth, CoarseRange, FineAzimuth, FineRange, RunLength, Time};
+use measures::{Azimuth, Range, RunLength, Time};
 use pairs::SLOTS;
 use reports::kinds::Kind;
 use reports::{Atcrbs, Dabs, Height, Map, Mtd, Rdas, Report, Rtqc, Search, Status, Strobe};
@@ -77,8 +77,8 @@ fn search_given(v: &Values) -> Search
         test: v.flag(numbers::TEST),
         faa: v.flag(numbers::FAA),
         af: v.flag(numbers::AF),
-        range: CoarseRange(v.word(numbers::RANGE)),
-        azimuth: CoarseAzimuth(v.word(numbers::AZIMUTH)),
+        range: Range(v.word(numbers::RANGE)),
+        azimuth: Azimuth(v.word(numbers::AZIMUTH)),
         aims: v.flag(numbers::AIMS),
         code: v.byte(numbers::AIMS_CODE),
         run: RunLength(v.byte(numbers::RUN)),
@@ -93,8 +93,8 @@ fn strobe_given(v: &Values) -> Strobe
         test: v.flag(numbers::TEST),
         faa: v.flag(numbers::FAA),
         af: v.flag(numbers::AF),
-        range: CoarseRange(v.word(numbers::RANGE)),
-        azimuth: CoarseAzimuth(v.word(numbers::AZIMUTH)),
+        range: Range(v.word(numbers::RANGE)),
+        azimuth: Azimuth(v.word(numbers::AZIMUTH)),
         run: RunLength(v.byte(numbers::RUN)),
         time: Time(v.byte(numbers::TIME)),
     }
@@ -108,9 +108,9 @@ fn map_given(v: &Values) -> Map
         variation: v.byte(numbers::VARIATION),
         faa: v.flag(numbers::FAA),
         af: v.flag(numbers::AF),
-        start: CoarseRange(v.word(numbers::START)),
-        azimuth: CoarseAzimuth(v.word(numbers::AZIMUTH)),
-        stop: CoarseRange(v.word(numbers::STOP)),
+        start: Range(v.word(numbers::START)),
+        azimuth: Azimuth(v.word(numbers::AZIMUTH)),
+        stop: Range(v.word(numbers::STOP)),
     }
 }
 
@@ -133,8 +133,8 @@ fn rtqc_given(v: &Values) -> Rtqc
     Rtqc {
         faa: v.flag(numbers::FAA),
         af: v.flag(numbers::AF),
-        range: CoarseRange(v.word(numbers::RANGE)),
-        azimuth: CoarseAzimuth(v.word(numbers::AZIMUTH)),
+        range: Range(v.word(numbers::RANGE)),
+        azimuth: Azimuth(v.word(numbers::AZIMUTH)),
         run: RunLength(v.byte(numbers::RUN)),
         time: Time(v.byte(numbers::TIME)),
     }
@@ -190,8 +190,8 @@ fn dabs_given(v: &Values, height: Height) -> Dabs
         code7700: v.flag(numbers::CODE7700),
         code7600: v.flag(numbers::CODE7600),
         faa: v.flag(numbers::FAA),
-        range: FineRange(v.word(numbers::RANGE)),
-        azimuth: FineAzimuth(v.word(numbers::AZIMUTH)),
+        range: Range(v.word(numbers::RANGE)),
+        azimuth: Azimuth(v.word(numbers::AZIMUTH)),
         alert: v.flag(numbers::ALERT),
         relay: v.flag(numbers::RELAY),
         time: Time(v.byte(numbers::TIME)),
@@ -211,8 +211,8 @@ fn atcrbs_given(v: &Values, height: Height) -> Atcrbs
         code7700: v.flag(numbers::CODE7700),
         code7600: v.flag(numbers::CODE7600),
         faa: v.flag(numbers::FAA),
-        range: FineRange(v.word(numbers::RANGE)),
-        azimuth: FineAzimuth(v.word(numbers::AZIMUTH)),
+        range: Range(v.word(numbers::RANGE)),
+        azimuth: Azimuth(v.word(numbers::AZIMUTH)),
         confidence: v.flag(numbers::CONFIDENCE),
         transition: v.flag(numbers::TRANSITION),
         false_target: v.flag(numbers::FALSE_TARGET),
@@ -230,8 +230,8 @@ fn mtd_given(v: &Values) -> Mtd
     Mtd {
         test: v.flag(numbers::TEST),
         faa: v.flag(numbers::FAA),
-        range: FineRange(v.word(numbers::RANGE)),
-        azimuth: FineAzimuth(v.word(numbers::AZIMUTH)),
+        range: Range(v.word(numbers::RANGE)),
+        azimuth: Azimuth(v.word(numbers::AZIMUTH)),
         aims: v.flag(numbers::AIMS),
         time: Time(v.byte(numbers::TIME)),
         doppler1: v.byte(numbers::DOPPLER1),
@@ -250,8 +250,8 @@ fn rdas_given(v: &Values) -> Rdas
     Rdas {
         test: v.flag(numbers::TEST),
         faa: v.flag(numbers::FAA),
-        range: FineRange(v.word(numbers::RANGE)),
-        azimuth: FineAzimuth(v.word(numbers::AZIMUTH)),
+        range: Range(v.word(numbers::RANGE)),
+        azimuth: Azimuth(v.word(numbers::AZIMUTH)),
         aims: v.flag(numbers::AIMS),
         time: Time(v.byte(numbers::TIME)),
         file: v.word(numbers::FILE),
