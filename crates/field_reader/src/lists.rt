@@ -1,5 +1,6 @@
 // The entries of a list that is read, and their numbers: altimeter blocks of 8 bits with a sign, addresses and identifiers of 24.
 // Relies on `bits`; specs/Lists.antt of `fields` and of this crate say what each function means.
+// The bits of an entry tell what it is, as in those definitions: 8 a block. An enum beside them would be no plainer.
 ghost use Rattle.std.specs.Prelude.{◌≡◌, ◌+◌, ◌*◌, ◌<◌, ◌≤◌, ◌^◌, replicate};
 ghost use Rattle.bits.specs.Bits.{bits_of};
 ghost use Rattle.fields.specs.Table.{values_of};
@@ -40,19 +41,6 @@ fn piece(b: &[u8], at: usize, n: usize) -> u64
     }
 }
 
-// One of n blocks, of which the first stands behind `before` bits, is not in use.
-pub fn any_unused(b: &[u8], before: usize, n: usize) -> bool
-    requires { (before ≤ 4096) × (n ≤ 64) }
-    ensures { result ≡ any_unused (values_of b.now before (replicate n 8)) }
-{
-    for k in 0..n {
-        if block_unused(piece(b, before + 8 * k, 8)) {
-            return true;
-        }
-    }
-    false
-}
-
 // The number of an entry of `step` bits.
 fn entry_of(step: usize, x: u64) -> i32
     requires { (step ≤ 24) × (x < 2 ^ step) }
@@ -64,25 +52,52 @@ fn entry_of(step: usize, x: u64) -> i32
     signed_of(false, x)
 }
 
-// The number of entry k of n, of `step` bits each, of which the first stands behind `before` bits; zero from the count on.
-fn entry_at(b: &[u8], before: usize, step: usize, n: usize, k: usize) -> i32
-    requires { (before ≤ 4096) × (step ≤ 24) × (k < 30) }
-    ensures { result ≡ entry_at b.now before step n k }
-{
-    if k < n {
-        return entry_of(step, piece(b, before + step * k, step));
-    }
-    0
+// Entries that are read: n of `step` bits each, of which the first stands behind `before` bits.
+#[derive(Drop)]
+pub struct Entries<'a> {
+    pub bytes: &'a [u8],
+    pub before: usize,
+    pub step: usize,
+    pub n: usize,
+    ghost near: { before ≤ 4096 },
+    ghost narrow: { step ≤ 24 },
+    ghost few: { n ≤ 64 },
 }
 
-// Thirty numbers: those of n entries, and zeros.
-pub fn entries(b: &[u8], before: usize, step: usize, n: usize) -> [i32; 30]
-    requires { (before ≤ 4096) × (step ≤ 24) }
-    ensures { result ≡ entries_in step 30 (values_of b.now before (replicate n step)) }
-{
-    let mut v = [0i32; 30];
-    for (k, entry) in v.iter_mut().enumerate() {
-        *entry = entry_at(b, before, step, n, k);
+impl<'a> Entries<'a> {
+    // One of these blocks is not in use.
+    pub fn any_unused(&self) -> bool
+        requires { self.now.step ≡ 8 }
+        ensures { result ≡ any_unused (values_of self.now.bytes.now self.now.before (replicate self.now.n 8)) }
+    {
+        for k in 0..self.n {
+            if block_unused(piece(self.bytes, self.before + 8 * k, 8)) {
+                return true;
+            }
+        }
+        false
     }
-    v
+
+    // The number of entry k; zero from the count on.
+    fn at(&self, k: usize) -> i32
+        requires { k < 30 }
+        ensures { result ≡ entry_at self.now.bytes.now self.now.before self.now.step self.now.n k }
+    {
+        if k < self.n {
+            let x = piece(self.bytes, self.before + self.step * k, self.step);
+            return entry_of(self.step, x);
+        }
+        0
+    }
+
+    // Thirty numbers: those of the entries, and zeros.
+    pub fn numbers(&self) -> [i32; 30]
+        ensures { result ≡ entries_in self.now.step 30 (values_of self.now.bytes.now self.now.before (replicate self.now.n self.now.step)) }
+    {
+        let mut v = [0i32; 30];
+        for (k, entry) in v.iter_mut().enumerate() {
+            *entry = self.at(k);
+        }
+        v
+    }
 }

@@ -7,7 +7,8 @@ ghost use Rattle.fields.specs.Lists.{entries_in};
 ghost use Rattle.fields.specs.Reading.{type_of, values_at, sized_by, block_count, listed_as};
 ghost use Rattle.field_reader.specs.Steps.{judged_by};
 
-use crate::{lists, parts};
+use crate::lists::Entries;
+use crate::parts;
 use fields::{Behind, Field, Row, records, table};
 use refusals::FieldRefusal;
 
@@ -88,7 +89,13 @@ impl<'a> Typed<'a> {
         if found.unused {
             return Err(FieldRefusal::ValueNotInUse);
         }
-        if lists::any_unused(self.bytes, self.before + self.row.base, self.block_count()) {
+        let blocks = Entries {
+            bytes: self.bytes,
+            before: self.before + self.row.base,
+            step: 8,
+            n: self.block_count(),
+        };
+        if blocks.any_unused() {
             return Err(FieldRefusal::ValueNotInUse);
         }
         Ok(records::field_at(self.place, self.values))
@@ -100,11 +107,15 @@ impl<'a> Typed<'a> {
         ensures { result
             ≡ entries_in self.now.row.step 30 (values_of self.now.bytes.now (self.now.before + self.now.row.base) (replicate (listed_as self.now.row self.now.values) self.now.row.step)) }
     {
-        let at = self.before + self.row.base;
         if self.row.behind() == Behind::Text {
-            lists::entries(self.bytes, at, 0, 0)
-        } else {
-            lists::entries(self.bytes, at, self.row.step, self.steps())
+            return [0; 30];
         }
+        let entries = Entries {
+            bytes: self.bytes,
+            before: self.before + self.row.base,
+            step: self.row.step,
+            n: self.steps(),
+        };
+        entries.numbers()
     }
 }

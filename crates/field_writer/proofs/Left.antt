@@ -3,16 +3,18 @@ use Rattle.std.specs.Prelude.{Err, None, Ok, Result, Some}
 use mathlib.Core.Path.{◌≡◌, refl, ap}
 use mathlib.Core.List.{List}
 use mathlib.Core.Bool.{true}
-use Prim.Native.Nat.{ℕ}
+use Prim.Native.Nat.{ℕ, ◌<◌}
 use lib.IntN.{ℤ}
 use lib.ListN.{length, get_or}
 use borrow.Author.Tests.{not-false}
 use Rattle.rows.proofs.Claims.{accepted_exactly}
 use Rattle.refusals.specs.declared.FieldRefusal.TheVariants.{NotWritable}
 use Rattle.fields.specs.declared.Record.{Record}
-use Rattle.fields.specs.Table.{place_of}
-use Rattle.fields.specs.Writing.{numbers_in, takes_at, takes, bits_at, bits_in, put_field, put_in, written_of, left_as, left_of}
+use Rattle.fields.specs.declared.Row.{Row}
+use Rattle.fields.specs.Table.{place_of, row_at, widths_at, RowSmall}
+use Rattle.fields.specs.Writing.{numbers_in, fit_all, takes_at, takes, bits_at, bits_in, put_field, put_in, written_of, left_as, left_of}
 use Rattle.fields.proofs.Exactly.{is_written}
+use Rattle.fields.proofs.Taking.{taken, taken_small}
 use Rattle.field_writer.specs.Steps.{rows_at, written_at, left_at}
 use Rattle.refusals.specs.declared.FieldRefusal.{FieldRefusal}
 
@@ -36,3 +38,11 @@ module _ (r : Record) (l : List ℤ) (t s : List ℕ) where
   pub unplaced : place_of (get_or (numbers_in r) 0 0) ≡ None → (written_of r l t s ≡ Err NotWritable) × (left_of r l t s ≡ s)
   unfolding written_of left_of takes
   unplaced e = rw e (refl, refl)
+
+-- of values that fit, and so of a record that is taken, the numbers are small
+module _ (i : ℕ) (r : Record) (row : Row) (v : List ℕ) (h : i < 22) (p : row ≡ row_at i) (q : v ≡ numbers_in r) where
+  pub fits_small : fit_all (widths_at i) v ≡ true → RowSmall row v
+  fits_small e = rw (p, q) (taken_small i r h (rw q at e))
+
+  pub taken_row : (l : List ℤ) (t : ℕ) → takes_at i r l t ≡ true → RowSmall row v
+  taken_row l t e = rw (p, q) (taken_small i r h (taken i r l t e).fits)

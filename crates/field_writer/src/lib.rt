@@ -3,5 +3,7 @@
 // numbers of what is refused.
 #![tactic(auto)]
 
+mod puts; // the parts and the bytes of a text, one by one
+mod given; // what is to be written, with what the table says of its type: its refusals, its bits
 mod lists; // the entries of a list: altimeter blocks, addresses, identifiers
 pub mod writing; // the calls that write

@@ -1,6 +1,6 @@
 // The known types (document 01, "Link data fields"): one constant table, looked up by the reader and the writer alike. A type's parts go by the
-// place of its row: eleven widths and eleven rules; a type with fewer has parts of no bits behind them. Those are a `match` on the place and no
-// constant array, since of a constant array the compiler makes a copy at each look into it.
+// place of its row: eleven widths and eleven rules; a type with fewer has parts of no bits behind them. Those are a `match` on the place, so that
+// each stands in one line with its type.
 // Types that are known but not carried have no row: `unknown` of `field_reader` names them.
 // Relies on nothing but the names; specs/Table.antt says what the table holds.
 ghost use Rattle.std.specs.Prelude.{◌≡◌, ◌-◌, ◌≤◌, ◌++◌, map, replicate};

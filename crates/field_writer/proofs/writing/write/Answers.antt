@@ -1,18 +1,21 @@
--- `field_writer::writing::write` meets its contract. Assumes nothing.
+-- `field_writer::writing::write` meets its contract: a refusal leaves the bytes as they were. Assumes nothing.
 use mathlib.Core.Path.{sym, ◌∙◌}
-use Rattle.fields.proofs.Rows.{found_within}
-use Rattle.field_writer.proofs.Left.{placed, unplaced}
+use Rattle.field_writer.proofs.Left.{placed, unplaced, left_by}
 use Rattle.field_writer.proofs.writing.write.Goals as goal
 
-pub returns-in_default : goal.returns-in_default
-returns-in_default c = let k = unplaced _ _ _ _ (sym c.place_in.ensures ∙ c.in_default.is) in record { answer = sym k.0; left = sym k.1 }
+pub returns-in_default-clause-left : goal.returns-in_default-clause-left
+returns-in_default-clause-left c = let a = c.args in sym (unplaced a.given a.list a.text.now a.s.now c.in_default.ensures).1
 
-pub write_at-requires : goal.write_at-requires
-write_at-requires c =
-    found_within _ _ (sym c.place_in.ensures ∙ c.in-Some.is)
+pub returns-in_err-n-clause-left : goal.returns-in_err-n-clause-left
+returns-in_err-n-clause-left c =
+    let a = c.args in
+    let g = c.in-Some.ensures in
+    let w = rw (g.1, g.2, g.3) at c.answer.ensures in
+    sym ((placed a.given a.list a.text.now a.s.now _ g.0).1 ∙ left_by a.given a.list a.text.now a.s.now _ _ (sym w ∙ c.in_err-n.was))
 
-pub returns : goal.returns
-returns c =
-    let p = placed _ _ _ _ _ (sym c.place_in.ensures ∙ c.in-Some.is) in
-    let w = c.write_at.ensures in
-    record { answer = w.answer ∙ sym p.0; left = w.left ∙ sym p.1 }
+pub returns-clause-left : goal.returns-clause-left
+returns-clause-left c =
+    let a = c.args in
+    let g = c.in-Some.ensures in
+    let w = rw (g.1, g.2, g.3) at c.answer.ensures in
+    rw (c.put.ensures, g.1, g.2, g.3) (sym ((placed a.given a.list a.text.now a.s.now _ g.0).1 ∙ left_by a.given a.list a.text.now a.s.now _ _ (sym w ∙ c.in_ok-n.was)))
