@@ -37,5 +37,5 @@ pub extern "C" fn siamrung_field_write_refusal(
     ensures { result ≡ written_number (written_of (given code told.now list.now) (list_given list.now) text.now bytes.now) }
 {
     let record = given::record_of(code, told, list);
-    u32::from(writing::number(writing::answer(bytes, record, given::list_given(list), text)))
+    u32::from(fields::number(writing::answer(bytes, record, given::list_given(list), text)))
 }
