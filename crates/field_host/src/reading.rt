@@ -114,11 +114,7 @@ pub extern "C" fn siamrung_field_entries(bytes: &[u8], count: usize, from_sensor
 fn entry(list: [i32; 30], index: usize) -> i64
     ensures { result ≡ get_or list index (pos 0) }
 {
-    if index < 30 {
-        i64::from(list[index])
-    } else {
-        0
-    }
+    i64::from(list.get(index).copied().unwrap_or(0))
 }
 
 // 0 from siamrung_field_entries on: the list is zero from its count on.
