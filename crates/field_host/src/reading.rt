@@ -7,23 +7,14 @@ ghost use Rattle.fields.specs.Reading.{answer_of, answer_number, read_field, tex
 ghost use Rattle.field_host.specs.Reading.{way_of, outer_of, inner_type, type_of, item_in, is_there, entries_of};
 
 use field_items::items;
+use field_reader::reading;
 use fields::{Direction, Record};
 use refusals::FieldRefusal;
-
-fn way(from_sensor: u32) -> Direction
-    ensures { result ≡ way_of from_sensor }
-{
-    if from_sensor == 0 {
-        Direction::ToSensor
-    } else {
-        Direction::FromSensor
-    }
-}
 
 fn answer(bytes: &[u8], count: usize, from_sensor: u32) -> Result<Record, FieldRefusal>
     ensures { result ≡ answer_of bytes.now count (way_of from_sensor) }
 {
-    field_reader::reading::judge(bytes, count, way(from_sensor))
+    reading::judge(bytes, count, Direction::from(from_sensor))
 }
 
 // ---- what the field is
@@ -32,7 +23,7 @@ fn answer(bytes: &[u8], count: usize, from_sensor: u32) -> Result<Record, FieldR
 pub extern "C" fn siamrung_field_refusal(bytes: &[u8], count: usize, from_sensor: u32) -> u32
     ensures { result ≡ answer_number (answer_of bytes.now count (way_of from_sensor)) }
 {
-    field_reader::reading::number(answer(bytes, count, from_sensor)) as u32
+    u32::from(fields::number(answer(bytes, count, from_sensor)))
 }
 
 fn outer(r: Record) -> u32
@@ -40,29 +31,20 @@ fn outer(r: Record) -> u32
 {
     match r {
         Record::Single(f) => items::type_of(f),
-        Record::Relay {
-            sensor: _,
-            inner: _,
-        } => 0x03,
+        Record::Relay { .. } => 0x03,
     }
 }
 
 fn outer_type(a: Result<Record, FieldRefusal>) -> u32
     ensures { result ≡ type_of a }
 {
-    match a {
-        Ok(r) => outer(r),
-        Err(_) => 0,
-    }
+    a.map_or(0, outer)
 }
 
 fn inner_type(a: Result<Record, FieldRefusal>) -> u32
     ensures { result ≡ inner_type a }
 {
-    match a {
-        Ok(r) => items::inner(r),
-        Err(_) => 0,
-    }
+    a.map_or(0, items::inner)
 }
 
 // The type; 3 for a relay, 0 where the field is refused.
@@ -86,21 +68,14 @@ pub extern "C" fn siamrung_field_inner_type(bytes: &[u8], count: usize, from_sen
 fn item_in(a: Result<Record, FieldRefusal>, item: u32) -> Option<u64>
     ensures { result ≡ item_in a item }
 {
-    match a {
-        Ok(r) => items::item_of(r, item as u64),
-        Err(_) => None,
-    }
+    items::item_of(a.ok()?, u64::from(item))
 }
 
 #[unsafe(no_mangle)]
 pub extern "C" fn siamrung_field_has(bytes: &[u8], count: usize, from_sensor: u32, item: u32) -> u32
     ensures { result ≡ is_there (item_in (answer_of bytes.now count (way_of from_sensor)) item) }
 {
-    let found = item_in(answer(bytes, count, from_sensor), item);
-    match found {
-        Some(_) => 1,
-        None => 0,
-    }
+    u32::from(item_in(answer(bytes, count, from_sensor), item).is_some())
 }
 
 // 0 where there is none, which siamrung_field_has tells.
@@ -113,31 +88,20 @@ pub extern "C" fn siamrung_field_item(
 ) -> u64
     ensures { result ≡ value_of (item_in (answer_of bytes.now count (way_of from_sensor)) item) }
 {
-    items::value(item_in(answer(bytes, count, from_sensor), item))
+    item_in(answer(bytes, count, from_sensor), item).unwrap_or(0)
 }
 
 // ---- its list
 
-// The bits behind the first 16.
-fn behind(count: usize) -> usize
-    ensures { result ≡ count - 16 }
-{
-    if 16 <= count { count - 16 } else { 0 }
-}
-
+// What stands behind the first 16 bits, by the bits of an entry.
 fn entries(code: u32, count: usize) -> usize
     ensures { result ≡ entries_of code count }
 {
-    if code == 0x9B {
-        return behind(count) / 8;
+    match code {
+        0x9B => count.saturating_sub(16) / 8,
+        0x9A | 0x96 => count.saturating_sub(16) / 24,
+        _ => 0,
     }
-    if code == 0x9A {
-        return behind(count) / 24;
-    }
-    if code == 0x96 {
-        return behind(count) / 24;
-    }
-    0
 }
 
 #[unsafe(no_mangle)]
@@ -150,12 +114,7 @@ pub extern "C" fn siamrung_field_entries(bytes: &[u8], count: usize, from_sensor
 fn entry(list: [i32; 30], index: usize) -> i64
     ensures { result ≡ get_or list index (pos 0) }
 {
-    if index < 30 {
-        let z = list[index];
-        z as i64
-    } else {
-        0
-    }
+    i64::from(list.get(index).copied().unwrap_or(0))
 }
 
 // 0 from siamrung_field_entries on: the list is zero from its count on.
@@ -168,9 +127,10 @@ pub extern "C" fn siamrung_field_entry(
 ) -> i64
     ensures { result ≡ get_or (read_field bytes.now count (way_of from_sensor)).list index (pos 0) }
 {
-    let found = field_reader::reading::read(bytes, count, way(from_sensor));
-    let list = found.list;
-    entry(list, index)
+    entry(
+        reading::read(bytes, count, Direction::from(from_sensor)).list,
+        index,
+    )
 }
 
 // ---- its text, which runs to the end of the bytes
@@ -179,14 +139,14 @@ pub extern "C" fn siamrung_field_entry(
 pub extern "C" fn siamrung_field_text_length(bytes: &[u8], count: usize, from_sensor: u32) -> usize
     ensures { result ≡ length (text_of bytes.now count (way_of from_sensor)) }
 {
-    let t = field_reader::reading::text(bytes, count, way(from_sensor));
-    t.len()
+    reading::text(bytes, count, Direction::from(from_sensor)).len()
 }
 
 #[unsafe(no_mangle)]
 pub extern "C" fn siamrung_field_text_place(bytes: &[u8], count: usize, from_sensor: u32) -> usize
     ensures { result ≡ length bytes.now - length (text_of bytes.now count (way_of from_sensor)) }
 {
-    let n = siamrung_field_text_length(bytes, count, from_sensor);
-    if n <= bytes.len() { bytes.len() - n } else { 0 }
+    bytes
+        .len()
+        .saturating_sub(siamrung_field_text_length(bytes, count, from_sensor))
 }

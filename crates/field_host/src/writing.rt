@@ -7,16 +7,7 @@ ghost use Rattle.field_items.specs.Given.{given, list_given};
 ghost use Rattle.field_host.specs.Writing.{bits_of};
 
 use field_items::given;
-use refusals::FieldRefusal;
-
-fn bits_of(w: Result<usize, FieldRefusal>) -> usize
-    ensures { result ≡ bits_of w }
-{
-    match w {
-        Ok(n) => n,
-        Err(_) => 0,
-    }
-}
+use field_writer::writing;
 
 // Writes the field. Answers how many bits it has; 0 where it is refused and every byte left as it was.
 #[unsafe(no_mangle)]
@@ -30,9 +21,8 @@ pub extern "C" fn siamrung_field_write(
     ensures answer { result ≡ bits_of (written_of (given code told.now list.now) (list_given list.now) text.now bytes.old) }
     ensures left { bytes.new ≡ left_of (given code told.now list.now) (list_given list.now) text.now bytes.old }
 {
-    let r = given::record_of(code, told, list);
-    let l = given::list_given(list);
-    bits_of(field_writer::writing::write(bytes, r, l, text))
+    let record = given::record_of(code, told, list);
+    writing::write(bytes, record, given::list_given(list), text).unwrap_or(0)
 }
 
 // Why the same call of siamrung_field_write is refused; 0 where it is not. Writes nothing.
@@ -46,7 +36,6 @@ pub extern "C" fn siamrung_field_write_refusal(
 ) -> u32
     ensures { result ≡ written_number (written_of (given code told.now list.now) (list_given list.now) text.now bytes.now) }
 {
-    let r = given::record_of(code, told, list);
-    let l = given::list_given(list);
-    field_writer::writing::number(field_writer::writing::answer(bytes, r, l, text)) as u32
+    let record = given::record_of(code, told, list);
+    u32::from(fields::number(writing::answer(bytes, record, given::list_given(list), text)))
 }

@@ -1,15 +1,15 @@
 -- What a record's own items say of each record: which place its type has, and that what is made of the items is the record. By cases of the
 -- record, each of which antt computes. Assumes nothing.
-use Rattle.std.specs.Prelude.{None, Option, Some}
+use Rattle.std.specs.Prelude.{None, Some}
 use Prim.Native.Nat.{ℕ, ◌+◌, ◌-◌, ◌≤◌}
 use mathlib.Core.Path.{◌≡◌, refl, ◌∙◌}
 use mathlib.Core.List.{List}
-use mathlib.Core.Bool.{false, cond, ◌&&◌}
+use mathlib.Core.Bool.{◌&&◌}
 use native.Mathlib.Omega.{arith}
 use lib.Dec.{T, leb, leb→le}
 use lib.ListN.{get_or}
 use borrow.Author.Tests.{le-leb}
-use Rattle.pairs.specs.Pairs.{Pair, find_in, is_found, value_of, gathered_from}
+use Rattle.pairs.specs.Pairs.{Pair, find_in, gathered_from}
 use Rattle.pairs.proofs.Laws.{each_at}
 use Rattle.fields.specs.declared.Field.{Field}
 use Rattle.fields.specs.declared.Field.TheVariants as F
@@ -98,11 +98,7 @@ pub found_of : (ps : List Pair) (n : ℕ) → 201 ≤ n → n ≤ 237 → found_
 unfolding found_in gathered_from
 found_of ps n l h =
     let e : 201 + (n - 201) ≡ n = omega arith in
-    rw (le-leb 201 n l, each_at is_found 201 37 (n - 201) false ps (omega arith), each_at value_of 201 37 (n - 201) 0 ps (omega arith), e) (whole (find_in n ps))
-  where
-    whole : (x : Option ℕ) → cond (is_found x) (Some (value_of x)) None ≡ x
-    whole (Some v) = refl
-    whole None = refl
+    rw (le-leb 201 n l, each_at (λ x. x) 201 37 (n - 201) None ps (omega arith), e) refl
 
 -- such an item, where it is not the sensor
 says : (f : Field) (ps : List Pair) → ((n : ℕ) → (n ≡ 237 → ⊥) → find_in n ps ≡ find_in n (items_of_field f)) → (n : ℕ) → T (leb 201 n && leb n 236)

@@ -1,7 +1,6 @@
 -- What is given for a link data field: the record of a type and its items, and the list. Definitions only.
 use Rattle.std.specs.Prelude.{ℕ, zero, suc, ◌+◌, ◌-◌, ◌%◌, Bool, true, false, cond, ◌&&◌, List, [], ◌∷◌, eqb, ltb, leb, ℤ, pos, negsuc, length, get_or, None, Option, Some}
 use Rattle.bits.specs.Bits as B
-use Rattle.pairs.specs.declared.Gathered.{Gathered}
 use Rattle.pairs.specs.Pairs.{Pair, pairs_in, value_of, gathered_from}
 use Rattle.fields.specs.declared.Field.{Field}
 use Rattle.fields.specs.declared.Field.TheVariants.{AtcFailure}
@@ -14,21 +13,20 @@ use Rattle.field_items.specs.Items.{address, sensor, items_at, items_of, inner_o
 -- ---- the record that is made of the pairs given
 
 -- what is gathered of the number n, of what is gathered from the first item on; nothing of what is no item
-unfoldable pub found_in : Gathered → ℕ → Option ℕ
-found_in t n =
-    cond (leb address n) (cond (get_or t.there (n - address) false) (Some (get_or t.values (n - address) 0)) None) None
+unfoldable pub found_in : List (Option ℕ) → ℕ → Option ℕ
+found_in t n = cond (leb address n) (get_or t (n - address) None) None
 
 -- the value of part k, of parts with these items; 0 where it is not given
-abbrev part_given : Gathered → List ℕ → ℕ → ℕ
+abbrev part_given : List (Option ℕ) → List ℕ → ℕ → ℕ
 part_given t ks k = value_of (found_in t (get_or ks k 0))
 
-abbrev field_by : Gathered → List ℕ → ℕ → Field
+abbrev field_by : List (Option ℕ) → List ℕ → ℕ → Field
 field_by t ks i =
     field_at i (part_given t ks 1) (part_given t ks 2) (part_given t ks 3) (part_given t ks 4) (part_given t ks 5) (part_given t ks 6)
     (part_given t ks 7) (part_given t ks 8) (part_given t ks 9) (part_given t ks 10)
 
 -- of the type at place i
-unfoldable pub field_given : Gathered → ℕ → Field
+unfoldable pub field_given : List (Option ℕ) → ℕ → Field
 field_given t i = field_by t (items_at i) i
 
 -- a sensor that is given makes a relay of it
@@ -36,7 +34,7 @@ abbrev pub relay_by : Option ℕ → Field → Record
 relay_by (Some x) f = Relay x f
 relay_by None f = Single f
 
-abbrev pub record_given : Gathered → ℕ → Record
+abbrev pub record_given : List (Option ℕ) → ℕ → Record
 record_given t i = relay_by (found_in t sensor) (field_given t i)
 
 -- ---- the pairs given are the record's items: each of those is given, with its value, and there are as many
@@ -47,19 +45,19 @@ same_found (Some x) None = false
 same_found None (Some y) = false
 same_found None None = true
 
-unfoldable pub covers : Gathered → List Pair → Bool
+unfoldable pub covers : List (Option ℕ) → List Pair → Bool
 covers t [] = true
 covers t (q ∷ qs) = same_found (found_in t q.0) (Some q.1) && covers t qs
 
 -- of a type, so many pairs and what they tell
-unfoldable pub fits : ℕ → ℕ → Gathered → Record → Bool
+unfoldable pub fits : ℕ → ℕ → List (Option ℕ) → Record → Bool
 fits c n t r = eqb (inner_of r) c && (eqb n (length (items_of r)) && covers t (items_of r))
 
 -- what is no record: one that is refused with 30, whatever list and text go with it, since state 0 is not in use
 abbrev pub unfit : Record
 unfit = Single (AtcFailure 0)
 
-abbrev pub checked_by : ℕ → ℕ → Gathered → ℕ → Record
+abbrev pub checked_by : ℕ → ℕ → List (Option ℕ) → ℕ → Record
 checked_by c n t i = cond (fits c n t (record_given t i)) (record_given t i) unfit
 
 unfoldable pub checked_at : ℕ → List Pair → ℕ → Record

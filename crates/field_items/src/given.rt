@@ -3,159 +3,140 @@
 // many pairs as items. So one rule finds an item that is missing, foreign or given twice. Where the items are no record, the answer is a record
 // that the writer refuses with 30.
 // Relies on fields for the records, pairs for what is given, items for the parts; specs/Given.antt says what each function gives.
-ghost use Rattle.std.specs.Prelude.{◌≡◌, ◌<◌, true, cond, eqb};
-ghost use Rattle.pairs.specs.Pairs.{pairs_in, value_of};
+ghost use Rattle.std.specs.Prelude.{◌≡◌, ◌<◌, ℕ, true, cond, eqb, slice_index, unwrap_or};
+ghost use Rattle.pairs.specs.Pairs.{value_of};
 ghost use Rattle.field_items.specs.Items.{pairs_by, items_of_field, items_of};
-ghost use Rattle.field_items.specs.Given.{found_in, field_given, record_given, same_found, covers, fits, unfit, checked_by, checked_at, given, signed_of, list_given};
+ghost use Rattle.field_items.specs.Given.{found_in, record_given, same_found, covers, fits, unfit, given, signed_of, list_given};
 
 use crate::items;
 use fields::{Field, Record, records, table};
-use pairs::Gathered;
+use pairs::SLOTS;
 
 // The first item's number: there are thirty-seven.
 const FIRST: u64 = 201;
 
-// ---- the record
+// What is given for each item's number, from the first one on.
+#[derive(Drop)]
+struct Gathered([Option<u64>; SLOTS]);
 
-// What is gathered of an item; nothing of a number that is none.
-fn found(gathered: Gathered, item: u64) -> Option<u64>
-    ensures { result ≡ found_in gathered item }
-{
-    let there = gathered.there;
-    let values = gathered.values;
-    if item < FIRST {
-        return None;
+impl Gathered {
+    // ---- the record
+
+    // What is given for an item; nothing for a number that is none.
+    fn found(&self, item: u64) -> Option<u64>
+        ensures { result ≡ found_in self.now.0 item }
+    {
+        let k = item.checked_sub(FIRST)? as usize;
+        if k < SLOTS { self.0[k] } else { None }
     }
-    let k = item - FIRST;
-    if 37 <= k {
-        return None;
+
+    // Its value; 0 where it is not given.
+    fn value(&self, item: u64) -> u64
+        ensures { result ≡ value_of (found_in self.now.0 item) }
+    {
+        self.found(item).unwrap_or(0)
     }
-    if there[k as usize] {
-        Some(values[k as usize])
-    } else {
-        None
+
+    // Theirs, item by item.
+    fn values(&self, items: [u64; 11]) -> [u64; 11]
+        ensures { (k : ℕ) → k < 11 → slice_index result k ≡ value_of (found_in self.now.0 (slice_index items k)) }
+    {
+        let mut v = [0; 11];
+        for (k, x) in v.iter_mut().enumerate() {
+            *x = self.value(items[k]);
+        }
+        v
     }
-}
 
-fn value(gathered: Gathered, item: u64) -> u64
-    ensures { result ≡ value_of (found_in gathered item) }
-{
-    items::value(found(gathered, item))
-}
-
-// The field of the type at place i, of what is gathered of its items.
-fn field_given(gathered: Gathered, i: usize) -> Field
-    requires { i < 22 }
-    ensures { result ≡ field_given gathered i }
-{
-    let k = items::items_at(i);
-    records::field_at(
-        i,
-        value(gathered, k[1]),
-        value(gathered, k[2]),
-        value(gathered, k[3]),
-        value(gathered, k[4]),
-        value(gathered, k[5]),
-        value(gathered, k[6]),
-        value(gathered, k[7]),
-        value(gathered, k[8]),
-        value(gathered, k[9]),
-        value(gathered, k[10]),
-    )
-}
-
-// A sensor that is given makes a relay of it.
-fn record_given(gathered: Gathered, i: usize) -> Record
-    requires { i < 22 }
-    ensures { result ≡ record_given gathered i }
-{
-    let f = field_given(gathered, i);
-    let s = found(gathered, items::SENSOR);
-    match s {
-        Some(x) => Record::Relay {
-            sensor: x,
-            inner: f,
-        },
-        None => Record::Single(f),
-    }
-}
-
-// ---- the comparison
-
-// An item is gathered, with this value.
-fn tells(gathered: Gathered, item: u64, value: u64) -> bool
-    ensures { result ≡ same_found (found_in gathered item) (Some value) }
-{
-    let f = found(gathered, item);
-    match f {
-        Some(x) => x == value,
-        None => false,
-    }
-}
-
-// A part is no item, or is gathered with this value.
-fn tells_part(gathered: Gathered, item: u64, value: u64) -> bool
-    ensures { result ≡ cond (eqb item 0) true (same_found (found_in gathered item) (Some value)) }
-{
-    if item == 0 {
-        true
-    } else {
-        tells(gathered, item, value)
-    }
-}
-
-// All of these parts that are items are gathered, with these values.
-fn tells_parts(gathered: Gathered, items: [u64; 11], v: [u64; 11]) -> bool
-    ensures { result ≡ covers gathered (pairs_by items v) }
-{
-    let mut i: usize = 0;
-    while i < 11 {
-        if tells_part(gathered, items[i], v[i]) {
-            i += 1;
-        } else {
-            return false;
+    // The record of the type at place i, of what is given for its items. A sensor that is given makes a relay of it.
+    fn record(&self, i: usize) -> Record
+        requires { i < 22 }
+        ensures { result ≡ record_given self.now.0 i }
+    {
+        let inner = records::field_at(i, self.values(items::items_at(i)));
+        match self.found(items::SENSOR) {
+            Some(sensor) => Record::Relay { sensor, inner },
+            None => Record::Single(inner),
         }
     }
-    true
-}
 
-fn tells_field(gathered: Gathered, f: Field) -> bool
-    ensures { result ≡ covers gathered (items_of_field f) }
-{
-    let v = records::numbers(f);
-    let Some(i) = table::find(v[0]) else {
-        return true;
-    };
-    tells_parts(gathered, items::items_at(i), v)
-}
+    // ---- the comparison
 
-// Each of the record's items is gathered, with its value.
-fn tells_all(gathered: Gathered, r: Record) -> bool
-    ensures { result ≡ covers gathered (items_of r) }
-{
-    match r {
-        Record::Single(f) => tells_field(gathered, f),
-        Record::Relay { sensor, inner } => {
-            if tells(gathered, items::SENSOR, sensor) {
-                tells_field(gathered, inner)
-            } else {
-                false
+    // An item is given, with this value.
+    fn tells(&self, item: u64, value: u64) -> bool
+        ensures { result ≡ same_found (found_in self.now.0 item) (Some value) }
+    {
+        self.found(item) == Some(value)
+    }
+
+    // A part is no item, or is given with this value.
+    fn tells_part(&self, item: u64, value: u64) -> bool
+        ensures { result ≡ cond (eqb item 0) true (same_found (found_in self.now.0 item) (Some value)) }
+    {
+        item == 0 || self.tells(item, value)
+    }
+
+    // All of these parts that are items are given, with these values.
+    fn tells_parts(&self, items: [u64; 11], v: [u64; 11]) -> bool
+        ensures { result ≡ covers self.now.0 (pairs_by items v) }
+    {
+        for (item, value) in items.iter().zip(v.iter()) {
+            if !self.tells_part(*item, *value) {
+                return false;
+            }
+        }
+        true
+    }
+
+    #[tactic(auto, using(fields::proofs::Rows::found_within), unfolding(crate::specs::Items::items_of_field, crate::specs::Given::covers))]
+    fn tells_field(&self, f: Field) -> bool
+        ensures { result ≡ covers self.now.0 (items_of_field f) }
+    {
+        let v = records::numbers(f);
+        match table::find(v[0]) {
+            Some(i) => self.tells_parts(items::items_at(i), v),
+            None => true,
+        }
+    }
+
+    // Each of the record's items is given, with its value.
+    #[tactic(auto, unfolding(crate::specs::Given::covers))]
+    fn tells_all(&self, r: Record) -> bool
+        ensures { result ≡ covers self.now.0 (items_of r) }
+    {
+        match r {
+            Record::Single(f) => self.tells_field(f),
+            Record::Relay { sensor, inner } => {
+                self.tells(items::SENSOR, sensor) && self.tells_field(inner)
             }
         }
     }
+
+    // Of so many pairs what they tell are the items of this record, and the type is the record's.
+    #[tactic(auto, unfolding(crate::specs::Given::fits))]
+    fn fits(&self, code: u32, count: usize, r: Record) -> bool
+        ensures { result ≡ fits code count self.now.0 r }
+    {
+        items::inner(r) == code && count == items::count_of(r) && self.tells_all(r)
+    }
 }
 
-// Of so many pairs what they tell are the items of this record, and the type is the record's.
-fn fits(code: u32, count: usize, gathered: Gathered, r: Record) -> bool
-    ensures { result ≡ fits code count gathered r }
+// The record of that type and these items, where they are a record's.
+#[tactic(auto, using(fields::proofs::Rows::found_within), unfolding(crate::specs::Given::given, crate::specs::Given::checked_at))]
+fn checked(code: u32, told: &[u8], list: &[u8]) -> Option<Record>
+    ensures { unwrap_or result unfit ≡ given code told.now list.now }
 {
-    if items::inner(r) != code {
-        return false;
+    if list.len() != 240 || !pairs::whole(told) {
+        return None;
     }
-    if count != items::count_of(r) {
-        return false;
+    let i = table::find(code as u64)?;
+    let gathered = Gathered(pairs::gather(told, FIRST));
+    let record = gathered.record(i);
+    if gathered.fits(code, pairs::count(told), record) {
+        Some(record)
+    } else {
+        None
     }
-    tells_all(gathered, r)
 }
 
 // A record that the writer refuses with 30, whatever list and text are given: state 0 is not in use.
@@ -165,66 +146,29 @@ fn unfit() -> Record
     Record::Single(Field::AtcFailure { state: 0 })
 }
 
-fn checked_by(code: u32, count: usize, gathered: Gathered, i: usize) -> Record
-    requires { i < 22 }
-    ensures { result ≡ checked_by code count gathered i }
-{
-    let r = record_given(gathered, i);
-    if fits(code, count, gathered, r) {
-        return r;
-    }
-    unfit()
-}
-
-fn checked(given: &[u8], code: u32, i: usize) -> Record
-    requires { i < 22 }
-    ensures { result ≡ checked_at code (pairs_in given.now) i }
-{
-    let count = pairs::count(given);
-    checked_by(code, count, pairs::gather(given, FIRST), i)
-}
-
-// The record of that type and these items, which goes with a list of thirty numbers.
+// The record of that type and these items, which goes with a list of thirty numbers; or the one that the writer refuses.
 pub fn record_of(code: u32, gathered: &[u8], list: &[u8]) -> Record
     ensures { result ≡ given code gathered.now list.now }
 {
-    if list.len() != 240 {
-        return unfit();
-    }
-    if !pairs::whole(gathered) {
-        return unfit();
-    }
-    let Some(i) = table::find(code as u64) else {
-        return unfit();
-    };
-    checked(gathered, code, i)
+    checked(code, gathered, list).unwrap_or(unfit())
 }
 
 // ---- the list
 
-// A number of eight bytes in two's complement. One that is too large becomes the least of 32 bits, which no entry holds.
+// A number of eight bytes in two's complement. One that 32 bits do not hold becomes the least that they do, which no entry holds.
 fn signed(x: u64) -> i32
     ensures { result ≡ signed_of x }
 {
-    if x < 2147483648 {
-        return x as i32;
-    }
-    let m = 18446744073709551615 - x;
-    if m < 2147483648 {
-        return -1 - (m as i32);
-    }
-    -2147483648
+    i32::try_from(x.cast_signed()).unwrap_or(i32::MIN)
 }
 
 // Thirty numbers, from the first byte on.
 pub fn list_given(list: &[u8]) -> [i32; 30]
     ensures { result ≡ list_given list.now }
 {
-    let mut v = [0i32; 30];
-    let mut k: usize = 0;
-    while k < 30 {
-        v[k] = signed(bits::read(list, 64 * k, 64));
-        k += 1;
+    let mut v = [0; 30];
+    for (k, x) in v.iter_mut().enumerate() {
+        *x = signed(bits::read(list, 64 * k, 64));
     }
     v
 }

@@ -1,8 +1,8 @@
 // The items of a record: what a C program asks for by number, and gives. Every number is answered: an item that the record has not is Missing.
 // One table says for each type which item each of its parts is; no function goes by type.
 // Relies on fields for a record's parts and a type's place; specs/Items.antt says what the table holds.
-ghost use Rattle.std.specs.Prelude.{◌≡◌, ◌<◌, ◌≤◌, cond, eqb, length, get_or};
-ghost use Rattle.pairs.specs.Pairs.{find_in, value_of};
+ghost use Rattle.std.specs.Prelude.{◌≡◌, ◌<◌, ◌≤◌, length, get_or};
+ghost use Rattle.pairs.specs.Pairs.{find_in};
 ghost use Rattle.fields.specs.Records.{numbers_of};
 ghost use Rattle.field_items.specs.Items.{items_at, tally_of, pairs_by, items_of_field, items_of, item_of, inner_of};
 
@@ -10,7 +10,9 @@ use fields::{Field, Record, records, table};
 
 pub const SENSOR: u64 = 237;
 
-// What the parts of the type at place i are, in the order of the table of types; 0 is no item.
+// What the parts of the type at place i are, in the order of the table of types. 0 is no item: a table of Options would say Some at each number, and
+// is no plainer.
+#[tactic(auto, using(fields::proofs::Rows::last_is), unfolding(crate::specs::Items::item_table, crate::specs::Items::items_at))]
 pub(crate) fn items_at(i: usize) -> [u64; 11]
     requires { i < 22 }
     ensures { result ≡ items_at i }
@@ -70,41 +72,26 @@ fn search(items: [u64; 11], v: [u64; 11], item: u64) -> Option<u64>
     if item == 0 {
         return None;
     }
-    let mut i: usize = 0;
-    while i < 11 {
-        if items[i] == item {
-            return Some(v[i]);
+    for (k, x) in items.iter().zip(v.iter()) {
+        if *k == item {
+            return Some(*x);
         }
-        i += 1;
     }
     None
-}
-
-fn one(item: u64) -> usize
-    ensures { (result ≡ cond (eqb item 0) 0 1) × (result ≤ 1) }
-{
-    if item == 0 { 0 } else { 1 }
 }
 
 // How many of these parts are items.
 fn tally(items: [u64; 11]) -> usize
     ensures { (result ≡ tally_of items) × (result ≤ 11) }
 {
-    let mut n: usize = 0;
-    let mut i: usize = 0;
-    while i < 11 {
-        n += one(items[i]);
-        i += 1;
-    }
-    n
+    items.iter().filter(|k| **k != 0).count()
 }
 
 // The type of a field that is no relay.
 pub fn type_of(f: Field) -> u32
     ensures { result ≡ get_or (numbers_of f) 0 0 }
 {
-    let v = records::numbers(f);
-    v[0] as u32
+    records::numbers(f)[0] as u32
 }
 
 // The type that a record's items speak of: of a relay that of the field inside.
@@ -117,24 +104,24 @@ pub fn inner(r: Record) -> u32
     }
 }
 
+#[tactic(auto, using(fields::proofs::Rows::found_within), unfolding(crate::specs::Items::items_of_field, pairs::specs::Pairs::find_in))]
 fn field_item(f: Field, item: u64) -> Option<u64>
     ensures { result ≡ find_in item (items_of_field f) }
 {
     let v = records::numbers(f);
-    let Some(i) = table::find(v[0]) else {
-        return None;
-    };
+    let i = table::find(v[0])?;
     search(items_at(i), v, item)
 }
 
+#[tactic(auto, using(fields::proofs::Rows::found_within), unfolding(crate::specs::Items::items_of_field))]
 fn field_count(f: Field) -> usize
     ensures { (result ≡ length (items_of_field f)) × (result ≤ 11) }
 {
     let v = records::numbers(f);
-    let Some(i) = table::find(v[0]) else {
-        return 0;
-    };
-    tally(items_at(i))
+    match table::find(v[0]) {
+        Some(i) => tally(items_at(i)),
+        None => 0,
+    }
 }
 
 // A relay's sensor stands beside the items of the field inside.
@@ -163,15 +150,5 @@ pub fn count_of(given: Record) -> usize
     match given {
         Record::Single(f) => field_count(f),
         Record::Relay { sensor: _, inner } => 1 + field_count(inner),
-    }
-}
-
-// The value; 0 where there is none.
-pub fn value(f: Option<u64>) -> u64
-    ensures { result ≡ value_of f }
-{
-    match f {
-        Some(x) => x,
-        None => 0,
     }
 }

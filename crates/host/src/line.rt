@@ -10,7 +10,7 @@ ghost use Rattle.report_items.specs.Items.{is_of, value_of};
 ghost use Rattle.host.specs.Line.{version, kind_number_of, refusal_of, item_at, counted_at, has, range_of, azimuth_of, time_of, Shows};
 
 use lines::{Outcome, Received, What};
-use measures::{CoarseAzimuth, CoarseRange, Measured, Time};
+use measures::{Azimuth, COARSE_AZIMUTH, COARSE_RANGE, Measured, Range, Time};
 use report_items::items;
 use reports::altitude::Form;
 use reports::{kinds, values};
@@ -47,15 +47,14 @@ fn received_at(bytes: &[u8], place: usize, form: u32, link: u32) -> Received
 fn outcome_at(bytes: &[u8], place: usize, form: u32, link: u32) -> Outcome
     ensures { result ≡ (read_bytes_on (chosen form) link bytes.now place).outcome }
 {
-    let received = received_at(bytes, place, form, link);
-    received.outcome
+    received_at(bytes, place, form, link).outcome
 }
 
 fn kind_number(what: What) -> u32
     ensures { result ≡ kind_number_of what }
 {
     match what {
-        What::Accepted(report) => u8::from(kinds::kind_of(report)) as u32,
+        What::Accepted(report) => u32::from(u8::from(kinds::kind_of(report))),
         What::Refused(_) => REFUSED,
         What::End => END,
     }
@@ -65,9 +64,8 @@ fn refusal_number(what: What) -> u32
     ensures { result ≡ refusal_of what }
 {
     match what {
-        What::Accepted(_) => 0,
-        What::Refused(why) => u8::from(why) as u32,
-        What::End => 0,
+        What::Refused(why) => u32::from(u8::from(why)),
+        What::Accepted(_) | What::End => 0,
     }
 }
 
@@ -75,42 +73,35 @@ fn refusal_number(what: What) -> u32
 pub extern "C" fn siamrung_kind(bytes: &[u8], place: usize, form: u32, link: u32) -> u32
     ensures { result ≡ kind_number_of (read_bytes_on (chosen form) link bytes.now place).outcome.what }
 {
-    let o = outcome_at(bytes, place, form, link);
-    let what = o.what;
-    kind_number(what)
+    kind_number(outcome_at(bytes, place, form, link).what)
 }
 
 #[unsafe(no_mangle)]
 pub extern "C" fn siamrung_refusal(bytes: &[u8], place: usize, form: u32, link: u32) -> u32
     ensures { result ≡ refusal_of (read_bytes_on (chosen form) link bytes.now place).outcome.what }
 {
-    let o = outcome_at(bytes, place, form, link);
-    let what = o.what;
-    refusal_number(what)
+    refusal_number(outcome_at(bytes, place, form, link).what)
 }
 
 #[unsafe(no_mangle)]
 pub extern "C" fn siamrung_first(bytes: &[u8], place: usize, form: u32, link: u32) -> usize
     ensures { result ≡ (read_bytes_on (chosen form) link bytes.now place).outcome.first }
 {
-    let o = outcome_at(bytes, place, form, link);
-    o.first
+    outcome_at(bytes, place, form, link).first
 }
 
 #[unsafe(no_mangle)]
 pub extern "C" fn siamrung_after(bytes: &[u8], place: usize, form: u32, link: u32) -> usize
     ensures { result ≡ (read_bytes_on (chosen form) link bytes.now place).outcome.after }
 {
-    let o = outcome_at(bytes, place, form, link);
-    o.after
+    outcome_at(bytes, place, form, link).after
 }
 
 #[unsafe(no_mangle)]
 pub extern "C" fn siamrung_named(bytes: &[u8], place: usize, form: u32, link: u32) -> usize
     ensures { result ≡ (read_bytes_on (chosen form) link bytes.now place).outcome.named }
 {
-    let o = outcome_at(bytes, place, form, link);
-    o.named
+    outcome_at(bytes, place, form, link).named
 }
 
 // The number of its link; 0 where it is refused with 13.
@@ -118,8 +109,7 @@ pub extern "C" fn siamrung_named(bytes: &[u8], place: usize, form: u32, link: u3
 pub extern "C" fn siamrung_link(bytes: &[u8], place: usize, form: u32, link: u32) -> u32
     ensures { result ≡ (read_bytes_on (chosen form) link bytes.now place).link }
 {
-    let received = received_at(bytes, place, form, link);
-    received.link
+    received_at(bytes, place, form, link).link
 }
 
 // ---- the fields of a report
@@ -134,8 +124,7 @@ fn item_at(bytes: &[u8], place: usize, form: u32, link: u32, item: u32) -> Optio
     let what = o.what;
     match what {
         What::Accepted(report) => items::item_of(report, item as usize),
-        What::Refused(_) => None,
-        What::End => None,
+        What::Refused(_) | What::End => None,
     }
 }
 
@@ -143,11 +132,7 @@ fn item_at(bytes: &[u8], place: usize, form: u32, link: u32, item: u32) -> Optio
 pub extern "C" fn siamrung_has(bytes: &[u8], place: usize, form: u32, link: u32, item: u32) -> u32
     ensures { result ≡ is_of (item_at (read_bytes_on (chosen form) link bytes.now place).outcome.what item) }
 {
-    let own = item_at(bytes, place, form, link, item);
-    match own {
-        Some(_) => 1,
-        None => 0,
-    }
+    u32::from(item_at(bytes, place, form, link, item).is_some())
 }
 
 // 0 where the report has no such item, which siamrung_has tells.
@@ -155,11 +140,7 @@ pub extern "C" fn siamrung_has(bytes: &[u8], place: usize, form: u32, link: u32,
 pub extern "C" fn siamrung_item(bytes: &[u8], place: usize, form: u32, link: u32, item: u32) -> i64
     ensures { result ≡ value_of (item_at (read_bytes_on (chosen form) link bytes.now place).outcome.what item) }
 {
-    let own = item_at(bytes, place, form, link, item);
-    match own {
-        Some(z) => z,
-        None => 0,
-    }
+    item_at(bytes, place, form, link, item).unwrap_or(0)
 }
 
 // ---- range, azimuth and time as floats
@@ -167,12 +148,9 @@ pub extern "C" fn siamrung_item(bytes: &[u8], place: usize, form: u32, link: u32
 fn values_at(bytes: &[u8], place: usize, form: u32, link: u32) -> Option<Measured>
     ensures { Yields (counted_at (read_bytes_on (chosen form) link bytes.now place).outcome.what) result }
 {
-    let o = outcome_at(bytes, place, form, link);
-    let what = o.what;
-    match what {
+    match outcome_at(bytes, place, form, link).what {
         What::Accepted(report) => values::values_of(report),
-        What::Refused(_) => None,
-        What::End => None,
+        What::Refused(_) | What::End => None,
     }
 }
 
@@ -180,44 +158,34 @@ fn values_at(bytes: &[u8], place: usize, form: u32, link: u32) -> Option<Measure
 pub extern "C" fn siamrung_has_values(bytes: &[u8], place: usize, form: u32, link: u32) -> u32
     ensures { result ≡ has (counted_at (read_bytes_on (chosen form) link bytes.now place).outcome.what) }
 {
-    let values = values_at(bytes, place, form, link);
-    match values {
-        Some(_) => 1,
-        None => 0,
-    }
+    u32::from(values_at(bytes, place, form, link).is_some())
 }
 
 // All plus zero where there are none, which siamrung_has_values tells.
 fn measured_at(bytes: &[u8], place: usize, form: u32, link: u32) -> Measured
     ensures { Shows (counted_at (read_bytes_on (chosen form) link bytes.now place).outcome.what) result }
 {
-    let values = values_at(bytes, place, form, link);
-    match values {
-        Some(m) => m,
-        None => Measured::coarse(CoarseRange(0), CoarseAzimuth(0), Time(0)),
-    }
+    let zero = Measured::of::<COARSE_RANGE, COARSE_AZIMUTH>(Range(0), Azimuth(0), Time(0));
+    values_at(bytes, place, form, link).unwrap_or(zero)
 }
 
 #[unsafe(no_mangle)]
 pub extern "C" fn siamrung_nmi(bytes: &[u8], place: usize, form: u32, link: u32) -> f64
     ensures { Exact (range_of (counted_at (read_bytes_on (chosen form) link bytes.now place).outcome.what)) result }
 {
-    let m = measured_at(bytes, place, form, link);
-    m.range
+    measured_at(bytes, place, form, link).range
 }
 
 #[unsafe(no_mangle)]
 pub extern "C" fn siamrung_degrees(bytes: &[u8], place: usize, form: u32, link: u32) -> f64
     ensures { Exact (azimuth_of (counted_at (read_bytes_on (chosen form) link bytes.now place).outcome.what)) result }
 {
-    let m = measured_at(bytes, place, form, link);
-    m.azimuth
+    measured_at(bytes, place, form, link).azimuth
 }
 
 #[unsafe(no_mangle)]
 pub extern "C" fn siamrung_seconds(bytes: &[u8], place: usize, form: u32, link: u32) -> f64
     ensures { Exact (time_of (counted_at (read_bytes_on (chosen form) link bytes.now place).outcome.what)) result }
 {
-    let m = measured_at(bytes, place, form, link);
-    m.time
+    measured_at(bytes, place, form, link).time
 }

@@ -22,11 +22,7 @@ pub extern "C" fn siamrung_write(
     ensures { Writes (chosen form) bytes.old place (given kind items.now) result bytes.new }
 {
     let report = given::given(kind, items);
-    let wrote = line_writer::bytes::write(bytes, place, Form::from(form), report);
-    match wrote {
-        Ok(next) => next,
-        Err(_) => place,
-    }
+    line_writer::bytes::write(bytes, place, Form::from(form), report).unwrap_or(place)
 }
 
 #[unsafe(no_mangle)]
@@ -40,12 +36,8 @@ pub extern "C" fn siamrung_write_refusal(
     ensures { result ≡ write_refusal (write_bytes (chosen form) bytes.now place (given kind items.now)) }
 {
     let report = given::given(kind, items);
-    let answer = line_writer::bytes::answer(bytes, place, Form::from(form), report);
-    match answer {
+    match line_writer::bytes::answer(bytes, place, Form::from(form), report) {
         Ok(_) => 0,
-        Err(refusal) => {
-            let why = refusal.why;
-            u8::from(why) as u32
-        }
+        Err(refusal) => u32::from(u8::from(refusal.why)),
     }
 }

@@ -1,15 +1,19 @@
 -- Laws of pairs: how many there are, and what is found for numbers with one pair more. Assumes nothing.
-use Rattle.std.specs.Prelude.{Option, Some}
+use Rattle.std.specs.Prelude.{None, Option, Some}
 use mathlib.Core.Path.{◌≡◌, refl, sym, ap, ◌∙◌}
 use mathlib.Core.Bool.{Bool, true, false, cond}
 use mathlib.Core.Logic.{◌⊎◌, inl, inr, ⊎_elim}
-use mathlib.Core.List.{List, ◌∷◌}
-use Prim.Native.Nat.{ℕ, zero, suc, ◌+◌, ◌/◌, ◌≤◌, ◌<◌}
+use mathlib.Core.List.{List, [], ◌∷◌, ◌++◌}
+use Prim.Native.Nat.{ℕ, zero, suc, ◌+◌, ◌-◌, ◌*◌, ◌/◌, ◌%◌, ◌^◌, ◌≤◌, ◌<◌}
 use native.Mathlib.Omega.{arith}
 use lib.Dec.{eqb}
-use lib.ListN.{length, drop, get_or, set}
+use lib.ListN.{length, drop, take, get_or, set}
 use lib.Seq.{drop-drop}
 use borrow.Author.Tests.{eq-eqb, ne_eqb}
+use Rattle.std.proofs.lemmas.List.{get_or-drop, get_or-take}
+use Rattle.std.specs.Simd.{first_chunks}
+use Rattle.bits.specs.Bits.{bit_at}
+use Rattle.bits.proofs.Laws.{bits_of_same}
 use Rattle.pairs.specs.Pairs.{Pair, eight, pairs, pairs_in, find_in, each_from, Slot, slots}
 
 length_pairs : (n : ℕ) (s : List ℕ) → length (pairs n s) ≡ n
@@ -25,6 +29,21 @@ length-pairs_in s = length_pairs (length s / 16) s
 pub pairs_before : (k at : ℕ) (s : List ℕ) → pairs (suc k) (drop at s) ≡ (eight (drop at s), eight (drop (at + 8) s)) ∷ pairs k (drop (at + 16) s)
 unfolding pairs
 pairs_before k at s = rw (drop-drop 8 at s, drop-drop 16 at s) refl
+
+-- the number of eight bytes among the first n is theirs in the whole list
+pub eight_within : (n at : ℕ) (s : List ℕ) → at + 8 ≤ n → eight (drop at (take n s)) ≡ eight (drop at s)
+unfolding bit_at
+eight_within n at s h =
+    bits_of_same (drop at (take n s)) (drop at s) 0 64 (λ k l.
+    ap (λ (x : ℕ). x / 2 ^ (7 - (0 + k) % 8) % 2)
+    (get_or-drop at (take n s) ((0 + k) / 8) 0 ∙ get_or-take n s (at + (0 + k) / 8) 0 (omega arith) ∙ sym (get_or-drop at s ((0 + k) / 8) 0)))
+
+-- sixteen bytes more
+pub chunks_more : (n : ℕ) (s : List ℕ) → first_chunks 16 (suc n) s ≡ first_chunks 16 n s ++ (take 16 (drop (16 * n) s) ∷ [])
+chunks_more zero s = refl
+chunks_more (suc n) s =
+    let e : 16 * n + 16 ≡ 16 * suc n = omega arith in
+    ap (λ (l : List (List ℕ)). take 16 s ∷ l) (chunks_more n (drop 16 s) ∙ rw (drop-drop (16 * n) 16 s, ← e) (ap (λ (x : ℕ). first_chunks 16 n (drop 16 s) ++ (take 16 (drop x s) ∷ [])) (omega arith)))
 
 -- ---- what is found for numbers, with one pair more
 
@@ -52,11 +71,11 @@ each_anew {X} f n (suc k) (suc i) p ps h q =
     ∙ ap (λ (b : Bool). f (cond b (Some p.1) (find_in n ps)) ∷ each_from f (suc n) k (p ∷ ps)) (sym e)
 
 -- by the place that a slot names
-pub slot_anew : {X : Type 0} (f : Option ℕ → X) (n m v k : ℕ) (ps : List Pair) → Slot n m k → k < slots → set (each_from f n slots ps) k (f (Some v)) ≡ each_from f n slots ((m, v) ∷ ps)
-slot_anew f n m v k ps o h = ⊎_elim (λ a. each_anew f n slots k (m, v) ps h a.1) (λ b. absurd (omega (arith, b.0))) o
+pub slot_anew : (n m v k : ℕ) (ps : List Pair) → Slot n m (Some k) → set (each_from (λ x. x) n slots ps) k (Some v) ≡ each_from (λ x. x) n slots ((m, v) ∷ ps)
+slot_anew n m v k ps o = each_anew (λ x. x) n slots k (m, v) ps o.0 o.1
 
-pub slot_other : {X : Type 0} (f : Option ℕ → X) (n m v k : ℕ) (ps : List Pair) → Slot n m k → slots ≤ k → each_from f n slots ((m, v) ∷ ps) ≡ each_from f n slots ps
-slot_other f n m v k ps o h = ⊎_elim (λ a. absurd (omega (arith, a.0))) (λ b. each_other f n slots (m, v) ps b.1) o
+pub slot_other : (n m v : ℕ) (ps : List Pair) → Slot n m None → each_from (λ x. x) n slots ((m, v) ∷ ps) ≡ each_from (λ x. x) n slots ps
+slot_other n m v ps o = each_other (λ x. x) n slots (m, v) ps o
 
 -- what stands at a place
 pub each_at : {X : Type 0} (f : Option ℕ → X) (n k i : ℕ) (d : X) (ps : List Pair) → i < k → get_or (each_from f n k ps) i d ≡ f (find_in (n + i) ps)

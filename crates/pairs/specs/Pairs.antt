@@ -1,7 +1,6 @@
 -- Pairs of eight-byte numbers in a list of bytes, high byte first: a number, and the value that goes with it. Definitions only.
-use Rattle.std.specs.Prelude.{ℕ, zero, suc, ◌+◌, ◌/◌, ◌≤◌, ◌<◌, Bool, true, false, cond, ◌≡◌, ◌⊎◌, List, [], ◌∷◌, eqb, length, drop, None, Option, Some}
+use Rattle.std.specs.Prelude.{ℕ, zero, suc, ◌+◌, ◌/◌, ◌≤◌, ◌<◌, cond, ◌≡◌, ◌⊎◌, List, [], ◌∷◌, eqb, length, drop, None, Option, Some}
 use Rattle.bits.specs.Bits.{bits_of}
-use Rattle.pairs.specs.declared.Gathered.{Gathered}
 
 abbrev pub Pair : Type 0
 Pair = ℕ × ℕ
@@ -29,10 +28,6 @@ abbrev pub value_of : Option ℕ → ℕ
 value_of (Some v) = v
 value_of None = 0
 
-abbrev pub is_found : Option ℕ → Bool
-is_found (Some v) = true
-is_found None = false
-
 -- what f says of what is found for each of k numbers, n the first
 unfoldable pub each_from : {X : Type 0} → ((Option ℕ) → X) → ℕ → ℕ → List Pair → List X
 each_from f n zero ps = []
@@ -43,9 +38,10 @@ abbrev pub slots : ℕ
 slots = 37
 
 -- what is found for the numbers from n on
-unfoldable pub gathered_from : ℕ → List Pair → Gathered
-gathered_from n ps = record { there = each_from is_found n slots ps; values = each_from value_of n slots ps }
+unfoldable pub gathered_from : ℕ → List Pair → List (Option ℕ)
+gathered_from n ps = each_from (λ x. x) n slots ps
 
--- k is the place of the number m among the numbers from n on; or k is slots, and m is none of them
-abbrev pub Slot : ℕ → ℕ → ℕ → Type 0
-Slot n m k = ((k < slots) × (n + k ≡ m)) ⊎ ((k ≡ slots) × ((m < n) ⊎ (n + slots ≤ m)))
+-- k is the place of the number m among the numbers from n on; or there is none, and m is none of them
+abbrev pub Slot : ℕ → ℕ → Option ℕ → Type 0
+Slot n m (Some k) = (k < slots) × (n + k ≡ m)
+Slot n m None = (m < n) ⊎ (n + slots ≤ m)

@@ -10,13 +10,6 @@ ghost use Rattle.pairs.specs.Pairs.{pairs_in, Slot, gathered_from};
 // So many numbers are asked for at once: as many as a report or a field has, whichever has more.
 pub const SLOTS: usize = 37;
 
-// What is found for each of SLOTS numbers: whether there is a value, and the value, 0 where there is none.
-#[derive(Clone, Copy)]
-pub struct Gathered {
-    pub there: [bool; SLOTS],
-    pub values: [u64; SLOTS],
-}
-
 // The slice is whole pairs: sixteen bytes each, and none left.
 pub fn whole(items: &[u8]) -> bool
     ensures { result ≡ eqb (length items.now % 16) 0 }
@@ -39,32 +32,25 @@ fn eight(items: &[u8], at: usize) -> u64
     bits::read(&items[at..], 0, 64)
 }
 
-// Which of the SLOTS numbers from `first` on a number is, counted from 0; SLOTS where it is none of them.
-fn slot(first: u64, number: u64) -> usize
+// Which of the SLOTS numbers from `first` on a number is, counted from 0; None where it is none of them.
+fn slot(first: u64, number: u64) -> Option<usize>
     ensures { Slot first number result }
 {
-    if number < first {
-        return SLOTS;
-    }
-    let k = (number - first) as usize;
-    if k < SLOTS { k } else { SLOTS }
+    let k = number.checked_sub(first)? as usize;
+    if k < SLOTS { Some(k) } else { None }
 }
 
-// What is found for the SLOTS numbers from `first` on. One pass over the slice, the last pair first: of those with the same number the
-// first one stays.
-pub fn gather(items: &[u8], first: u64) -> Gathered
+// What is found for the SLOTS numbers from `first` on: the value, where there is one. One pass over the slice, the last pair first: of those with
+// the same number the first one stays.
+pub fn gather(items: &[u8], first: u64) -> [Option<u64>; SLOTS]
     ensures { result ≡ gathered_from first (pairs_in items.now) }
 {
-    let mut there = [false; SLOTS];
-    let mut values = [0u64; SLOTS];
-    let mut left = items.len() / 16;
-    while 0 < left {
-        left -= 1;
-        let k = slot(first, eight(items, 16 * left));
-        if k < SLOTS {
-            there[k] = true;
-            values[k] = eight(items, 16 * left + 8);
+    let mut found = [None; SLOTS];
+    let (pairs, _) = items.as_chunks::<16>();
+    for pair in pairs.iter().rev() {
+        if let Some(k) = slot(first, eight(pair, 0)) {
+            found[k] = Some(eight(pair, 8));
         }
     }
-    Gathered { there, values }
+    found
 }

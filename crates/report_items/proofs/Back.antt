@@ -12,7 +12,7 @@ use lib.IntN.{ℤ, pos, negsuc, nat_abs}
 use lib.ListN.{get_or}
 use Rattle.words.specs.Tests.{all}
 use Rattle.words.proofs.Tests.{picked, by_test}
-use Rattle.pairs.specs.Pairs.{Pair, find_in, value_of, is_found, each_from}
+use Rattle.pairs.specs.Pairs.{Pair, find_in, value_of, each_from, gathered_from}
 use Rattle.reports.specs.declared.Search.{Search}
 use Rattle.reports.specs.declared.Strobe.{Strobe}
 use Rattle.reports.specs.declared.Map.{Map}
@@ -33,7 +33,7 @@ use Rattle.words.specs.Layout.{Field, flag, count, rest, fixed, fitting, fitting
 use Rattle.reports.specs.Layouts.{Fits, layout_of, last_word}
 use Rattle.report_items.specs.Items as N
 use Rattle.report_items.specs.Items.{last, height_items, lookup, item_of}
-use Rattle.report_items.specs.Given.{as_signed, item_of_pairs, item_given, values_in, plain_given, cd_given, mtd_height_given, rdas_height_given, dabs_given, atcrbs_given, built, built_from}
+use Rattle.report_items.specs.Given.{as_signed, item_of_pairs, item_given, plain_by, plain_given, cd_given, mtd_height_given, rdas_height_given, dabs_given, atcrbs_given, built, built_from}
 use Rattle.report_items.specs.Claims.{InSixteenBits, FitsSixteenBits}
 use Rattle.report_items.proofs.Signed.{low, high}
 
@@ -67,17 +67,9 @@ count_in None = 0
 
 found_count : (f : Option ℕ) (i : Option ℤ) → is_count i ≡ true → item_of_pairs f ≡ i → value_of f ≡ count_in i
 found_count (Some v) (Some (pos k)) h e = let q : as_signed 9223372036854775808 v ≡ pos k = cc in signed_pos v k q
-found_count None (Some (pos k)) h e = let z : ◌≡◌ {A = ℕ} 0 1 = cc in absurd (omega arith)
-found_count f (Some (negsuc k)) h e = let z : ◌≡◌ {A = ℕ} 0 1 = cc in absurd (omega arith)
-found_count f None h e = let z : ◌≡◌ {A = ℕ} 0 1 = cc in absurd (omega arith)
-
-found_has : (f : Option ℕ) (z : ℤ) → item_of_pairs f ≡ Some z → is_found f ≡ true
-found_has (Some v) z e = refl
-found_has None z e = let y : ◌≡◌ {A = ℕ} 0 1 = cc in absurd (omega arith)
-
-found_not : (f : Option ℕ) → item_of_pairs f ≡ None → is_found f ≡ false
-found_not (Some v) e = let y : ◌≡◌ {A = ℕ} 0 1 = cc in absurd (omega arith)
-found_not None e = refl
+found_count None (Some (pos k)) h e = cc
+found_count f (Some (negsuc k)) h e = cc
+found_count f None h e = cc
 
 -- a number that sixteen bits hold is held by them
 signed_small : (v : ℕ) (z : ℤ) → InSixteenBits z → as_signed 9223372036854775808 v ≡ z → as_signed 32768 v ≡ z
@@ -96,15 +88,20 @@ signed_small v (negsuc n) s e =
     let m : 18446744073709551615 - v ≡ n = cc in
     high 32768 v (omega arith) (omega arith) ∙ q)
 
-found_small : (f : Option ℕ) (z : ℤ) → InSixteenBits z → item_of_pairs f ≡ Some z → as_signed 32768 (value_of f) ≡ z
-found_small (Some v) z s e = let q : as_signed 9223372036854775808 v ≡ z = cc in signed_small v z s q
-found_small None z s e = let y : ◌≡◌ {A = ℕ} 0 1 = cc in absurd (omega arith)
+-- bits 79 to 90, where an altitude is given, and where none is
+found_high : (f : Option ℕ) (k : ℕ) (z : ℤ) → InSixteenBits z → item_of_pairs f ≡ Some z → plain_by f k ≡ Ht.Altitude z
+found_high (Some v) k z s e = let q : as_signed 9223372036854775808 v ≡ z = cc in ap Ht.Altitude (signed_small v z s q)
+found_high None k z s e = cc
+
+found_low : (f : Option ℕ) (k : ℕ) → item_of_pairs f ≡ None → plain_by f k ≡ Ht.Carried k
+found_low (Some v) k e = cc
+found_low None k e = refl
 
 -- ---- what fits
 
 pub both : (a b : Bool) → cond a b false ≡ true → (a ≡ true) × (b ≡ true)
 both true b e = (refl, e)
-both false b e = let z : ◌≡◌ {A = ℕ} 0 1 = cc in absurd (omega arith)
+both false b e = cc
 
 -- where all words fit, each does
 word_fits : (l : List (List Field)) (i : ℕ) → fitting_by l ≡ true → fitting_all (get_or l i []) ≡ true
@@ -163,7 +160,7 @@ flag_own false = refl
 
 module _ (form : AltitudeForm) (narrow : FitsSixteenBits form) (ps : List Pair) where
   search_back : (s : Search) → Fits form (R.Search s) → Said ps (R.Search s) → built_from (kind_number K.Search) ps ≡ R.Search s
-  unfolding built values_in each_from
+  unfolding built gathered_from each_from
   search_back s f t =
       let at = field_fits (layout_of form (R.Search s)) f in
       let range : s.range.0 < 65536 = omega (arith, at 1 0) in
@@ -174,7 +171,7 @@ module _ (form : AltitudeForm) (narrow : FitsSixteenBits form) (ps : List Pair) 
       simp (own ps (R.Search s) t, flag_own, mod-eq_of_lt)
 
   strobe_back : (s : Strobe) → Fits form (R.Strobe s) → Said ps (R.Strobe s) → built_from (kind_number K.Strobe) ps ≡ R.Strobe s
-  unfolding built values_in each_from
+  unfolding built gathered_from each_from
   strobe_back s f t =
       let at = field_fits (layout_of form (R.Strobe s)) f in
       let range : s.range.0 < 65536 = omega (arith, at 1 0) in
@@ -184,7 +181,7 @@ module _ (form : AltitudeForm) (narrow : FitsSixteenBits form) (ps : List Pair) 
       simp (own ps (R.Strobe s) t, flag_own, mod-eq_of_lt)
 
   map_back : (m : Map) → Fits form (R.Map m) → Said ps (R.Map m) → built_from (kind_number K.Map) ps ≡ R.Map m
-  unfolding built values_in each_from
+  unfolding built gathered_from each_from
   map_back m f t =
       let at = field_fits (layout_of form (R.Map m)) f in
       let variation : m.variation < 256 = omega (arith, at 0 3) in
@@ -194,7 +191,7 @@ module _ (form : AltitudeForm) (narrow : FitsSixteenBits form) (ps : List Pair) 
       simp (own ps (R.Map m) t, flag_own, mod-eq_of_lt)
 
   status_back : (s : Status) → Fits form (R.Status s) → Said ps (R.Status s) → built_from (kind_number K.Status) ps ≡ R.Status s
-  unfolding built values_in each_from
+  unfolding built gathered_from each_from
   status_back s f t =
       let at = field_fits (layout_of form (R.Status s)) f in
       let second : s.second < 65536 = omega (arith, at 1 0) in
@@ -203,7 +200,7 @@ module _ (form : AltitudeForm) (narrow : FitsSixteenBits form) (ps : List Pair) 
       simp (own ps (R.Status s) t, flag_own, mod-eq_of_lt)
 
   rtqc_back : (s : Rtqc) → Fits form (R.Rtqc s) → Said ps (R.Rtqc s) → built_from (kind_number K.Rtqc) ps ≡ R.Rtqc s
-  unfolding built values_in each_from
+  unfolding built gathered_from each_from
   rtqc_back s f t =
       let at = field_fits (layout_of form (R.Rtqc s)) f in
       let range : s.range.0 < 65536 = omega (arith, at 1 0) in
@@ -216,11 +213,11 @@ module _ (form : AltitudeForm) (narrow : FitsSixteenBits form) (ps : List Pair) 
 
   -- the form that the kind's number says
   abbrev height_for : Height → Height
-  height_for (Ht.Altitude z) = plain_given (is_found (find_in N.altitude ps)) (values_in ps)
-  height_for (Ht.Carried n) = plain_given (is_found (find_in N.altitude ps)) (values_in ps)
-  height_for (Ht.Cd m n) = cd_given (values_in ps)
-  height_for (Ht.Mtd m n) = mtd_height_given (values_in ps)
-  height_for (Ht.Rdas m n) = rdas_height_given (values_in ps)
+  height_for (Ht.Altitude z) = plain_given (gathered_from 0 ps)
+  height_for (Ht.Carried n) = plain_given (gathered_from 0 ps)
+  height_for (Ht.Cd m n) = cd_given (gathered_from 0 ps)
+  height_for (Ht.Mtd m n) = mtd_height_given (gathered_from 0 ps)
+  height_for (Ht.Rdas m n) = rdas_height_given (gathered_from 0 ps)
 
   -- what is given at the number of one of its items
   abbrev HeightSaid : Height → ℕ → Type 0
@@ -228,12 +225,11 @@ module _ (form : AltitudeForm) (narrow : FitsSixteenBits form) (ps : List Pair) 
 
   height_back : (h : Height) → fitting_all (last_word form h) ≡ true
       → HeightSaid h N.run → HeightSaid h N.mode_c_of → HeightSaid h N.altitude → HeightSaid h N.carried → HeightSaid h N.quality → height_for h ≡ h
-  unfolding values_in each_from item_given
-  height_back (Ht.Altitude z) f r m a c q =
-      rw (found_has (find_in N.altitude ps) z a, found_small (find_in N.altitude ps) z (narrow z (in_word (last_word form (Ht.Altitude z)) f 0)) a) refl
+  unfolding gathered_from each_from item_given
+  height_back (Ht.Altitude z) f r m a c q = found_high (find_in N.altitude ps) _ z (narrow z (in_word (last_word form (Ht.Altitude z)) f 0)) a
   height_back (Ht.Carried n) f r m a c q =
       let small : n < 65536 = omega (arith, in_word (last_word form (Ht.Carried n)) f 0) in
-      simp (found_not (find_in N.altitude ps) a, found_count (find_in N.carried ps) (Some (pos n)) refl c, mod-eq_of_lt)
+      found_low (find_in N.altitude ps) _ a ∙ simp (found_count (find_in N.carried ps) (Some (pos n)) refl c, mod-eq_of_lt)
   height_back (Ht.Cd b n) f r m a c q =
       let small : n.0 < 256 = omega (arith, in_word (last_word form (Ht.Cd b n)) f 0) in
       simp (found_count (find_in N.mode_c_of ps) (Some (pos (cond b 1 0))) refl m, found_count (find_in N.run ps) (Some (pos n.0)) refl r, flag_own, mod-eq_of_lt)
@@ -244,7 +240,7 @@ module _ (form : AltitudeForm) (narrow : FitsSixteenBits form) (ps : List Pair) 
       let small : n < 256 = omega (arith, in_word (last_word form (Ht.Rdas b n)) f 0) in
       simp (found_count (find_in N.mode_c_of ps) (Some (pos (cond b 1 0))) refl m, found_count (find_in N.quality ps) (Some (pos n)) refl q, flag_own, mod-eq_of_lt)
 
-  dabs_built : (h : Height) → built_from (kind_number (dabs_kind h)) ps ≡ R.Dabs (dabs_given (values_in ps) (height_for h))
+  dabs_built : (h : Height) → built_from (kind_number (dabs_kind h)) ps ≡ R.Dabs (dabs_given (gathered_from 0 ps) (height_for h))
   unfolding built
   dabs_built (Ht.Altitude z) = refl
   dabs_built (Ht.Carried n) = refl
@@ -252,7 +248,7 @@ module _ (form : AltitudeForm) (narrow : FitsSixteenBits form) (ps : List Pair) 
   dabs_built (Ht.Mtd m n) = refl
   dabs_built (Ht.Rdas m n) = refl
 
-  atcrbs_built : (h : Height) → built_from (kind_number (atcrbs_kind h)) ps ≡ R.Atcrbs (atcrbs_given (values_in ps) (height_for h))
+  atcrbs_built : (h : Height) → built_from (kind_number (atcrbs_kind h)) ps ≡ R.Atcrbs (atcrbs_given (gathered_from 0 ps) (height_for h))
   unfolding built
   atcrbs_built (Ht.Altitude z) = refl
   atcrbs_built (Ht.Carried n) = refl
@@ -262,8 +258,8 @@ module _ (form : AltitudeForm) (narrow : FitsSixteenBits form) (ps : List Pair) 
 
   -- ---- seven words
 
-  dabs_fields : (d : Dabs) → Fits form (R.Dabs d) → Said ps (R.Dabs d) → dabs_given (values_in ps) d.height ≡ d
-  unfolding values_in each_from
+  dabs_fields : (d : Dabs) → Fits form (R.Dabs d) → Said ps (R.Dabs d) → dabs_given (gathered_from 0 ps) d.height ≡ d
+  unfolding gathered_from each_from
   dabs_fields d f t =
       let at = field_fits (layout_of form (R.Dabs d)) f in
       let range : d.range.0 < 65536 = omega (arith, at 1 0) in
@@ -276,12 +272,12 @@ module _ (form : AltitudeForm) (narrow : FitsSixteenBits form) (ps : List Pair) 
   dabs_back d f t =
       let g = said ps (R.Dabs d) t in
       dabs_built d.height
-      ∙ ap (λ (h : Height). R.Dabs (dabs_given (values_in ps) h))
+      ∙ ap (λ (h : Height). R.Dabs (dabs_given (gathered_from 0 ps) h))
       (height_back d.height (word_fits (layout_of form (R.Dabs d)) 6 f) (g N.run refl) (g N.mode_c_of refl) (g N.altitude refl) (g N.carried refl) (g N.quality refl))
       ∙ ap R.Dabs (dabs_fields d f t)
 
-  atcrbs_fields : (a : Atcrbs) → Fits form (R.Atcrbs a) → Said ps (R.Atcrbs a) → atcrbs_given (values_in ps) a.height ≡ a
-  unfolding values_in each_from
+  atcrbs_fields : (a : Atcrbs) → Fits form (R.Atcrbs a) → Said ps (R.Atcrbs a) → atcrbs_given (gathered_from 0 ps) a.height ≡ a
+  unfolding gathered_from each_from
   atcrbs_fields a f t =
       let at = field_fits (layout_of form (R.Atcrbs a)) f in
       let range : a.range.0 < 65536 = omega (arith, at 1 0) in
@@ -295,12 +291,12 @@ module _ (form : AltitudeForm) (narrow : FitsSixteenBits form) (ps : List Pair) 
   atcrbs_back a f t =
       let g = said ps (R.Atcrbs a) t in
       atcrbs_built a.height
-      ∙ ap (λ (h : Height). R.Atcrbs (atcrbs_given (values_in ps) h))
+      ∙ ap (λ (h : Height). R.Atcrbs (atcrbs_given (gathered_from 0 ps) h))
       (height_back a.height (word_fits (layout_of form (R.Atcrbs a)) 6 f) (g N.run refl) (g N.mode_c_of refl) (g N.altitude refl) (g N.carried refl) (g N.quality refl))
       ∙ ap R.Atcrbs (atcrbs_fields a f t)
 
   mtd_back : (m : Mtd) → Fits form (R.Mtd m) → Said ps (R.Mtd m) → built_from (kind_number K.Mtd) ps ≡ R.Mtd m
-  unfolding built values_in each_from
+  unfolding built gathered_from each_from
   mtd_back m f t =
       let at = field_fits (layout_of form (R.Mtd m)) f in
       let range : m.range.0 < 65536 = omega (arith, at 1 0) in
@@ -314,7 +310,7 @@ module _ (form : AltitudeForm) (narrow : FitsSixteenBits form) (ps : List Pair) 
       simp (own ps (R.Mtd m) t, flag_own, mod-eq_of_lt)
 
   rdas_back : (x : Rdas) → Fits form (R.Rdas x) → Said ps (R.Rdas x) → built_from (kind_number K.Rdas) ps ≡ R.Rdas x
-  unfolding built values_in each_from
+  unfolding built gathered_from each_from
   rdas_back x f t =
       let at = field_fits (layout_of form (R.Rdas x)) f in
       let range : x.range.0 < 65536 = omega (arith, at 1 0) in

@@ -1,19 +1,25 @@
 -- The test of the items, by its outcome, and by what is gathered. Assumes nothing.
-use Rattle.std.specs.Prelude.{None, Option, Some, ℤ}
+use Rattle.std.specs.Prelude.{None, Option, Some, ℤ, Result, Ok, Err}
+use Rattle.std.specs.Result.{result_ok}
 use mathlib.Core.Path.{◌≡◌, refl, ap, sym, ◌∙◌}
 use mathlib.Core.Bool.{Bool, true, false, cond}
 use mathlib.Core.List.{List}
-use Prim.Native.Nat.{ℕ, zero, suc, ◌^◌, ◌≤◌}
+use Prim.Native.Nat.{ℕ, zero, suc, ◌%◌, ◌≤◌}
 use native.Mathlib.Omega.{arith}
+use lib.Dec.{eqb}
 use lib.ListN.{length}
 use native.Mathlib.Nat.{zero-add}
 use borrow.Author.Tests.{eq-eqb, ne_eqb}
 use Rattle.words.proofs.Tests.{picked, passed}
-use Rattle.pairs.specs.Pairs.{Pair, find_in, is_found, value_of, slots, gathered_from}
+use Rattle.pairs.specs.Pairs.{Pair, pairs_in, slots, gathered_from}
 use Rattle.pairs.proofs.Laws.{each_at}
 use Rattle.reports.specs.declared.Report.{Report}
+use Rattle.reports.specs.declared.kinds.Kind.{Kind}
+use Rattle.reports.specs.declared.kinds.Kind.TheVariants as K
+use Rattle.reports.specs.declared.kinds.UnknownKind.{UnknownKind}
+use Rattle.reports.specs.Kinds.{kind_number, Numbered}
 use Rattle.report_items.specs.Items.{last, item_of, items_of}
-use Rattle.report_items.specs.Given.{as_signed, item_of_pairs, item_given, item_gathered, same_item, agree_to, agree, built_from, unfit, given_by}
+use Rattle.report_items.specs.Given.{item_given, item_gathered, same_item, agree_to, agree, built, built_from, unfit, given_by, given}
 
 -- ---- the whole test, by its outcome
 
@@ -39,17 +45,38 @@ module _ (kind : ℕ) (ps : List Pair) (r : Report) (is : r ≡ built_from kind 
   unfolding given_by
   by_all n e = picked _ _ (agreed n e) ∙ sym is
 
+-- ---- by the kind
+
+-- the kind that has the number
+pub kind_is : (n : ℕ) (r : Result Kind UnknownKind) (k : Kind) → Numbered n r → Some k ≡ result_ok r → kind_number k ≡ n
+kind_is n (Ok x) k h e = let q : k ≡ x = cc in ap kind_number q ∙ h
+kind_is n (Err x) k h e = cc
+
+-- what has no kind is no record
+no_kind : (n : ℕ) (r : Result Kind UnknownKind) → Numbered n r → None ≡ result_ok r → (v : List (Option ℕ)) → built n v ≡ unfit
+unfolding built
+no_kind n (Ok x) h e v = cc
+no_kind n (Err x) h e v =
+    rw (other K.Search, other K.Strobe, other K.Map, other K.Status, other K.Rtqc, other K.Dabs, other K.DabsCd, other K.DabsMtd, other K.DabsRdas, other K.Atcrbs, other K.AtcrbsCd, other K.AtcrbsMtd, other K.AtcrbsRdas, other K.Mtd, other K.Rdas) refl
+  where
+    other : (k : Kind) → eqb n (kind_number k) ≡ false
+    other k = ne_eqb n (kind_number k) (λ q. h.1 k (sym q))
+
+pub by_kind : (n : ℕ) (s : List ℕ) (r : Result Kind UnknownKind) → Numbered n r → None ≡ result_ok r → given n s ≡ unfit
+unfolding given given_by
+by_kind n s r h e = rw (no_kind n r h e (gathered_from 0 (pairs_in s))) (go (agree unfit (pairs_in s)) (eqb (length s % 16) 0))
+  where
+    go : (a w : Bool) → cond w (cond a unfit unfit) unfit ≡ unfit
+    go true true = refl
+    go false true = refl
+    go a false = refl
+
 -- ---- by what is gathered
 
 -- what is gathered says what the pairs say
-item_from : (f : Option ℕ) → cond (is_found f) (Some (as_signed (2 ^ 63) (value_of f))) None ≡ item_of_pairs f
-item_from (Some v) = refl
-item_from None = refl
-
 gathered_is : (ps : List Pair) (n : ℕ) → n ≤ last → item_gathered (gathered_from 0 ps) n ≡ item_given ps n
 unfolding item_gathered gathered_from item_given
-gathered_is ps n h =
-    rw (each_at is_found 0 slots n false ps (omega arith), each_at value_of 0 slots n 0 ps (omega arith), zero-add n) (item_from (find_in n ps))
+gathered_is ps n h = rw (each_at (λ x. x) 0 slots n None ps (omega arith), zero-add n) refl
 
 same_to : (m : ℕ) (r : Report) (f g : ℕ → Option ℤ) → ((n : ℕ) → n ≤ m → f n ≡ g n) → agree_to m r f ≡ agree_to m r g
 unfolding agree_to

@@ -1,7 +1,7 @@
 -- The claims of specs/Claims.antt: what is given is a report's own kind and items, and nothing else. Assumes nothing.
 use Rattle.std.specs.Prelude.{None, Option, Some}
 use mathlib.Core.Path.{◌≡◌, refl, ap, sym, subst, ◌∙◌}
-use mathlib.Core.Bool.{Bool, true, false, cond}
+use mathlib.Core.Bool.{true, cond}
 use mathlib.Core.List.{List}
 use mathlib.Core.Logic.{◌⊎◌, inl, inr, ⊎_elim}
 use Prim.Native.Nat.{ℕ, zero, suc, ◌%◌, ◌≤◌, ◌<◌}
@@ -12,7 +12,7 @@ use lib.Dec.{eqb}
 use lib.IntN.{ℤ, pos, negsuc}
 use lib.ListN.{length}
 use Rattle.words.proofs.Tests.{picked, passed, by_test}
-use Rattle.pairs.specs.Pairs.{Pair, pairs_in, find_in, is_found}
+use Rattle.pairs.specs.Pairs.{Pair, pairs_in, gathered_from}
 use Rattle.reports.specs.declared.Report.{Report}
 use Rattle.reports.specs.declared.altitude.Form.{Form}
 use Rattle.reports.specs.declared.altitude.Form.TheVariants as F
@@ -22,9 +22,10 @@ use Rattle.reports.specs.Layouts.{Takes}
 use Rattle.reports.specs.Claims.{InRange}
 use Rattle.reports.proofs.Altitudes.{range_of_each}
 use Rattle.reports.proofs.Demand2.{takes_fits}
-use Rattle.report_items.specs.Items.{altitude, last, items_of, item_of}
-use Rattle.report_items.specs.Given.{item_given, values_in, plain_given, built, built_from, same_item, agree_to, agree, given_by, given, unfit}
+use Rattle.report_items.specs.Items.{last, items_of, item_of}
+use Rattle.report_items.specs.Given.{item_given, plain_by, built, built_from, same_item, agree_to, agree, given_by, given, unfit}
 use Rattle.report_items.specs.Claims.{ItemsOf, InSixteenBits, FitsSixteenBits, FormsFit, GivenExactly, NoneIsTaken}
+use Rattle.report_items.proofs.Tally.{same_number_decides}
 use Rattle.report_items.proofs.Back.{both, back}
 
 pub none_is_taken : NoneIsTaken
@@ -42,17 +43,13 @@ forms_fit form z h = small form z ((range_of_each form z).0 h)
 -- ---- the same item
 
 same_is : (a b : Option ℤ) → same_item a b ≡ true → b ≡ a
-same_is (Some (pos m)) (Some (pos n)) e = ap (λ (k : ℕ). Some (pos k)) (sym (eqb-true m n e))
-same_is (Some (pos m)) (Some (negsuc n)) e = let z : ◌≡◌ {A = ℕ} 0 1 = cc in absurd (omega arith)
-same_is (Some (negsuc m)) (Some (pos n)) e = let z : ◌≡◌ {A = ℕ} 0 1 = cc in absurd (omega arith)
-same_is (Some (negsuc m)) (Some (negsuc n)) e = ap (λ (k : ℕ). Some (negsuc k)) (sym (eqb-true m n e))
-same_is (Some x) None e = let z : ◌≡◌ {A = ℕ} 0 1 = cc in absurd (omega arith)
-same_is None (Some y) e = let z : ◌≡◌ {A = ℕ} 0 1 = cc in absurd (omega arith)
+same_is (Some x) (Some y) e = ap Some (sym ((same_number_decides x y).0 e))
+same_is (Some x) None e = cc
+same_is None (Some y) e = cc
 same_is None None e = refl
 
 is_same : (a : Option ℤ) → same_item a a ≡ true
-is_same (Some (pos n)) = eq-eqb n n refl
-is_same (Some (negsuc n)) = eq-eqb n n refl
+is_same (Some x) = (same_number_decides x x).1 refl
 is_same None = refl
 
 -- ---- number by number
@@ -88,27 +85,27 @@ arm kind k a b e o =
     (λ t. inr (ap (λ (r : Report). kind_number (kind_of r)) (picked a b t) ∙ e ∙ sym (eqb-true kind k t)))
     (λ t. subst (λ (r : Report). Kinded kind r) (sym (passed a b t)) o)
 
-plain_dabs : (high : Bool) (v : List ℕ) → kind_number (dabs_kind (plain_given high v)) ≡ 106
-plain_dabs true v = refl
-plain_dabs false v = refl
+plain_dabs : (f : Option ℕ) (k : ℕ) → kind_number (dabs_kind (plain_by f k)) ≡ 106
+plain_dabs (Some v) k = refl
+plain_dabs None k = refl
 
-plain_atcrbs : (high : Bool) (v : List ℕ) → kind_number (atcrbs_kind (plain_given high v)) ≡ 110
-plain_atcrbs true v = refl
-plain_atcrbs false v = refl
+plain_atcrbs : (f : Option ℕ) (k : ℕ) → kind_number (atcrbs_kind (plain_by f k)) ≡ 110
+plain_atcrbs (Some v) k = refl
+plain_atcrbs None k = refl
 
-kinded : (kind : ℕ) (high : Bool) (v : List ℕ) → Kinded kind (built kind high v)
+kinded : (kind : ℕ) (v : List (Option ℕ)) → Kinded kind (built kind v)
 unfolding built
-kinded kind high v =
+kinded kind v =
     arm kind 101 _ _ refl
     (arm kind 102 _ _ refl
     (arm kind 103 _ _ refl
     (arm kind 104 _ _ refl
     (arm kind 105 _ _ refl
-    (arm kind 106 _ _ (plain_dabs high v)
+    (arm kind 106 _ _ (plain_dabs _ _)
     (arm kind 107 _ _ refl
     (arm kind 108 _ _ refl
     (arm kind 109 _ _ refl
-    (arm kind 110 _ _ (plain_atcrbs high v)
+    (arm kind 110 _ _ (plain_atcrbs _ _)
     (arm kind 111 _ _ refl
     (arm kind 112 _ _ refl
     (arm kind 113 _ _ refl
@@ -141,7 +138,7 @@ module _ (form : AltitudeForm) (narrow : FitsSixteenBits form) (r : Report) (tak
       let p = parts e in
       let b = p.2 in
       let n = both _ _ p.1 in (
-        ⊎_elim (λ q. not_unfit (sym q ∙ b)) (λ q. sym q ∙ ap (λ (x : Report). kind_number (kind_of x)) b) (kinded kind (is_found (find_in altitude ps)) (values_in ps)),
+        ⊎_elim (λ q. not_unfit (sym q ∙ b)) (λ q. sym q ∙ ap (λ (x : Report). kind_number (kind_of x)) b) (kinded kind (gathered_from 0 ps)),
         record {
           whole = eqb-true _ _ p.0;
           many = eqb-true _ _ n.0 ∙ ap (λ (x : Report). length (items_of x)) b;

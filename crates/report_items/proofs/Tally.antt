@@ -1,21 +1,25 @@
 -- Items that a report has as they are given, and that are as many as it has, are all that it has. Assumes nothing.
 use Rattle.std.specs.Prelude.{None, Option, Some}
-use Prim.Native.Nat.{ℕ, zero, suc, ◌+◌, ◌-◌, ◌^◌, ◌≤◌, ◌<◌}
-use mathlib.Core.Path.{◌≡◌, refl, sym, ◌∙◌}
+use Prim.Native.Nat.{ℕ, zero, suc, ◌+◌, ◌-◌, ◌≤◌, ◌<◌}
+use mathlib.Core.Path.{◌≡◌, refl, sym, ap, ◌∙◌}
 use mathlib.Core.Bool.{Bool, true, false, cond}
+use native.Mathlib.Decide.{dec_lt}
 use native.Mathlib.Omega.{arith}
 use lib.Dec.{eqb}
-use lib.IntN.{ℤ}
-use lib.ListN.{length, get_or}
-use borrow.Author.Tests.{eq-eqb, ne_eqb}
-use Rattle.words.proofs.Tests.{picked, by_test}
-use Rattle.pairs.specs.declared.Gathered.{Gathered}
+use lib.IntN.{ℤ, pos, negsuc}
+use lib.ListN.{length}
+use borrow.Author.Tests.{eq-eqb, ne_eqb, eqb-true}
+use Rattle.std.specs.Bool.{Decides, one_answer}
+use Rattle.std.specs.Option.{option_eq}
+use Rattle.std.specs.Ordering.{int_eq}
+use Rattle.std.proofs.lemmas.Bool.Decides.{Decides-int_eq}
+use Rattle.words.proofs.Tests.{picked, passed, by_test}
 use Rattle.reports.specs.declared.Height.{Height}
 use Rattle.reports.specs.declared.Height.TheVariants as H
 use Rattle.reports.specs.declared.Report.{Report}
 use Rattle.reports.specs.declared.Report.TheVariants as R
 use Rattle.report_items.specs.Items.{last, items_of, item_of, is_of}
-use Rattle.report_items.specs.Given.{as_signed, item_gathered, same_item, agree_to}
+use Rattle.report_items.specs.Given.{same_number, same_item, agree_to}
 use Rattle.report_items.proofs.Back.{both}
 
 -- how many of the numbers 1 to n something is said of
@@ -34,35 +38,28 @@ stand_to (suc n) r said = cond (stands (item_of r (suc n)) (said (suc n))) (stan
 
 -- ---- one number
 
+pub same_number_decides : (x y : ℤ) → Decides (same_number x y) (x ≡ y)
+same_number_decides (pos m) (pos n) = (λ e. ap pos (eqb-true m n e), λ e. eq-eqb m n (cc))
+same_number_decides (pos m) (negsuc n) = (λ e. cc, λ e. cc)
+same_number_decides (negsuc m) (pos n) = (λ e. cc, λ e. cc)
+same_number_decides (negsuc m) (negsuc n) = (λ e. ap negsuc (eqb-true m n e), λ e. eq-eqb m n (cc))
+
+-- as the machine compares
+pub same_by : (a : Option ℤ) (z : ℤ) → option_eq int_eq a (Some z) ≡ same_item a (Some z)
+same_by (Some x) z = one_answer (int_eq x z) (same_number x z) (Decides-int_eq x z) (same_number_decides x z)
+same_by None z = refl
+
 same_stands : (a b : Option ℤ) → same_item a b ≡ true → (stands a b ≡ true) × (is_of a ≡ is_of b)
 same_stands (Some x) (Some y) e = (e, refl)
-same_stands (Some x) None e = let z : ◌≡◌ {A = ℕ} 0 1 = cc in absurd (omega arith)
-same_stands None (Some y) e = let z : ◌≡◌ {A = ℕ} 0 1 = cc in absurd (omega arith)
+same_stands (Some x) None e = cc
+same_stands None (Some y) e = cc
 same_stands None None e = (refl, refl)
 
 stands_same : (a b : Option ℤ) → stands a b ≡ true → (is_of b ≤ is_of a) × (is_of a ≡ is_of b → same_item a b ≡ true)
 stands_same (Some x) (Some y) e = (omega arith, λ h. e)
 stands_same (Some x) None e = (omega arith, λ h. absurd (omega arith))
-stands_same None (Some y) e = let z : ◌≡◌ {A = ℕ} 0 1 = cc in absurd (omega arith)
+stands_same None (Some y) e = cc
 stands_same None None e = (omega arith, λ h. refl)
-
--- of what is gathered
-pub stands_by : (own : Option ℤ) (t : Gathered) (n : ℕ)
-    → cond (get_or t.there n false) (same_item own (Some (as_signed (2 ^ 63) (get_or t.values n 0)))) true ≡ stands own (item_gathered t n)
-unfolding item_gathered
-stands_by own t n = go (get_or t.there n false) (as_signed (2 ^ 63) (get_or t.values n 0))
-  where
-    go : (b : Bool) (z : ℤ) → cond b (same_item own (Some z)) true ≡ stands own (cond b (Some z) None)
-    go true z = refl
-    go false z = refl
-
-pub one_by : (t : Gathered) (n : ℕ) → cond (get_or t.there n false) 1 0 ≡ is_of (item_gathered t n)
-unfolding item_gathered
-one_by t n = go (get_or t.there n false) (as_signed (2 ^ 63) (get_or t.values n 0))
-  where
-    go : (b : Bool) (z : ℤ) → cond b 1 0 ≡ is_of (cond b (Some z) None)
-    go true z = refl
-    go false z = refl
 
 -- ---- from number to number
 
@@ -77,13 +74,17 @@ module _ (r : Report) (said : ℕ → Option ℤ) where
   tally_next zero h = absurd (omega arith)
   tally_next (suc n) h = let e : suc n - 1 ≡ n = omega arith in rw e refl
 
-  pub stand_none : (n : ℕ) → n ≡ 0 → stand_to n r said ≡ true
+  -- where one of them does not stand, not all do
+  pub falls : (n m : ℕ) → 0 < n → n ≤ m → stands (item_of r n) (said n) ≡ false → stand_to m r said ≡ false
   unfolding stand_to
-  stand_none n e = rw e refl
-
-  pub tally_none : (n : ℕ) → n ≡ 0 → tally_to n said ≡ 0
-  unfolding tally_to
-  tally_none n e = rw e refl
+  falls n zero h l e = absurd (omega arith)
+  falls n (suc m) h l e = go (dec_lt n (suc m)) (falls n m h)
+    where
+      go : Dec (n < suc m) → (n ≤ m → stands (item_of r n) (said n) ≡ false → stand_to m r said ≡ false) → stand_to (suc m) r said ≡ false
+      go (yes k) before = rw (before (omega arith) e) (by_test (stands (item_of r (suc m)) (said (suc m))) (λ t. picked _ _ t) (λ t. passed _ _ t))
+      go (no k) before =
+          let q : n ≡ suc m = omega arith in
+          passed _ _ (rw q at e)
 
 -- ---- all of them
 
@@ -139,10 +140,7 @@ pub by_tally : (r : Report) (said : ℕ → Option ℤ) (n : ℕ) → stand_to l
 by_tally r said n s e =
     by_test (agree_to last r said)
     (λ t. eq-eqb n (length (items_of r)) (e ∙ sym (all_stand r said last t).1 ∙ own_tally r) ∙ sym t)
-    (λ t. ne_eqb n (length (items_of r)) (λ q. never (sym t ∙ (as_many r said last s).1 (own_tally r ∙ sym q ∙ e))) ∙ sym t)
-  where
-    never : false ≡ true → ⊥
-    never h = let z : ◌≡◌ {A = ℕ} 0 1 = cc in omega arith
+    (λ t. ne_eqb n (length (items_of r)) (λ q. let never : false ≡ true = sym t ∙ (as_many r said last s).1 (own_tally r ∙ sym q ∙ e) in cc) ∙ sym t)
 
 pub by_one : (r : Report) (said : ℕ → Option ℤ) → stand_to last r said ≡ false → agree_to last r said ≡ false
 by_one r said s = by_test (agree_to last r said) (λ t. sym ((all_stand r said last t).0 ∙ sym t) ∙ s) (λ t. t)

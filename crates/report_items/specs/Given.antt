@@ -3,8 +3,7 @@
 -- the writer refuses with number 11. Definitions only.
 use Rattle.std.specs.Prelude.{ℕ, zero, suc, ◌-◌, ◌%◌, ◌^◌, Bool, true, false, cond, List, [], ◌∷◌, eqb, ltb, ℤ, pos, negsuc, length, get_or, None, Option, Some}
 use Rattle.words.specs.Tests.{all}
-use Rattle.pairs.specs.declared.Gathered.{Gathered}
-use Rattle.pairs.specs.Pairs.{Pair, pairs_in, slots, find_in, value_of, is_found, each_from}
+use Rattle.pairs.specs.Pairs.{Pair, pairs_in, find_in, value_of, gathered_from}
 use Rattle.reports.specs.declared.Search.{Search}
 use Rattle.reports.specs.declared.Strobe.{Strobe}
 use Rattle.reports.specs.declared.Map.{Map}
@@ -38,23 +37,19 @@ unfoldable pub item_given : List Pair → ℕ → Option ℤ
 item_given ps n = item_of_pairs (find_in n ps)
 
 -- the same of what is gathered for the numbers from 0 on
-unfoldable pub item_gathered : Gathered → ℕ → Option ℤ
-item_gathered t n = cond (get_or t.there n false) (Some (as_signed (2 ^ 63) (get_or t.values n 0))) None
-
--- the eight bytes as they stand, for every item's number, and 0 which is none's
-unfoldable pub values_in : List Pair → List ℕ
-values_in ps = each_from value_of 0 slots ps
+unfoldable pub item_gathered : List (Option ℕ) → ℕ → Option ℤ
+item_gathered t n = item_of_pairs (get_or t n None)
 
 -- ---- the record that values make: nothing is tested here
 
-abbrev flag_of : List ℕ → ℕ → Bool
-flag_of v n = eqb (get_or v n 0) 1
+abbrev pub flag_of : List (Option ℕ) → ℕ → Bool
+flag_of v n = eqb (value_of (get_or v n None)) 1
 
 -- of so many bits
-abbrev count_of : ℕ → List ℕ → ℕ → ℕ
-count_of k v n = get_or v n 0 % 2 ^ k
+abbrev pub count_of : ℕ → List (Option ℕ) → ℕ → ℕ
+count_of k v n = value_of (get_or v n None) % 2 ^ k
 
-abbrev pub search_given : List ℕ → Search
+abbrev pub search_given : List (Option ℕ) → Search
 search_given v = record {
   test = flag_of v N.test;
   faa = flag_of v N.faa;
@@ -67,7 +62,7 @@ search_given v = record {
   time = record { 0 = count_of 8 v N.time };
 }
 
-abbrev pub strobe_given : List ℕ → Strobe
+abbrev pub strobe_given : List (Option ℕ) → Strobe
 strobe_given v = record {
   test = flag_of v N.test;
   faa = flag_of v N.faa;
@@ -78,7 +73,7 @@ strobe_given v = record {
   time = record { 0 = count_of 8 v N.time };
 }
 
-abbrev pub map_given : List ℕ → Map
+abbrev pub map_given : List (Option ℕ) → Map
 map_given v = record {
   test = flag_of v N.test;
   variation = count_of 8 v N.variation;
@@ -89,7 +84,7 @@ map_given v = record {
   stop = record { 0 = count_of 16 v N.stop };
 }
 
-abbrev pub status_given : List ℕ → Status
+abbrev pub status_given : List (Option ℕ) → Status
 status_given v = record {
   test = flag_of v N.test;
   faa = flag_of v N.faa;
@@ -99,7 +94,7 @@ status_given v = record {
   fourth = count_of 16 v N.fourth;
 }
 
-abbrev pub rtqc_given : List ℕ → Rtqc
+abbrev pub rtqc_given : List (Option ℕ) → Rtqc
 rtqc_given v = record {
   faa = flag_of v N.faa;
   af = flag_of v N.af;
@@ -110,19 +105,23 @@ rtqc_given v = record {
 }
 
 -- bits 79 to 90 without another radar's data: an altitude, if there is one among the items, else twelve carried bits
-abbrev pub plain_given : Bool → List ℕ → Height
-plain_given high v = cond high (H.Altitude (as_signed (2 ^ 15) (get_or v N.altitude 0))) (H.Carried (count_of 16 v N.carried))
+abbrev pub plain_by : Option ℕ → ℕ → Height
+plain_by (Some altitude) carried = H.Altitude (as_signed (2 ^ 15) altitude)
+plain_by None carried = H.Carried carried
 
-abbrev pub cd_given : List ℕ → Height
+abbrev pub plain_given : List (Option ℕ) → Height
+plain_given v = plain_by (get_or v N.altitude None) (count_of 16 v N.carried)
+
+abbrev pub cd_given : List (Option ℕ) → Height
 cd_given v = H.Cd (flag_of v N.mode_c_of) (record { 0 = count_of 8 v N.run })
 
-abbrev pub mtd_height_given : List ℕ → Height
+abbrev pub mtd_height_given : List (Option ℕ) → Height
 mtd_height_given v = H.Mtd (flag_of v N.mode_c_of) (count_of 8 v N.quality)
 
-abbrev pub rdas_height_given : List ℕ → Height
+abbrev pub rdas_height_given : List (Option ℕ) → Height
 rdas_height_given v = H.Rdas (flag_of v N.mode_c_of) (count_of 8 v N.quality)
 
-abbrev pub dabs_given : List ℕ → Height → Dabs
+abbrev pub dabs_given : List (Option ℕ) → Height → Dabs
 dabs_given v h = record {
   test = flag_of v N.test;
   primary = flag_of v N.primary;
@@ -140,7 +139,7 @@ dabs_given v h = record {
   height = h;
 }
 
-abbrev pub atcrbs_given : List ℕ → Height → Atcrbs
+abbrev pub atcrbs_given : List (Option ℕ) → Height → Atcrbs
 atcrbs_given v h = record {
   test = flag_of v N.test;
   mode3a = flag_of v N.mode3a;
@@ -161,7 +160,7 @@ atcrbs_given v h = record {
   height = h;
 }
 
-abbrev pub mtd_given : List ℕ → Mtd
+abbrev pub mtd_given : List (Option ℕ) → Mtd
 mtd_given v = record {
   test = flag_of v N.test;
   faa = flag_of v N.faa;
@@ -178,7 +177,7 @@ mtd_given v = record {
   ground_traffic = flag_of v N.ground_traffic;
 }
 
-abbrev pub rdas_given : List ℕ → Rdas
+abbrev pub rdas_given : List (Option ℕ) → Rdas
 rdas_given v = record {
   test = flag_of v N.test;
   faa = flag_of v N.faa;
@@ -196,18 +195,18 @@ abbrev pub unfit : Report
 unfit = R.Status record { test = false; faa = false; af = false; second = 65535; third = 0; fourth = 0 }
 
 -- by the kind's number; a number that is no kind's stands for no record
-unfoldable pub built : ℕ → Bool → List ℕ → Report
-built kind high v =
+unfoldable pub built : ℕ → List (Option ℕ) → Report
+built kind v =
     cond (eqb kind (kind_number K.Search)) (R.Search (search_given v))
     (cond (eqb kind (kind_number K.Strobe)) (R.Strobe (strobe_given v))
     (cond (eqb kind (kind_number K.Map)) (R.Map (map_given v))
     (cond (eqb kind (kind_number K.Status)) (R.Status (status_given v))
     (cond (eqb kind (kind_number K.Rtqc)) (R.Rtqc (rtqc_given v))
-    (cond (eqb kind (kind_number K.Dabs)) (R.Dabs (dabs_given v (plain_given high v)))
+    (cond (eqb kind (kind_number K.Dabs)) (R.Dabs (dabs_given v (plain_given v)))
     (cond (eqb kind (kind_number K.DabsCd)) (R.Dabs (dabs_given v (cd_given v)))
     (cond (eqb kind (kind_number K.DabsMtd)) (R.Dabs (dabs_given v (mtd_height_given v)))
     (cond (eqb kind (kind_number K.DabsRdas)) (R.Dabs (dabs_given v (rdas_height_given v)))
-    (cond (eqb kind (kind_number K.Atcrbs)) (R.Atcrbs (atcrbs_given v (plain_given high v)))
+    (cond (eqb kind (kind_number K.Atcrbs)) (R.Atcrbs (atcrbs_given v (plain_given v)))
     (cond (eqb kind (kind_number K.AtcrbsCd)) (R.Atcrbs (atcrbs_given v (cd_given v)))
     (cond (eqb kind (kind_number K.AtcrbsMtd)) (R.Atcrbs (atcrbs_given v (mtd_height_given v)))
     (cond (eqb kind (kind_number K.AtcrbsRdas)) (R.Atcrbs (atcrbs_given v (rdas_height_given v)))
@@ -216,7 +215,7 @@ built kind high v =
     unfit))))))))))))))
 
 abbrev pub built_from : ℕ → List Pair → Report
-built_from kind ps = built kind (is_found (find_in N.altitude ps)) (values_in ps)
+built_from kind ps = built kind (gathered_from 0 ps)
 
 -- ---- the test: the items given are the record's
 

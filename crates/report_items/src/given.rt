@@ -3,249 +3,355 @@
 // one test finds a value that was cut, a flag that is neither 0 nor 1, an item that is missing, foreign or given twice; what fails stands for
 // one record that the writer refuses.
 // Relies on pairs for the items' values, items for a record's own, numbers and reports::kinds for their numbers.
-ghost use Rattle.std.specs.Prelude.{◌≡◌, Bool, true, cond, List, ℕ, ◌^◌, ◌≤◌, length};
-ghost use Rattle.pairs.specs.Pairs.{pairs_in};
+ghost use Rattle.std.specs.Prelude.{◌≡◌, ◌<◌, List, ℕ, Option, ◌^◌, length, get_or, unwrap_or};
+ghost use Rattle.pairs.specs.Pairs.{slots, value_of};
+ghost use Rattle.reports.specs.Kinds.{kind_number};
 ghost use Rattle.report_items.specs.Items.{last, item_of, items_of};
-ghost use Rattle.report_items.specs.Given.{as_signed, item_gathered, search_given, strobe_given, map_given, status_given, rtqc_given, plain_given, cd_given, mtd_height_given, rdas_height_given, dabs_given, atcrbs_given, mtd_given, rdas_given, unfit, built, same_number, same_item, agree_to, given_by, given};
+ghost use Rattle.report_items.specs.Given.{as_signed, flag_of, count_of, item_gathered, search_given, strobe_given, map_given, status_given, rtqc_given, plain_given, cd_given, mtd_height_given, rdas_height_given, dabs_given, atcrbs_given, mtd_given, rdas_given, unfit, built, same_item, agree_to, given};
 
 use crate::items::item_of;
 use crate::numbers;
-use measures::{CoarseAzimuth, CoarseRange, FineAzimuth, FineRange, RunLength, Time};
-use pairs::{Gathered, SLOTS};
-use reports::{Atcrbs, Dabs, Height, Map, Mtd, Rdas, Report, Rtqc, Search, Status, Strobe, kinds};
-
-const ALL_ONES: u64 = 0xFFFF_FFFF_FFFF_FFFF;
-
-// ---- the first number that so many bits do not hold
-
-const TWO_TO_8: u64 = 1 << 8;
-
-const TWO_TO_15: u64 = 1 << 15;
-
-const TWO_TO_16: u64 = 1 << 16;
-
-const TWO_TO_32: u64 = 1 << 32;
-
-const TWO_TO_63: u64 = 1 << 63;
+use measures::{Azimuth, Range, RunLength, Time};
+use pairs::SLOTS;
+use reports::kinds::Kind;
+use reports::{Atcrbs, Dabs, Height, Map, Mtd, Rdas, Report, Rtqc, Search, Status, Strobe};
 
 // ---- what the items say
 
-// Two's complement.
-fn signed_of(v: u64) -> i64
-    ensures { result ≡ as_signed (2 ^ 63) v }
-{
-    if v < TWO_TO_63 {
-        v as i64
-    } else {
-        (0 - 1) - ((ALL_ONES - v) as i64)
+// What is given for each item's number, and for 0, which is none's.
+#[derive(Drop)]
+struct Values([Option<u64>; SLOTS]);
+
+impl Values {
+    // 0 where it is not given.
+    fn value(&self, item: usize) -> u64
+        requires { item < slots }
+        ensures { result ≡ value_of (get_or self.now.0 item None) }
+    {
+        self.0[item].unwrap_or(0)
+    }
+
+    fn flag(&self, item: usize) -> bool
+        requires { item < slots }
+        ensures { result ≡ flag_of self.now.0 item }
+    {
+        self.value(item) == 1
+    }
+
+    // A count is cut to its width. One generic function would need a trait with an impl for each width, which is longer than these three.
+    fn byte(&self, item: usize) -> u8
+        requires { item < slots }
+        ensures { result ≡ count_of 8 self.now.0 item }
+    {
+        (self.value(item) % (1 << 8)) as u8
+    }
+
+    fn word(&self, item: usize) -> u16
+        requires { item < slots }
+        ensures { result ≡ count_of 16 self.now.0 item }
+    {
+        (self.value(item) % (1 << 16)) as u16
+    }
+
+    fn long(&self, item: usize) -> u32
+        requires { item < slots }
+        ensures { result ≡ count_of 32 self.now.0 item }
+    {
+        (self.value(item) % (1 << 32)) as u32
     }
 }
 
-// An altitude that an i16 does not hold counts as 0.
+// Two's complement; an altitude that an i16 does not hold counts as 0.
 fn altitude_of(v: u64) -> i16
     ensures { result ≡ as_signed (2 ^ 15) v }
 {
-    if v < TWO_TO_15 {
-        return v as i16;
-    }
-    let below = ALL_ONES - v;
-    if below < TWO_TO_15 {
-        (0 - 1) - (below as i16)
-    } else {
-        0
-    }
+    i16::try_from(v.cast_signed()).unwrap_or(0)
 }
 
 // ---- the record that values make: four words
 
-fn search_given(v: [u64; SLOTS]) -> Search
-    ensures { result ≡ search_given v }
+fn search_given(v: &Values) -> Search
+    ensures { result ≡ search_given v.now.0 }
 {
     Search {
-        test: v[numbers::TEST] == 1,
-        faa: v[numbers::FAA] == 1,
-        af: v[numbers::AF] == 1,
-        range: CoarseRange((v[numbers::RANGE] % TWO_TO_16) as u16),
-        azimuth: CoarseAzimuth((v[numbers::AZIMUTH] % TWO_TO_16) as u16),
-        aims: v[numbers::AIMS] == 1,
-        code: (v[numbers::AIMS_CODE] % TWO_TO_8) as u8,
-        run: RunLength((v[numbers::RUN] % TWO_TO_8) as u8),
-        time: Time((v[numbers::TIME] % TWO_TO_8) as u8),
+        test: v.flag(numbers::TEST),
+        faa: v.flag(numbers::FAA),
+        af: v.flag(numbers::AF),
+        range: Range(v.word(numbers::RANGE)),
+        azimuth: Azimuth(v.word(numbers::AZIMUTH)),
+        aims: v.flag(numbers::AIMS),
+        code: v.byte(numbers::AIMS_CODE),
+        run: RunLength(v.byte(numbers::RUN)),
+        time: Time(v.byte(numbers::TIME)),
     }
 }
 
-fn strobe_given(v: [u64; SLOTS]) -> Strobe
-    ensures { result ≡ strobe_given v }
+fn strobe_given(v: &Values) -> Strobe
+    ensures { result ≡ strobe_given v.now.0 }
 {
     Strobe {
-        test: v[numbers::TEST] == 1,
-        faa: v[numbers::FAA] == 1,
-        af: v[numbers::AF] == 1,
-        range: CoarseRange((v[numbers::RANGE] % TWO_TO_16) as u16),
-        azimuth: CoarseAzimuth((v[numbers::AZIMUTH] % TWO_TO_16) as u16),
-        run: RunLength((v[numbers::RUN] % TWO_TO_8) as u8),
-        time: Time((v[numbers::TIME] % TWO_TO_8) as u8),
+        test: v.flag(numbers::TEST),
+        faa: v.flag(numbers::FAA),
+        af: v.flag(numbers::AF),
+        range: Range(v.word(numbers::RANGE)),
+        azimuth: Azimuth(v.word(numbers::AZIMUTH)),
+        run: RunLength(v.byte(numbers::RUN)),
+        time: Time(v.byte(numbers::TIME)),
     }
 }
 
-fn map_given(v: [u64; SLOTS]) -> Map
-    ensures { result ≡ map_given v }
+fn map_given(v: &Values) -> Map
+    ensures { result ≡ map_given v.now.0 }
 {
     Map {
-        test: v[numbers::TEST] == 1,
-        variation: (v[numbers::VARIATION] % TWO_TO_8) as u8,
-        faa: v[numbers::FAA] == 1,
-        af: v[numbers::AF] == 1,
-        start: CoarseRange((v[numbers::START] % TWO_TO_16) as u16),
-        azimuth: CoarseAzimuth((v[numbers::AZIMUTH] % TWO_TO_16) as u16),
-        stop: CoarseRange((v[numbers::STOP] % TWO_TO_16) as u16),
+        test: v.flag(numbers::TEST),
+        variation: v.byte(numbers::VARIATION),
+        faa: v.flag(numbers::FAA),
+        af: v.flag(numbers::AF),
+        start: Range(v.word(numbers::START)),
+        azimuth: Azimuth(v.word(numbers::AZIMUTH)),
+        stop: Range(v.word(numbers::STOP)),
     }
 }
 
-fn status_given(v: [u64; SLOTS]) -> Status
-    ensures { result ≡ status_given v }
+fn status_given(v: &Values) -> Status
+    ensures { result ≡ status_given v.now.0 }
 {
     Status {
-        test: v[numbers::TEST] == 1,
-        faa: v[numbers::FAA] == 1,
-        af: v[numbers::AF] == 1,
-        second: (v[numbers::SECOND] % TWO_TO_16) as u16,
-        third: (v[numbers::THIRD] % TWO_TO_16) as u16,
-        fourth: (v[numbers::FOURTH] % TWO_TO_16) as u16,
+        test: v.flag(numbers::TEST),
+        faa: v.flag(numbers::FAA),
+        af: v.flag(numbers::AF),
+        second: v.word(numbers::SECOND),
+        third: v.word(numbers::THIRD),
+        fourth: v.word(numbers::FOURTH),
     }
 }
 
-fn rtqc_given(v: [u64; SLOTS]) -> Rtqc
-    ensures { result ≡ rtqc_given v }
+fn rtqc_given(v: &Values) -> Rtqc
+    ensures { result ≡ rtqc_given v.now.0 }
 {
     Rtqc {
-        faa: v[numbers::FAA] == 1,
-        af: v[numbers::AF] == 1,
-        range: CoarseRange((v[numbers::RANGE] % TWO_TO_16) as u16),
-        azimuth: CoarseAzimuth((v[numbers::AZIMUTH] % TWO_TO_16) as u16),
-        run: RunLength((v[numbers::RUN] % TWO_TO_8) as u8),
-        time: Time((v[numbers::TIME] % TWO_TO_8) as u8),
+        faa: v.flag(numbers::FAA),
+        af: v.flag(numbers::AF),
+        range: Range(v.word(numbers::RANGE)),
+        azimuth: Azimuth(v.word(numbers::AZIMUTH)),
+        run: RunLength(v.byte(numbers::RUN)),
+        time: Time(v.byte(numbers::TIME)),
     }
 }
 
 // ---- seven words
 
 // An altitude, if one is among the items.
-fn plain_given(high: bool, v: [u64; SLOTS]) -> Height
-    ensures { result ≡ plain_given high v }
+fn plain_given(v: &Values) -> Height
+    ensures { result ≡ plain_given v.now.0 }
 {
-    if high {
-        Height::Altitude(altitude_of(v[numbers::ALTITUDE]))
-    } else {
-        Height::Carried((v[numbers::CARRIED] % TWO_TO_16) as u16)
+    match v.0[numbers::ALTITUDE] {
+        Some(altitude) => Height::Altitude(altitude_of(altitude)),
+        None => Height::Carried(v.word(numbers::CARRIED)),
     }
 }
 
-fn cd_given(v: [u64; SLOTS]) -> Height
-    ensures { result ≡ cd_given v }
+fn cd_given(v: &Values) -> Height
+    ensures { result ≡ cd_given v.now.0 }
 {
     Height::Cd {
-        mode_c: v[numbers::MODE_C] == 1,
-        run: RunLength((v[numbers::RUN] % TWO_TO_8) as u8),
+        mode_c: v.flag(numbers::MODE_C),
+        run: RunLength(v.byte(numbers::RUN)),
     }
 }
 
-fn mtd_height_given(v: [u64; SLOTS]) -> Height
-    ensures { result ≡ mtd_height_given v }
+fn mtd_height_given(v: &Values) -> Height
+    ensures { result ≡ mtd_height_given v.now.0 }
 {
     Height::Mtd {
-        mode_c: v[numbers::MODE_C] == 1,
-        quality: (v[numbers::QUALITY] % TWO_TO_8) as u8,
+        mode_c: v.flag(numbers::MODE_C),
+        quality: v.byte(numbers::QUALITY),
     }
 }
 
-fn rdas_height_given(v: [u64; SLOTS]) -> Height
-    ensures { result ≡ rdas_height_given v }
+fn rdas_height_given(v: &Values) -> Height
+    ensures { result ≡ rdas_height_given v.now.0 }
 {
     Height::Rdas {
-        mode_c: v[numbers::MODE_C] == 1,
-        quality: (v[numbers::QUALITY] % TWO_TO_8) as u8,
+        mode_c: v.flag(numbers::MODE_C),
+        quality: v.byte(numbers::QUALITY),
     }
 }
 
-fn dabs_given(v: [u64; SLOTS], height: Height) -> Dabs
-    ensures { result ≡ dabs_given v height }
+fn dabs_given(v: &Values, height: Height) -> Dabs
+    ensures { result ≡ dabs_given v.now.0 height }
 {
     Dabs {
-        test: v[numbers::TEST] == 1,
-        primary: v[numbers::PRIMARY] == 1,
-        spi: v[numbers::SPI] == 1,
-        reinforced: v[numbers::REINFORCED] == 1,
-        code7700: v[numbers::CODE7700] == 1,
-        code7600: v[numbers::CODE7600] == 1,
-        faa: v[numbers::FAA] == 1,
-        range: FineRange((v[numbers::RANGE] % TWO_TO_16) as u16),
-        azimuth: FineAzimuth((v[numbers::AZIMUTH] % TWO_TO_16) as u16),
-        alert: v[numbers::ALERT] == 1,
-        relay: v[numbers::RELAY] == 1,
-        time: Time((v[numbers::TIME] % TWO_TO_8) as u8),
-        address: (v[numbers::ADDRESS] % TWO_TO_32) as u32,
+        test: v.flag(numbers::TEST),
+        primary: v.flag(numbers::PRIMARY),
+        spi: v.flag(numbers::SPI),
+        reinforced: v.flag(numbers::REINFORCED),
+        code7700: v.flag(numbers::CODE7700),
+        code7600: v.flag(numbers::CODE7600),
+        faa: v.flag(numbers::FAA),
+        range: Range(v.word(numbers::RANGE)),
+        azimuth: Azimuth(v.word(numbers::AZIMUTH)),
+        alert: v.flag(numbers::ALERT),
+        relay: v.flag(numbers::RELAY),
+        time: Time(v.byte(numbers::TIME)),
+        address: v.long(numbers::ADDRESS),
         height,
     }
 }
 
-fn atcrbs_given(v: [u64; SLOTS], height: Height) -> Atcrbs
-    ensures { result ≡ atcrbs_given v height }
+fn atcrbs_given(v: &Values, height: Height) -> Atcrbs
+    ensures { result ≡ atcrbs_given v.now.0 height }
 {
     Atcrbs {
-        test: v[numbers::TEST] == 1,
-        mode3a: v[numbers::MODE3A] == 1,
-        spi: v[numbers::SPI] == 1,
-        reinforced: v[numbers::REINFORCED] == 1,
-        code7700: v[numbers::CODE7700] == 1,
-        code7600: v[numbers::CODE7600] == 1,
-        faa: v[numbers::FAA] == 1,
-        range: FineRange((v[numbers::RANGE] % TWO_TO_16) as u16),
-        azimuth: FineAzimuth((v[numbers::AZIMUTH] % TWO_TO_16) as u16),
-        confidence: v[numbers::CONFIDENCE] == 1,
-        transition: v[numbers::TRANSITION] == 1,
-        false_target: v[numbers::FALSE_TARGET] == 1,
-        relay: v[numbers::RELAY] == 1,
-        time: Time((v[numbers::TIME] % TWO_TO_8) as u8),
-        code: (v[numbers::CODE] % TWO_TO_16) as u16,
-        file: (v[numbers::FILE] % TWO_TO_16) as u16,
+        test: v.flag(numbers::TEST),
+        mode3a: v.flag(numbers::MODE3A),
+        spi: v.flag(numbers::SPI),
+        reinforced: v.flag(numbers::REINFORCED),
+        code7700: v.flag(numbers::CODE7700),
+        code7600: v.flag(numbers::CODE7600),
+        faa: v.flag(numbers::FAA),
+        range: Range(v.word(numbers::RANGE)),
+        azimuth: Azimuth(v.word(numbers::AZIMUTH)),
+        confidence: v.flag(numbers::CONFIDENCE),
+        transition: v.flag(numbers::TRANSITION),
+        false_target: v.flag(numbers::FALSE_TARGET),
+        relay: v.flag(numbers::RELAY),
+        time: Time(v.byte(numbers::TIME)),
+        code: v.word(numbers::CODE),
+        file: v.word(numbers::FILE),
         height,
     }
 }
 
-fn mtd_given(v: [u64; SLOTS]) -> Mtd
-    ensures { result ≡ mtd_given v }
+fn mtd_given(v: &Values) -> Mtd
+    ensures { result ≡ mtd_given v.now.0 }
 {
     Mtd {
-        test: v[numbers::TEST] == 1,
-        faa: v[numbers::FAA] == 1,
-        range: FineRange((v[numbers::RANGE] % TWO_TO_16) as u16),
-        azimuth: FineAzimuth((v[numbers::AZIMUTH] % TWO_TO_16) as u16),
-        aims: v[numbers::AIMS] == 1,
-        time: Time((v[numbers::TIME] % TWO_TO_8) as u8),
-        doppler1: (v[numbers::DOPPLER1] % TWO_TO_8) as u8,
-        doppler2: (v[numbers::DOPPLER2] % TWO_TO_8) as u8,
-        file: (v[numbers::FILE] % TWO_TO_16) as u16,
-        quality: (v[numbers::QUALITY] % TWO_TO_8) as u8,
-        confidence: (v[numbers::CONFIDENCE] % TWO_TO_8) as u8,
-        false_target: v[numbers::FALSE_TARGET] == 1,
-        ground_traffic: v[numbers::GROUND] == 1,
+        test: v.flag(numbers::TEST),
+        faa: v.flag(numbers::FAA),
+        range: Range(v.word(numbers::RANGE)),
+        azimuth: Azimuth(v.word(numbers::AZIMUTH)),
+        aims: v.flag(numbers::AIMS),
+        time: Time(v.byte(numbers::TIME)),
+        doppler1: v.byte(numbers::DOPPLER1),
+        doppler2: v.byte(numbers::DOPPLER2),
+        file: v.word(numbers::FILE),
+        quality: v.byte(numbers::QUALITY),
+        confidence: v.byte(numbers::CONFIDENCE),
+        false_target: v.flag(numbers::FALSE_TARGET),
+        ground_traffic: v.flag(numbers::GROUND),
     }
 }
 
-fn rdas_given(v: [u64; SLOTS]) -> Rdas
-    ensures { result ≡ rdas_given v }
+fn rdas_given(v: &Values) -> Rdas
+    ensures { result ≡ rdas_given v.now.0 }
 {
     Rdas {
-        test: v[numbers::TEST] == 1,
-        faa: v[numbers::FAA] == 1,
-        range: FineRange((v[numbers::RANGE] % TWO_TO_16) as u16),
-        azimuth: FineAzimuth((v[numbers::AZIMUTH] % TWO_TO_16) as u16),
-        aims: v[numbers::AIMS] == 1,
-        time: Time((v[numbers::TIME] % TWO_TO_8) as u8),
-        file: (v[numbers::FILE] % TWO_TO_16) as u16,
-        quality: (v[numbers::QUALITY] % TWO_TO_8) as u8,
-        false_target: v[numbers::FALSE_TARGET] == 1,
+        test: v.flag(numbers::TEST),
+        faa: v.flag(numbers::FAA),
+        range: Range(v.word(numbers::RANGE)),
+        azimuth: Azimuth(v.word(numbers::AZIMUTH)),
+        aims: v.flag(numbers::AIMS),
+        time: Time(v.byte(numbers::TIME)),
+        file: v.word(numbers::FILE),
+        quality: v.byte(numbers::QUALITY),
+        false_target: v.flag(numbers::FALSE_TARGET),
+    }
+}
+
+#[tactic(auto, unfolding(crate::specs::Given::built))]
+fn built_of(kind: Kind, v: &Values) -> Report
+    ensures { result ≡ built (kind_number kind) v.now.0 }
+{
+    match kind {
+        Kind::Search => Report::Search(search_given(v)),
+        Kind::Strobe => Report::Strobe(strobe_given(v)),
+        Kind::Map => Report::Map(map_given(v)),
+        Kind::Status => Report::Status(status_given(v)),
+        Kind::Rtqc => Report::Rtqc(rtqc_given(v)),
+        Kind::Dabs => Report::Dabs(dabs_given(v, plain_given(v))),
+        Kind::DabsCd => Report::Dabs(dabs_given(v, cd_given(v))),
+        Kind::DabsMtd => Report::Dabs(dabs_given(v, mtd_height_given(v))),
+        Kind::DabsRdas => Report::Dabs(dabs_given(v, rdas_height_given(v))),
+        Kind::Atcrbs => Report::Atcrbs(atcrbs_given(v, plain_given(v))),
+        Kind::AtcrbsCd => Report::Atcrbs(atcrbs_given(v, cd_given(v))),
+        Kind::AtcrbsMtd => Report::Atcrbs(atcrbs_given(v, mtd_height_given(v))),
+        Kind::AtcrbsRdas => Report::Atcrbs(atcrbs_given(v, rdas_height_given(v))),
+        Kind::Mtd => Report::Mtd(mtd_given(v)),
+        Kind::Rdas => Report::Rdas(rdas_given(v)),
+    }
+}
+
+// ---- the test
+
+// How many items the record of a kind has, whatever their values are.
+#[tactic(auto, unfolding(crate::specs::Given::built))]
+fn size_of(kind: Kind) -> usize
+    ensures { (v : List (Option ℕ)) → length (items_of (built (kind_number kind) v)) ≡ result }
+{
+    match kind {
+        Kind::Search => 9,
+        Kind::Strobe => 7,
+        Kind::Map => 7,
+        Kind::Status => 6,
+        Kind::Rtqc => 6,
+        Kind::Dabs => 14,
+        Kind::DabsCd => 15,
+        Kind::DabsMtd => 15,
+        Kind::DabsRdas => 15,
+        Kind::Atcrbs => 17,
+        Kind::AtcrbsCd => 18,
+        Kind::AtcrbsMtd => 18,
+        Kind::AtcrbsRdas => 18,
+        Kind::Mtd => 13,
+        Kind::Rdas => 9,
+    }
+}
+
+// The report has this value for the number.
+fn stands(report: Report, n: usize, value: u64) -> bool
+    ensures { result ≡ same_item (item_of report n) (Some (as_signed (2 ^ 63) value)) }
+{
+    item_of(report, n) == Some(value.cast_signed())
+}
+
+// For each number the report, of so many items, has what is given for it: whatever is given stands in the report, and so many are given. Only
+// what is given is looked up in the report: to look up every number takes more time (docs/PERFORMANCE.md).
+fn agrees(report: Report, size: usize, v: &Values) -> bool
+    requires { length (items_of report) ≡ size }
+    ensures { result ≡ agree_to last report (item_gathered v.now.0) }
+{
+    let mut count = 0;
+    for n in 1..SLOTS {
+        if let Some(value) = v.0[n] {
+            if !stands(report, n, value) {
+                return false;
+            }
+            count += 1;
+        }
+    }
+    count == size
+}
+
+// The record of a kind and these items, where they are a record's.
+fn record_given(kind: u32, items: &[u8]) -> Option<Report>
+    ensures { unwrap_or result unfit ≡ given kind items.now }
+{
+    if !pairs::whole(items) {
+        return None;
+    }
+    let kind = Kind::try_from(kind).ok()?;
+    let size = size_of(kind);
+    if pairs::count(items) != size {
+        return None;
+    }
+    let values = Values(pairs::gather(items, 0));
+    let report = built_of(kind, &values);
+    if agrees(report, size, &values) {
+        Some(report)
+    } else {
+        None
     }
 }
 
@@ -263,134 +369,9 @@ fn no_record() -> Report
     })
 }
 
-fn built_of(kind: u32, high: bool, v: [u64; SLOTS]) -> Report
-    ensures { result ≡ built kind high v }
-{
-    match kind {
-        kinds::SEARCH => Report::Search(search_given(v)),
-        kinds::STROBE => Report::Strobe(strobe_given(v)),
-        kinds::MAP => Report::Map(map_given(v)),
-        kinds::STATUS => Report::Status(status_given(v)),
-        kinds::RTQC => Report::Rtqc(rtqc_given(v)),
-        kinds::DABS => Report::Dabs(dabs_given(v, plain_given(high, v))),
-        kinds::DABS_CD => Report::Dabs(dabs_given(v, cd_given(v))),
-        kinds::DABS_MTD => Report::Dabs(dabs_given(v, mtd_height_given(v))),
-        kinds::DABS_RDAS => Report::Dabs(dabs_given(v, rdas_height_given(v))),
-        kinds::ATCRBS => Report::Atcrbs(atcrbs_given(v, plain_given(high, v))),
-        kinds::ATCRBS_CD => Report::Atcrbs(atcrbs_given(v, cd_given(v))),
-        kinds::ATCRBS_MTD => Report::Atcrbs(atcrbs_given(v, mtd_height_given(v))),
-        kinds::ATCRBS_RDAS => Report::Atcrbs(atcrbs_given(v, rdas_height_given(v))),
-        kinds::MTD => Report::Mtd(mtd_given(v)),
-        kinds::RDAS => Report::Rdas(rdas_given(v)),
-        _ => no_record(),
-    }
-}
-
-// ---- the test
-
-// How many items the record of a kind has, whatever their values are; a number that is no kind's, what stands for no record.
-fn size_of(kind: u32) -> usize
-    ensures { (high : Bool) (v : List ℕ) → length (items_of (built kind high v)) ≡ result }
-{
-    match kind {
-        kinds::SEARCH => 9,
-        kinds::STROBE => 7,
-        kinds::MAP => 7,
-        kinds::STATUS => 6,
-        kinds::RTQC => 6,
-        kinds::DABS => 14,
-        kinds::DABS_CD => 15,
-        kinds::DABS_MTD => 15,
-        kinds::DABS_RDAS => 15,
-        kinds::ATCRBS => 17,
-        kinds::ATCRBS_CD => 18,
-        kinds::ATCRBS_MTD => 18,
-        kinds::ATCRBS_RDAS => 18,
-        kinds::MTD => 13,
-        kinds::RDAS => 9,
-        _ => 6,
-    }
-}
-
-fn same_number(x: i64, y: i64) -> bool
-    ensures { result ≡ same_number x y }
-{
-    x == y
-}
-
-// An item is there and has this value.
-fn same(own: Option<i64>, y: i64) -> bool
-    ensures { result ≡ same_item own (Some y) }
-{
-    match own {
-        Some(x) => same_number(x, y),
-        None => false,
-    }
-}
-
-// A value that is given for a number is what the report has there.
-fn stands(report: Report, n: usize, there: bool, v: u64) -> bool
-    ensures { result ≡ cond there (same_item (item_of report n) (Some (as_signed (2 ^ 63) v))) true }
-{
-    if there {
-        same(item_of(report, n), signed_of(v))
-    } else {
-        true
-    }
-}
-
-fn one(there: bool) -> usize
-    ensures { (result ≡ cond there 1 0) × (result ≤ 1) }
-{
-    if there { 1 } else { 0 }
-}
-
-// For each number the report, of so many items, has what is given for it: whatever is given stands in the report, and so many are given.
-fn agrees(report: Report, size: usize, gathered: Gathered) -> bool
-    requires { length (items_of report) ≡ size }
-    ensures { result ≡ agree_to last report (item_gathered gathered) }
-{
-    let there = gathered.there;
-    let values = gathered.values;
-    let mut count: usize = 0;
-    let mut n = numbers::LAST;
-    while 0 < n {
-        if stands(report, n, there[n], values[n]) {
-            count += one(there[n]);
-            n -= 1;
-        } else {
-            return false;
-        }
-    }
-    count == size
-}
-
-// From whole items.
-fn given_by(kind: u32, items: &[u8]) -> Report
-    ensures { result ≡ given_by kind (pairs_in items.now) }
-{
-    let size = size_of(kind);
-    if pairs::count(items) != size {
-        return no_record();
-    }
-    let gathered = pairs::gather(items, 0);
-    let there = gathered.there;
-    let values = gathered.values;
-    let report = built_of(kind, there[numbers::ALTITUDE], values);
-    if agrees(report, size, gathered) {
-        report
-    } else {
-        no_record()
-    }
-}
-
 // The report, or the one that the writer refuses.
 pub fn given(kind: u32, items: &[u8]) -> Report
     ensures { result ≡ given kind items.now }
 {
-    if pairs::whole(items) {
-        given_by(kind, items)
-    } else {
-        no_record()
-    }
+    record_given(kind, items).unwrap_or(no_record())
 }

@@ -1,6 +1,6 @@
 // The items of a report: what a C program asks for by number. Every number is answered: an item that the report has not is Missing.
 // Relies on the records of reports, numbers for the items.
-ghost use Rattle.std.specs.Prelude.{◌≡◌, cond, pos};
+ghost use Rattle.std.specs.Prelude.{◌≡◌};
 ghost use Rattle.reports.specs.declared.Height.TheVariants as Ht;
 ghost use Rattle.reports.specs.declared.Report.TheVariants as R;
 ghost use Rattle.report_items.specs.Items.{lookup, height_items, item_of};
@@ -9,46 +9,13 @@ use crate::numbers;
 use measures::RunLength;
 use reports::{Atcrbs, Dabs, Height, Map, Mtd, Rdas, Report, Rtqc, Search, Status, Strobe};
 
-// ---- values
-
-fn flag(b: bool) -> Option<i64>
-    ensures { result ≡ Some (pos (cond b 1 0)) }
-{
-    if b { Some(1) } else { Some(0) }
-}
-
-// A count, by its width.
-fn small(n: u8) -> Option<i64>
-    ensures { result ≡ Some (pos n) }
-{
-    Some(n as i64)
-}
-
-fn count(n: u16) -> Option<i64>
-    ensures { result ≡ Some (pos n) }
-{
-    Some(n as i64)
-}
-
-fn large(n: u32) -> Option<i64>
-    ensures { result ≡ Some (pos n) }
-{
-    Some(n as i64)
-}
-
-fn signed(z: i16) -> Option<i64>
-    ensures { result ≡ Some z }
-{
-    Some(z as i64)
-}
-
 // ---- bits 79 to 90
 
 fn altitude_item(z: i16, item: usize) -> Option<i64>
     ensures { result ≡ lookup item (height_items (Ht.Altitude z)) }
 {
     match item {
-        numbers::ALTITUDE => signed(z),
+        numbers::ALTITUDE => Some(z.into()),
         _ => None,
     }
 }
@@ -57,7 +24,7 @@ fn carried_item(n: u16, item: usize) -> Option<i64>
     ensures { result ≡ lookup item (height_items (Ht.Carried n)) }
 {
     match item {
-        numbers::CARRIED => count(n),
+        numbers::CARRIED => Some(n.into()),
         _ => None,
     }
 }
@@ -66,8 +33,8 @@ fn cd_item(mode_c: bool, run: RunLength, item: usize) -> Option<i64>
     ensures { result ≡ lookup item (height_items (Ht.Cd mode_c run)) }
 {
     match item {
-        numbers::MODE_C => flag(mode_c),
-        numbers::RUN => small(run.0),
+        numbers::MODE_C => Some(mode_c.into()),
+        numbers::RUN => Some(run.0.into()),
         _ => None,
     }
 }
@@ -77,8 +44,8 @@ fn quality_item(mode_c: bool, quality: u8, item: usize) -> Option<i64>
     ensures { result ≡ lookup item (height_items (Ht.Mtd mode_c quality)) }
 {
     match item {
-        numbers::MODE_C => flag(mode_c),
-        numbers::QUALITY => small(quality),
+        numbers::MODE_C => Some(mode_c.into()),
+        numbers::QUALITY => Some(quality.into()),
         _ => None,
     }
 }
@@ -101,15 +68,15 @@ fn search_item(s: Search, item: usize) -> Option<i64>
     ensures { result ≡ item_of (R.Search s) item }
 {
     match item {
-        numbers::TEST => flag(s.test),
-        numbers::FAA => flag(s.faa),
-        numbers::AF => flag(s.af),
-        numbers::RANGE => count(s.range.0),
-        numbers::AZIMUTH => count(s.azimuth.0),
-        numbers::AIMS => flag(s.aims),
-        numbers::AIMS_CODE => small(s.code),
-        numbers::RUN => small(s.run.0),
-        numbers::TIME => small(s.time.0),
+        numbers::TEST => Some(s.test.into()),
+        numbers::FAA => Some(s.faa.into()),
+        numbers::AF => Some(s.af.into()),
+        numbers::RANGE => Some(s.range.0.into()),
+        numbers::AZIMUTH => Some(s.azimuth.0.into()),
+        numbers::AIMS => Some(s.aims.into()),
+        numbers::AIMS_CODE => Some(s.code.into()),
+        numbers::RUN => Some(s.run.0.into()),
+        numbers::TIME => Some(s.time.0.into()),
         _ => None,
     }
 }
@@ -118,13 +85,13 @@ fn strobe_item(s: Strobe, item: usize) -> Option<i64>
     ensures { result ≡ item_of (R.Strobe s) item }
 {
     match item {
-        numbers::TEST => flag(s.test),
-        numbers::FAA => flag(s.faa),
-        numbers::AF => flag(s.af),
-        numbers::RANGE => count(s.range.0),
-        numbers::AZIMUTH => count(s.azimuth.0),
-        numbers::RUN => small(s.run.0),
-        numbers::TIME => small(s.time.0),
+        numbers::TEST => Some(s.test.into()),
+        numbers::FAA => Some(s.faa.into()),
+        numbers::AF => Some(s.af.into()),
+        numbers::RANGE => Some(s.range.0.into()),
+        numbers::AZIMUTH => Some(s.azimuth.0.into()),
+        numbers::RUN => Some(s.run.0.into()),
+        numbers::TIME => Some(s.time.0.into()),
         _ => None,
     }
 }
@@ -133,13 +100,13 @@ fn map_item(m: Map, item: usize) -> Option<i64>
     ensures { result ≡ item_of (R.Map m) item }
 {
     match item {
-        numbers::TEST => flag(m.test),
-        numbers::VARIATION => small(m.variation),
-        numbers::FAA => flag(m.faa),
-        numbers::AF => flag(m.af),
-        numbers::START => count(m.start.0),
-        numbers::AZIMUTH => count(m.azimuth.0),
-        numbers::STOP => count(m.stop.0),
+        numbers::TEST => Some(m.test.into()),
+        numbers::VARIATION => Some(m.variation.into()),
+        numbers::FAA => Some(m.faa.into()),
+        numbers::AF => Some(m.af.into()),
+        numbers::START => Some(m.start.0.into()),
+        numbers::AZIMUTH => Some(m.azimuth.0.into()),
+        numbers::STOP => Some(m.stop.0.into()),
         _ => None,
     }
 }
@@ -148,12 +115,12 @@ fn status_item(s: Status, item: usize) -> Option<i64>
     ensures { result ≡ item_of (R.Status s) item }
 {
     match item {
-        numbers::TEST => flag(s.test),
-        numbers::FAA => flag(s.faa),
-        numbers::AF => flag(s.af),
-        numbers::SECOND => count(s.second),
-        numbers::THIRD => count(s.third),
-        numbers::FOURTH => count(s.fourth),
+        numbers::TEST => Some(s.test.into()),
+        numbers::FAA => Some(s.faa.into()),
+        numbers::AF => Some(s.af.into()),
+        numbers::SECOND => Some(s.second.into()),
+        numbers::THIRD => Some(s.third.into()),
+        numbers::FOURTH => Some(s.fourth.into()),
         _ => None,
     }
 }
@@ -162,12 +129,12 @@ fn rtqc_item(s: Rtqc, item: usize) -> Option<i64>
     ensures { result ≡ item_of (R.Rtqc s) item }
 {
     match item {
-        numbers::FAA => flag(s.faa),
-        numbers::AF => flag(s.af),
-        numbers::RANGE => count(s.range.0),
-        numbers::AZIMUTH => count(s.azimuth.0),
-        numbers::RUN => small(s.run.0),
-        numbers::TIME => small(s.time.0),
+        numbers::FAA => Some(s.faa.into()),
+        numbers::AF => Some(s.af.into()),
+        numbers::RANGE => Some(s.range.0.into()),
+        numbers::AZIMUTH => Some(s.azimuth.0.into()),
+        numbers::RUN => Some(s.run.0.into()),
+        numbers::TIME => Some(s.time.0.into()),
         _ => None,
     }
 }
@@ -179,19 +146,19 @@ fn dabs_item(d: Dabs, item: usize) -> Option<i64>
 {
     let height = d.height;
     match item {
-        numbers::TEST => flag(d.test),
-        numbers::PRIMARY => flag(d.primary),
-        numbers::SPI => flag(d.spi),
-        numbers::REINFORCED => flag(d.reinforced),
-        numbers::CODE7700 => flag(d.code7700),
-        numbers::CODE7600 => flag(d.code7600),
-        numbers::FAA => flag(d.faa),
-        numbers::RANGE => count(d.range.0),
-        numbers::AZIMUTH => count(d.azimuth.0),
-        numbers::ALERT => flag(d.alert),
-        numbers::RELAY => flag(d.relay),
-        numbers::TIME => small(d.time.0),
-        numbers::ADDRESS => large(d.address),
+        numbers::TEST => Some(d.test.into()),
+        numbers::PRIMARY => Some(d.primary.into()),
+        numbers::SPI => Some(d.spi.into()),
+        numbers::REINFORCED => Some(d.reinforced.into()),
+        numbers::CODE7700 => Some(d.code7700.into()),
+        numbers::CODE7600 => Some(d.code7600.into()),
+        numbers::FAA => Some(d.faa.into()),
+        numbers::RANGE => Some(d.range.0.into()),
+        numbers::AZIMUTH => Some(d.azimuth.0.into()),
+        numbers::ALERT => Some(d.alert.into()),
+        numbers::RELAY => Some(d.relay.into()),
+        numbers::TIME => Some(d.time.0.into()),
+        numbers::ADDRESS => Some(d.address.into()),
         _ => height_item(height, item),
     }
 }
@@ -201,22 +168,22 @@ fn atcrbs_item(a: Atcrbs, item: usize) -> Option<i64>
 {
     let height = a.height;
     match item {
-        numbers::TEST => flag(a.test),
-        numbers::MODE3A => flag(a.mode3a),
-        numbers::SPI => flag(a.spi),
-        numbers::REINFORCED => flag(a.reinforced),
-        numbers::CODE7700 => flag(a.code7700),
-        numbers::CODE7600 => flag(a.code7600),
-        numbers::FAA => flag(a.faa),
-        numbers::RANGE => count(a.range.0),
-        numbers::AZIMUTH => count(a.azimuth.0),
-        numbers::CONFIDENCE => flag(a.confidence),
-        numbers::TRANSITION => flag(a.transition),
-        numbers::FALSE_TARGET => flag(a.false_target),
-        numbers::RELAY => flag(a.relay),
-        numbers::TIME => small(a.time.0),
-        numbers::CODE => count(a.code),
-        numbers::FILE => count(a.file),
+        numbers::TEST => Some(a.test.into()),
+        numbers::MODE3A => Some(a.mode3a.into()),
+        numbers::SPI => Some(a.spi.into()),
+        numbers::REINFORCED => Some(a.reinforced.into()),
+        numbers::CODE7700 => Some(a.code7700.into()),
+        numbers::CODE7600 => Some(a.code7600.into()),
+        numbers::FAA => Some(a.faa.into()),
+        numbers::RANGE => Some(a.range.0.into()),
+        numbers::AZIMUTH => Some(a.azimuth.0.into()),
+        numbers::CONFIDENCE => Some(a.confidence.into()),
+        numbers::TRANSITION => Some(a.transition.into()),
+        numbers::FALSE_TARGET => Some(a.false_target.into()),
+        numbers::RELAY => Some(a.relay.into()),
+        numbers::TIME => Some(a.time.0.into()),
+        numbers::CODE => Some(a.code.into()),
+        numbers::FILE => Some(a.file.into()),
         _ => height_item(height, item),
     }
 }
@@ -225,19 +192,19 @@ fn mtd_item(m: Mtd, item: usize) -> Option<i64>
     ensures { result ≡ item_of (R.Mtd m) item }
 {
     match item {
-        numbers::TEST => flag(m.test),
-        numbers::FAA => flag(m.faa),
-        numbers::RANGE => count(m.range.0),
-        numbers::AZIMUTH => count(m.azimuth.0),
-        numbers::AIMS => flag(m.aims),
-        numbers::TIME => small(m.time.0),
-        numbers::DOPPLER1 => small(m.doppler1),
-        numbers::DOPPLER2 => small(m.doppler2),
-        numbers::FILE => count(m.file),
-        numbers::QUALITY => small(m.quality),
-        numbers::CONFIDENCE => small(m.confidence),
-        numbers::FALSE_TARGET => flag(m.false_target),
-        numbers::GROUND => flag(m.ground_traffic),
+        numbers::TEST => Some(m.test.into()),
+        numbers::FAA => Some(m.faa.into()),
+        numbers::RANGE => Some(m.range.0.into()),
+        numbers::AZIMUTH => Some(m.azimuth.0.into()),
+        numbers::AIMS => Some(m.aims.into()),
+        numbers::TIME => Some(m.time.0.into()),
+        numbers::DOPPLER1 => Some(m.doppler1.into()),
+        numbers::DOPPLER2 => Some(m.doppler2.into()),
+        numbers::FILE => Some(m.file.into()),
+        numbers::QUALITY => Some(m.quality.into()),
+        numbers::CONFIDENCE => Some(m.confidence.into()),
+        numbers::FALSE_TARGET => Some(m.false_target.into()),
+        numbers::GROUND => Some(m.ground_traffic.into()),
         _ => None,
     }
 }
@@ -246,15 +213,15 @@ fn rdas_item(x: Rdas, item: usize) -> Option<i64>
     ensures { result ≡ item_of (R.Rdas x) item }
 {
     match item {
-        numbers::TEST => flag(x.test),
-        numbers::FAA => flag(x.faa),
-        numbers::RANGE => count(x.range.0),
-        numbers::AZIMUTH => count(x.azimuth.0),
-        numbers::AIMS => flag(x.aims),
-        numbers::TIME => small(x.time.0),
-        numbers::FILE => count(x.file),
-        numbers::QUALITY => small(x.quality),
-        numbers::FALSE_TARGET => flag(x.false_target),
+        numbers::TEST => Some(x.test.into()),
+        numbers::FAA => Some(x.faa.into()),
+        numbers::RANGE => Some(x.range.0.into()),
+        numbers::AZIMUTH => Some(x.azimuth.0.into()),
+        numbers::AIMS => Some(x.aims.into()),
+        numbers::TIME => Some(x.time.0.into()),
+        numbers::FILE => Some(x.file.into()),
+        numbers::QUALITY => Some(x.quality.into()),
+        numbers::FALSE_TARGET => Some(x.false_target.into()),
         _ => None,
     }
 }

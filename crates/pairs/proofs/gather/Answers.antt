@@ -1,85 +1,88 @@
 -- `pairs::gather` meets its contract: what is found among the pairs behind those that are left. Assumes nothing.
 use Rattle.std.specs.Prelude.{None, Option, Some}
+use borrow.Author.Rules.{rules}
 use native.Mathlib.Omega.{arith}
 use mathlib.Core.Path.{◌≡◌, refl, sym, ap, ◌∙◌}
-use mathlib.Core.List.{List, ◌∷◌}
-use Prim.Native.Nat.{ℕ, suc, ◌+◌, ◌-◌, ◌*◌, ◌/◌, ◌≤◌, ◌<◌}
-use lib.ListN.{length, drop, set, replicate}
-use Rattle.pairs.specs.Pairs.{Pair, eight, pairs, pairs_in, find_in, is_found, value_of, each_from, gathered_from, Slot, slots}
-use Rattle.pairs.proofs.Laws.{pairs_before, slot_anew, slot_other}
+use mathlib.Core.List.{List, [], ◌∷◌, ◌++◌}
+use Prim.Native.Nat.{ℕ, suc, ◌+◌, ◌-◌, ◌*◌, ◌/◌, ◌≤◌}
+use lib.ListN.{length, drop, take, set, replicate}
+use lib.Seq.{drop-drop}
+use Rattle.std.proofs.lemmas.List.{length_push, same_from_push}
+use Rattle.std.specs.Simd.{first_chunks}
+use Rattle.pairs.specs.Pairs.{Pair, eight, pairs, pairs_in, find_in, each_from, gathered_from, Slot, slots}
+use Rattle.pairs.proofs.Laws.{pairs_before, eight_within, chunks_more, slot_anew, slot_other}
 use Rattle.pairs.proofs.gather.Goals as goal
-use Rattle.pairs.proofs.gather.Invariants.{behind}
+use Rattle.pairs.proofs.gather.Invariants.{behind, Left}
 
 -- one more of them
-one_more : (s : List ℕ) (left m : ℕ) → left ≡ suc m → left ≤ length s / 16 → behind s m ≡ (eight (drop (16 * m) s), eight (drop (16 * m + 8) s)) ∷ behind s left
-one_more s left m e h =
-    let k : length s / 16 - m ≡ suc (length s / 16 - left) = omega arith in
-    let n : 16 * m + 16 ≡ 16 * left = omega arith in
+one_more : (s : List ℕ) (m : ℕ) → suc m ≤ length s / 16 → behind s m ≡ (eight (drop (16 * m) s), eight (drop (16 * m + 8) s)) ∷ behind s (suc m)
+one_more s m h =
+    let k : length s / 16 - m ≡ suc (length s / 16 - suc m) = omega arith in
+    let n : 16 * m + 16 ≡ 16 * suc m = omega arith in
     ap (λ (x : ℕ). pairs x (drop (16 * m) s)) k
-    ∙ pairs_before (length s / 16 - left) (16 * m) s
-    ∙ ap (λ (x : ℕ). (eight (drop (16 * m) s), eight (drop (16 * m + 8) s)) ∷ pairs (length s / 16 - left) (drop x s)) n
+    ∙ pairs_before (length s / 16 - suc m) (16 * m) s
+    ∙ ap (λ (x : ℕ). (eight (drop (16 * m) s), eight (drop (16 * m + 8) s)) ∷ pairs (length s / 16 - suc m) (drop x s)) n
 
 -- none yet
-none : {X : Type 0} (f : Option ℕ → X) (n : ℕ) (s : List ℕ) {l : List X} → l ≡ replicate slots (f None) → l ≡ each_from f n slots (behind s (length s / 16))
+none : (first : ℕ) (s : List ℕ) (rest : List (List ℕ)) → rest ≡ first_chunks 16 (length s / 16) s → length rest ≡ length s / 16 → Left first s rest (replicate slots None)
 unfolding pairs each_from find_in
-none f n s e =
+none first s rest e n =
     let z : length s / 16 - length s / 16 ≡ 0 = omega arith in
-    rw z e
+    record { within = omega (arith, n); chunks = rw n e; told = rw (n, z) refl }
 
--- it is a pair of one of the numbers, or of none
-module _ {X : Type 0} (f : Option ℕ → X) (first : ℕ) (s : List ℕ) (left n k : ℕ) (l : List X) (h : 0 < left) (m : left ≤ length s / 16)
-    (e : l ≡ each_from f first slots (behind s left)) (p : n ≡ eight (drop (16 * (left - 1)) s)) (o : Slot first n k) where
-  q : left ≡ suc (left - 1)
-  q = omega arith
+-- the last of those that are left, and the others
+module _ (first : ℕ) (s : List ℕ) (rest before : List (List ℕ)) (pair : List ℕ) (is : rest ≡ before ++ (pair ∷ [])) (found : List (Option ℕ)) (l : Left first s rest found) where
+  abbrev n : ℕ
+  n = length before
 
-  sets : (v : ℕ) → v ≡ eight (drop (16 * (left - 1) + 8) s) → k < slots → set l k (f (Some v)) ≡ each_from f first slots (behind s (left - 1))
-  sets v w a =
-      ap (λ (x : List X). set x k (f (Some v))) e
-      ∙ slot_anew f first n v k (behind s left) o a
-      ∙ ap (λ (x : ℕ). each_from f first slots ((x, v) ∷ behind s left)) p
-      ∙ ap (λ (x : ℕ). each_from f first slots ((eight (drop (16 * (left - 1)) s), x) ∷ behind s left)) w
-      ∙ ap (λ (x : List Pair). each_from f first slots x) (sym (one_more s left (left - 1) q m))
+  more : length rest ≡ suc n
+  more = ap length is ∙ length_push before pair ∙ omega arith
 
-  leaves : slots ≤ k → l ≡ each_from f first slots (behind s (left - 1))
-  leaves a =
-      e
-      ∙ sym (slot_other f first n (eight (drop (16 * (left - 1) + 8) s)) k (behind s left) o a)
-      ∙ ap (λ (x : ℕ). each_from f first slots ((x, eight (drop (16 * (left - 1) + 8) s)) ∷ behind s left)) p
-      ∙ ap (λ (x : List Pair). each_from f first slots x) (sym (one_more s left (left - 1) q m))
+  parts : (before ≡ first_chunks 16 n s) × (pair ≡ take 16 (drop (16 * n) s))
+  parts = same_from_push before (first_chunks 16 n s) pair (take 16 (drop (16 * n) s)) (sym is ∙ l.chunks ∙ ap (λ (k : ℕ). first_chunks 16 k s) more ∙ chunks_more n s)
 
-pub loop-left-init : goal.loop-left-init
-loop-left-init c =
-    let s = c.args.items.now in
-    (omega arith, none is_found _ s refl, none value_of _ s refl)
+  next : behind s n ≡ (eight pair, eight (drop 8 pair)) ∷ behind s (length rest)
+  next =
+      let a : eight pair ≡ eight (drop (16 * n) s) = ap eight parts.1 ∙ eight_within 16 0 (drop (16 * n) s) (omega arith) in
+      let b : eight (drop 8 pair) ≡ eight (drop (16 * n + 8) s) =
+      ap (λ (x : List ℕ). eight (drop 8 x)) parts.1 ∙ eight_within 16 8 (drop (16 * n) s) (omega arith) ∙ ap eight (drop-drop 8 (16 * n) s) in
+      let m : suc n ≤ length s / 16 = omega (arith, more, l.within) in
+      rw (a, b, more) (one_more s n m)
 
-pub loop-left-preserved-then-k-lt-SLOTS : goal.loop-left-preserved-then-k-lt-SLOTS
-loop-left-preserved-then-k-lt-SLOTS c =
-    let l = c.loop-left in
+  with_next : {x : List (Option ℕ)} → x ≡ each_from (λ y. y) first slots ((eight pair, eight (drop 8 pair)) ∷ behind s (length rest)) → Left first s before x
+  with_next e = record {
+    within = omega (arith, more, l.within);
+    chunks = parts.0;
+    told = e ∙ ap (λ (ps : List Pair). each_from (λ y. y) first slots ps) (sym next);
+  }
+
+  sets : (m k v : ℕ) → m ≡ eight pair → v ≡ eight (drop 8 pair) → Slot first m (Some k) → Left first s before (set found k (Some v))
+  sets m k v p q o =
+      with_next (ap (λ (x : List (Option ℕ)). set x k (Some v)) l.told ∙ slot_anew first m v k (behind s (length rest)) o ∙ rw (p, q) refl)
+
+  leaves : (m : ℕ) → m ≡ eight pair → Slot first m None → Left first s before found
+  leaves m p o = with_next (l.told ∙ sym (slot_other first m (eight (drop 8 pair)) (behind s (length rest)) o) ∙ rw p refl)
+
+pub loop-pair-init : goal.loop-pair-init
+loop-pair-init c = none c.args.first c.args.items.now _ (search rules) (search rules)
+
+pub loop-pair-preserved-in-Some-slot : goal.loop-pair-preserved-in-Some-slot
+loop-pair-preserved-in-Some-slot c =
+    let l = c.loop-pair in
     let a = c.args in
-    let n = c.eight.result in
-    let p = c.eight.ensures in (
-      omega arith,
-      sets is_found a.first a.items.now l.left n _ l.there (omega arith) (omega arith) l.invariant.1 p c.slot-k.ensures _ c.eight-then-k-lt-SLOTS.ensures (omega arith),
-      sets value_of a.first a.items.now l.left n _ l.values (omega arith) (omega arith) l.invariant.2 p c.slot-k.ensures _ c.eight-then-k-lt-SLOTS.ensures (omega arith),
-    )
+    sets a.first a.items.now _ _ _ c.in-Some.ensures.steps _ l.invariant c.eight.result c.in-Some-slot.k _ c.eight.ensures c.eight-in-Some-slot.ensures c.in-Some-slot.ensures
 
-pub loop-left-preserved : goal.loop-left-preserved
-loop-left-preserved c =
-    let l = c.loop-left in
+pub loop-pair-preserved : goal.loop-pair-preserved
+loop-pair-preserved c =
+    let l = c.loop-pair in
     let a = c.args in
-    let n = c.eight.result in
-    let p = c.eight.ensures in (
-      omega arith,
-      leaves is_found a.first a.items.now l.left n _ l.there (omega arith) (omega arith) l.invariant.1 p c.slot-k.ensures (omega arith),
-      leaves value_of a.first a.items.now l.left n _ l.values (omega arith) (omega arith) l.invariant.2 p c.slot-k.ensures (omega arith),
-    )
+    leaves a.first a.items.now _ _ _ c.in-Some.ensures.steps _ l.invariant c.eight.result c.eight.ensures c.in_default.ensures
 
 pub returns : goal.returns
 unfolding gathered_from pairs_in
 returns c =
-    let l = c.loop-left in
+    let l = c.loop-pair in
     let s = c.args.items.now in
-    let z : l.left ≡ 0 = omega arith in
+    let e = c.in-None.ensures.steps.0 in
     let n : length s / 16 - 0 ≡ length s / 16 = omega arith in
-    let b : behind s l.left ≡ pairs_in s = rw (z, n) refl in
-    rw (l.invariant.1, l.invariant.2, b) refl
+    rw (e, n) at l.invariant.told

@@ -1,13 +1,14 @@
--- `field_items::given::list_given` meets its contract: what stands in the array, and what is left, is the list. Assumes nothing.
+-- `field_items::given::list_given` meets its contract: each number passed stands in the array. Assumes nothing.
 use mathlib.Core.Path.{◌≡◌}
-use mathlib.Core.List.{◌++◌}
-use Prim.Native.Nat.{◌-◌, ◌*◌, ◌≤◌}
-use lib.ListN.{length, take}
-use Rattle.field_items.specs.Given.{numbers_from}
+use Prim.Native.Nat.{ℕ, ◌*◌, ◌<◌}
+use lib.IntN.{pos}
+use lib.ListN.{length, get_or}
+use Rattle.bits.specs.Bits.{bits_of}
+use Rattle.field_items.specs.Given.{signed_of}
 use Rattle.field_items.proofs.given.list_given.Given as goal
 
 abbrev pub invariant-loop-k : goal.invariant-loop-k
-invariant-loop-k l = (l.k ≤ 30) × (length l.v ≡ 30) × (take l.k l.v ++ numbers_from l.list (64 * l.k) (30 - l.k) ≡ numbers_from l.list 0 30)
-
-abbrev pub decreases-loop-k : goal.decreases-loop-k
-decreases-loop-k l = 30 - l.k
+invariant-loop-k l = record {
+  thirty : length l.x-items ≡ 30;
+  passed : (j : ℕ) → j < l.k → get_or l.x-items j (pos 0) ≡ signed_of (bits_of l.list (64 * j) 64);
+}

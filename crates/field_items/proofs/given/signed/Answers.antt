@@ -1,12 +1,15 @@
 -- `field_items::given::signed` meets its contract: what 32 bits hold is held with its sign. Assumes nothing.
-use mathlib.Core.Path.{◌≡◌, refl, sym, ap, ◌∙◌}
+use mathlib.Core.Path.{◌≡◌, ap, sym, subst, ◌∙◌}
+use Prim.Native.Nat.{ℕ, suc, ◌-◌, ◌≤◌, ◌<◌, ◌^◌}
 use native.Mathlib.Omega.{arith}
-use Prim.Native.Nat.{ℕ, zero, suc, ◌-◌, ◌≤◌, ◌<◌}
+use native.Mathlib.Decide.{dec_lt}
 use borrow.Author.Tests.{lt-ltb, le-ltb}
-use lib.IntN.{ℤ, pos, negsuc, ◌-ℤ◌}
-use mir.Syntax.{w32}
-use mir.Val.{SFits, to_z, of_z}
-use mir.Facts.{to_z_pos, to_z-of_z}
+use lib.IntN.{ℤ, pos, negsuc}
+use mir.Syntax.{w32, w64}
+use mir.Val.{SFits, to_z}
+use mir.Facts.{to_z_pos, to_z-neg, to_z-of_z}
+use Rattle.std.specs.Prelude.{Result, Ok, Err}
+use Rattle.std.specs.Result.{OkIff, result_unwrap_or}
 use Rattle.field_items.specs.Given.{signed_of}
 use Rattle.field_items.proofs.given.signed.Goals as goal
 
@@ -23,26 +26,33 @@ beyond : (x : ℕ) → 2147483648 ≤ x → 2147483648 ≤ 18446744073709551615 
 unfolding signed_of
 beyond x h l = simp (le-ltb _ _ h, le-ltb _ _ l)
 
-less : (m : ℕ) → negsuc 0 -ℤ pos m ≡ negsuc m
-less zero = refl
-less (suc m) = ap (λ (k : ℕ). negsuc (suc k)) (omega arith)
+-- what 64 bits stand for in the upper half
+upper : (v : ℕ) → 9223372036854775808 ≤ v → v < 2 ^ 64 → to_z w64 v ≡ negsuc (18446744073709551615 - v)
+upper v l h =
+    let e : v ≡ 18446744073709551616 - suc (18446744073709551615 - v) = omega arith in
+    ap (to_z w64) e ∙ to_z-neg w64 (18446744073709551615 - v) (omega arith)
 
-plus : (m : ℕ) → m < 2147483648 → to_z w32 m ≡ pos m
-plus m h = to_z_pos w32 (omega arith)
-
-minus : (m : ℕ) → m < 2147483648 → negsuc 0 -ℤ to_z w32 m ≡ negsuc m
-minus m h = ap (λ (z : ℤ). negsuc 0 -ℤ z) (plus m h) ∙ less m
-
-minus-fits : (m : ℕ) → m < 2147483648 → SFits w32 (negsuc m)
-minus-fits m h = record { sfits = omega arith }
-
-pub returns-then-x-lt2147483648 : goal.returns-then-x-lt2147483648
-returns-then-x-lt2147483648 c = plus c.args.x c.if-x-lt2147483648.true ∙ sym (plain c.args.x c.if-x-lt2147483648.true)
-
-pub returns-then-m-lt2147483648 : goal.returns-then-m-lt2147483648
-returns-then-m-lt2147483648 c =
-    let h = c.if-m-lt2147483648.true in
-    ap (λ (z : ℤ). to_z w32 (of_z w32 z)) (minus _ h) ∙ to_z-of_z (minus-fits _ h) ∙ sym (below c.args.x c.if-x-lt2147483648.false h)
+narrowed : {E : Type 0} (v : ℕ) (r : Result ℤ E) → v < 2 ^ 64 → OkIff r (SFits w32 (to_z w64 v)) (to_z w64 v) → result_unwrap_or r (negsuc 2147483647) ≡ signed_of v
+narrowed v r h o = go (dec_lt v 9223372036854775808) r o
+  where
+    go : {E : Type 0} → Dec (v < 9223372036854775808) → (r : Result ℤ E) → OkIff r (SFits w32 (to_z w64 v)) (to_z w64 v) → result_unwrap_or r (negsuc 2147483647) ≡ signed_of v
+    go (yes l) (Ok x) (f, e) =
+        let g : SFits w32 (pos v) = subst (SFits w32) (to_z_pos w64 l) f in
+        e ∙ to_z_pos w64 l ∙ sym (plain v g.sfits)
+    go (no l) (Ok x) (f, e) =
+        let u = upper v (omega arith) h in
+        let g : SFits w32 (negsuc (18446744073709551615 - v)) = subst (SFits w32) u f in
+        e ∙ u ∙ sym (below v (omega arith) g.sfits)
+    go (yes l) (Err e) n =
+        let m : v < 2147483648 → ⊥ = λ k. n (subst (SFits w32) (sym (to_z_pos w64 l)) (record { sfits = k })) in
+        sym (beyond v (omega arith) (omega arith))
+    go (no l) (Err e) n =
+        let m : 18446744073709551615 - v < 2147483648 → ⊥ = λ k. n (subst (SFits w32) (sym (upper v (omega arith) h)) (record { sfits = k })) in
+        sym (beyond v (omega arith) (omega arith))
 
 pub returns : goal.returns
-returns c = sym (beyond c.args.x c.if-x-lt2147483648.false c.if-m-lt2147483648.false)
+returns c =
+    let e = to_z-of_z {w = w64} (record { sfits = c.cast_signed.type_inv }) ∙ c.cast_signed.ensures in
+    to_z-of_z {w = w32} (record { sfits = c.unwrap_or.type_inv })
+    ∙ c.unwrap_or.ensures
+    ∙ narrowed c.args.x c.try_from.result c.ranges.x.fits (rw e at c.try_from.ensures)

@@ -1,15 +1,13 @@
 -- `report_items::given::altitude_of` meets its contract: sixteen bits hold it, or it counts as 0. Assumes nothing.
-use mathlib.Core.Path.{sym, ◌∙◌}
-use mir.Syntax.{w16}
-use mir.Facts.{to_z_pos}
-use Rattle.report_items.proofs.Signed.{low, high, out, minus_is}
+use mathlib.Core.Path.{◌∙◌}
+use mir.Syntax.{w16, w64}
+use mir.Facts.{to_z-of_z}
+use Rattle.report_items.proofs.Signed.{narrowed}
 use Rattle.report_items.proofs.given.altitude_of.Goals as goal
 
-pub returns-then-v-lt-TWO_TO_15 : goal.returns-then-v-lt-TWO_TO_15
-returns-then-v-lt-TWO_TO_15 c = to_z_pos w16 c.if-v-lt-TWO_TO_15.true ∙ sym (low _ _ c.if-v-lt-TWO_TO_15.true)
-
-pub returns-then-below-lt-TWO_TO_15 : goal.returns-then-below-lt-TWO_TO_15
-returns-then-below-lt-TWO_TO_15 c = minus_is w16 _ c.if-below-lt-TWO_TO_15.true ∙ sym (high _ _ c.if-v-lt-TWO_TO_15.false c.if-below-lt-TWO_TO_15.true)
-
-pub returns-else-below-lt-TWO_TO_15 : goal.returns-else-below-lt-TWO_TO_15
-returns-else-below-lt-TWO_TO_15 c = sym (out _ _ c.if-v-lt-TWO_TO_15.false c.if-below-lt-TWO_TO_15.false)
+pub returns : goal.returns
+returns c =
+    let e = to_z-of_z {w = w64} (record { sfits = c.cast_signed.type_inv }) ∙ c.cast_signed.ensures in
+    to_z-of_z {w = w16} (record { sfits = c.unwrap_or.type_inv })
+    ∙ c.unwrap_or.ensures
+    ∙ narrowed c.args.v c.try_from.result c.ranges.v.fits (rw e at c.try_from.ensures)
