@@ -1,5 +1,5 @@
 -- What each call of frames answers, from what the reader and the writer of frames answer. Definitions only.
-use Rattle.std.specs.Prelude.{ℕ, ◌+◌, ◌/◌, cond, List, ◌++◌, eqb, ltb, length, take, drop, Ok, Err}
+use Rattle.std.specs.Prelude.{ℕ, ◌+◌, ◌/◌, cond, List, ◌++◌, ltb, length, take, drop, Ok, Err}
 use Rattle.fields.specs.declared.Direction.{Direction}
 use Rattle.fields.specs.declared.Direction.TheVariants.{ToSensor, FromSensor}
 use Rattle.frames.specs.declared.What.{What}
@@ -65,10 +65,6 @@ abbrev pub field_left : Found → List ℕ → List ℕ
 field_left f lent = let n = copied f.what (length lent) in take n f.field ++ drop n lent
 
 -- ---- writing
-
--- 0 to the sensor, any other number from it
-abbrev pub way_of : ℕ → Direction
-way_of k = cond (eqb k 0) ToSensor FromSensor
 
 -- the place of the closing flag, or the place given back
 abbrev pub place_of : Wrote → ℕ

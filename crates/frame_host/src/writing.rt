@@ -2,20 +2,11 @@
 // Relies on frames for the writer; specs/Calls.antt says what each call answers.
 ghost use Rattle.std.specs.Prelude.{◌≡◌, length};
 ghost use Rattle.frames.specs.Writing.{given, write_frame, left_as};
-ghost use Rattle.frame_host.specs.Calls.{way_of, place_of, write_refusal};
+ghost use Rattle.fields.specs.Reading.{way_numbered};
+ghost use Rattle.frame_host.specs.Calls.{place_of, write_refusal};
 
 use fields::Direction;
 use frames::writing::Given;
-
-fn way_of(from_sensor: u32) -> Direction
-    ensures { result ≡ way_of from_sensor }
-{
-    if from_sensor == 0 {
-        Direction::ToSensor
-    } else {
-        Direction::FromSensor
-    }
-}
 
 // Writes the frame. Answers the place of its closing flag; where it is refused, the place given, and every byte is as it was.
 #[unsafe(no_mangle)]
@@ -28,11 +19,11 @@ pub extern "C" fn siamrung_frame_write(
     field: &[u8],
     field_count: usize,
 ) -> usize
-    ensures answer { result ≡ place_of (write_frame (length bytes.old) count place (way_of from_sensor) control field.now field_count) }
-    ensures left { bytes.new ≡ left_as (write_frame (length bytes.old) count place (way_of from_sensor) control field.now field_count) bytes.old place (given (way_of from_sensor) control field.now field_count) }
+    ensures answer { result ≡ place_of (write_frame (length bytes.old) count place (way_numbered from_sensor) control field.now field_count) }
+    ensures left { bytes.new ≡ left_as (write_frame (length bytes.old) count place (way_numbered from_sensor) control field.now field_count) bytes.old place (given (way_numbered from_sensor) control field.now field_count) }
 {
     let frame = Given {
-        way: way_of(from_sensor),
+        way: Direction::from(from_sensor),
         control,
         field,
         count: field_count,
@@ -51,10 +42,10 @@ pub extern "C" fn siamrung_frame_write_refusal(
     field: &[u8],
     field_count: usize,
 ) -> u32
-    ensures { result ≡ write_refusal (write_frame (length bytes.now) count place (way_of from_sensor) control field.now field_count) }
+    ensures { result ≡ write_refusal (write_frame (length bytes.now) count place (way_numbered from_sensor) control field.now field_count) }
 {
     let frame = Given {
-        way: way_of(from_sensor),
+        way: Direction::from(from_sensor),
         control,
         field,
         count: field_count,
