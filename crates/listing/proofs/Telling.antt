@@ -7,14 +7,13 @@ use native.Mathlib.Omega.{arith}
 use lib.Dec.{ltb}
 use lib.ListN.{length, drop}
 use borrow.Author.Tests.{lt-ltb, le-ltb, eq-eqb, ne_eqb}
-use Rattle.std.specs.Prelude.{Some, None, Ok, Err}
+use Rattle.std.specs.Prelude.{codes, Some, None, Ok, Err}
 use Rattle.lines.specs.Bytes.{most_bytes, read_bytes}
 use Rattle.rows.specs.Rows.{row, first_of}
 use Rattle.words.proofs.Tests.{picked, passed}
 use Rattle.lines.proofs.ByteWords.{words_length}
 use Rattle.listing.specs.declared.Walk.{Walk}
 use Rattle.listing.specs.declared.WalkError.{WalkError}
-use Rattle.listing.specs.Letters.{text}
 use Rattle.listing.specs.Listing.{lister_form}
 use Rattle.listing.specs.Walking.{closed, Step, Says, Ended, Astray, Cramped, step_on, step_at, step_in, said, came_to, Tells}
 
@@ -56,11 +55,11 @@ module _ (bytes : List ℕ) (w : Walk) where
   unfolding step_at
   is_done d = picked _ _ d
 
-  pub is_long : w.done ≡ false → most_bytes < length bytes → step_at bytes w ≡ Says (text "LONG\n") (closed w)
+  pub is_long : w.done ≡ false → most_bytes < length bytes → step_at bytes w ≡ Says (codes "LONG\n") (closed w)
   unfolding step_at
   is_long d h = passed _ _ d ∙ picked _ _ (lt-ltb most_bytes (length bytes) h)
 
-  pub is_odd : w.done ≡ false → length bytes ≤ most_bytes → length bytes % 2 ≡ 1 → step_at bytes w ≡ Says (text "ODD\n") (closed w)
+  pub is_odd : w.done ≡ false → length bytes ≤ most_bytes → length bytes % 2 ≡ 1 → step_at bytes w ≡ Says (codes "ODD\n") (closed w)
   unfolding step_at
   is_odd d s h = passed _ _ d ∙ passed _ _ (le-ltb most_bytes (length bytes) s) ∙ picked _ _ (eq-eqb (length bytes % 2) 1 h)
 

@@ -9,7 +9,7 @@ use native.Mathlib.Omega.{arith}
 use lib.Dec.{eqb, ltb}
 use lib.ListN.{length}
 use borrow.Author.Tests.{ltb-true, ltb-false, eqb-true, eqb-false}
-use Rattle.std.specs.Prelude.{Result, Ok, Err}
+use Rattle.std.specs.Prelude.{codes, Result, Ok, Err}
 use Rattle.refusals.specs.Numbers.{line_number}
 use Rattle.reports.specs.declared.Report.{Report}
 use Rattle.reports.specs.declared.RunRefusal.{RunRefusal}
@@ -26,7 +26,7 @@ use Rattle.lines.proofs.Walked.{along_the_walk}
 use Rattle.lines.proofs.Outcomes.{few_runs}
 use Rattle.lines.proofs.Totals.{totals_add}
 use Rattle.listing.specs.declared.Walk.{Walk}
-use Rattle.listing.specs.Letters.{text, report_line, refused_line, totals_line}
+use Rattle.listing.specs.Letters.{report_line, refused_line, totals_line}
 use Rattle.listing.specs.Listing.{answer, line_for, run_lines, listing_of, listing}
 use Rattle.listing.specs.Walking.{at, start, closed, Step, Says, Ended, step_on, step_at, said, onward, fills, reached}
 use Rattle.listing.specs.Claims.{Whole}
@@ -180,14 +180,14 @@ whole bytes k enough =
     by_test (ltb most_bytes (length bytes))
     (λ e.
     let long = is_long bytes start refl (ltb-true most_bytes (length bytes) e) in
-    let r = alone_said k bytes (text "LONG\n") (omega arith) long in
+    let r = alone_said k bytes (codes "LONG\n") (omega arith) long in
     (r.0 ∙ sym (picked _ _ e), r.1))
     (λ e.
     let short = ltb-false most_bytes (length bytes) e in
     by_test (eqb (length bytes % 2) 1)
     (λ f.
     let odd = is_odd bytes start refl short (eqb-true (length bytes % 2) 1 f) in
-    let r = alone_said k bytes (text "ODD\n") (omega arith) odd in
+    let r = alone_said k bytes (codes "ODD\n") (omega arith) odd in
     (r.0 ∙ sym (passed _ _ e ∙ picked _ _ f), r.1))
     (λ f.
     let r = words_said bytes short (eqb-false (length bytes % 2) 1 f) k enough in

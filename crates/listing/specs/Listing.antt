@@ -1,6 +1,6 @@
 -- The whole listing of a recording, over the words of its line (document 01, "The C host and the lister"): said without the reader.
 -- Definitions only.
-use Rattle.std.specs.Prelude.{ℕ, ◌+◌, ◌%◌, List, [], ◌∷◌, ◌++◌, eqb, ltb, length, Ok, Result, Err}
+use Rattle.std.specs.Prelude.{ℕ, ◌+◌, ◌%◌, List, [], ◌∷◌, ◌++◌, codes, eqb, ltb, length, Ok, Result, Err}
 use Rattle.rows.specs.Rows.{row, first_of}
 use Rattle.refusals.specs.Numbers.{line_number}
 use Rattle.reports.specs.Altitude.{AltitudeForm, sign_magnitude}
@@ -8,7 +8,7 @@ use Rattle.reports.specs.Kinds.{kind_of}
 use Rattle.reports.specs.Runs.{read_run}
 use Rattle.lines.specs.Bytes.{most_bytes, words_in}
 use Rattle.lines.specs.Stretches.{Run, runs, idle_words, reported_words, refused_words}
-use Rattle.listing.specs.Letters.{text, report_line, refused_line, totals_line}
+use Rattle.listing.specs.Letters.{report_line, refused_line, totals_line}
 use Rattle.reports.specs.declared.Report.{Report}
 use Rattle.reports.specs.declared.RunRefusal.{RunRefusal}
 use Rattle.reports.specs.Runs.{refused_at}
@@ -43,4 +43,4 @@ listing_of line =
 -- the listing of a recording: over 65,536 bytes LONG, else for an odd number ODD, else that of its words
 unfoldable pub listing : List ℕ → List ℕ
 listing bytes =
-    first_of (row (ltb most_bytes (length bytes)) (text "LONG\n") ∷ row (eqb (length bytes % 2) 1) (text "ODD\n") ∷ []) (listing_of (words_in bytes))
+    first_of (row (ltb most_bytes (length bytes)) (codes "LONG\n") ∷ row (eqb (length bytes % 2) 1) (codes "ODD\n") ∷ []) (listing_of (words_in bytes))

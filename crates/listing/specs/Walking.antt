@@ -1,5 +1,5 @@
 -- The walk over a recording: what one call comes to, and calls one after the other. Definitions only.
-use Rattle.std.specs.Prelude.{ℕ, zero, suc, ◌+◌, ◌-◌, ◌%◌, ◌≤◌, ◌≡◌, true, false, List, [], ◌∷◌, ◌++◌, eqb, ltb, length, drop, Option, Some, None, Result, Ok, Err}
+use Rattle.std.specs.Prelude.{ℕ, zero, suc, ◌+◌, ◌-◌, ◌%◌, ◌≤◌, ◌≡◌, true, false, List, [], ◌∷◌, ◌++◌, codes, eqb, ltb, length, drop, Option, Some, None, Result, Ok, Err}
 use Rattle.rows.specs.Rows.{Row, row, first_of}
 use Rattle.refusals.specs.Numbers.{line_number}
 use Rattle.reports.specs.Kinds.{kind_of}
@@ -13,7 +13,7 @@ use Rattle.listing.specs.declared.Line.{Line}
 use Rattle.listing.specs.declared.WalkError.{WalkError}
 use Rattle.listing.specs.declared.WalkError.TheVariants as E
 use Rattle.listing.specs.Listing.{lister_form, lister_link}
-use Rattle.listing.specs.Letters.{text, report_line, refused_line, totals_line}
+use Rattle.listing.specs.Letters.{report_line, refused_line, totals_line}
 
 -- the place that the walk has come to, the words in reports and in refused runs before it
 abbrev pub at : ℕ → ℕ → ℕ → Walk
@@ -50,8 +50,8 @@ step_on n w o = step_for n w o.what o.first o.after o.named
 abbrev step_rows : List ℕ → Walk → List (Row Step)
 step_rows bytes w =
     row w.done Ended
-    ∷ row (ltb most_bytes (length bytes)) (Says (text "LONG\n") (closed w))
-    ∷ row (eqb (length bytes % 2) 1) (Says (text "ODD\n") (closed w))
+    ∷ row (ltb most_bytes (length bytes)) (Says (codes "LONG\n") (closed w))
+    ∷ row (eqb (length bytes % 2) 1) (Says (codes "ODD\n") (closed w))
     ∷ row (ltb (length (words_in bytes)) w.place) Astray
     ∷ row (ltb w.place w.reported) Astray
     ∷ row (ltb (w.place - w.reported) w.refused) Astray
