@@ -1,4 +1,3 @@
-pub mod Names
 pub mod Decimals
 pub mod Bounded
 pub mod Telling

@@ -1,17 +1,16 @@
 -- The whole listing of a recording, over the words of its line (document 01, "The C host and the lister"): said without the reader.
 -- Definitions only.
-use Rattle.std.specs.Prelude.{ℕ, ◌+◌, ◌%◌, List, [], ◌∷◌, ◌++◌, codes, eqb, ltb, length, Ok, Result, Err}
+use Rattle.std.specs.Prelude.{ℕ, ◌+◌, ◌%◌, List, [], ◌∷◌, ◌++◌, codes, eqb, ltb, length, Result, Ok, Err}
 use Rattle.rows.specs.Rows.{row, first_of}
 use Rattle.refusals.specs.Numbers.{line_number}
+use Rattle.reports.specs.declared.Report.{Report}
+use Rattle.reports.specs.declared.RunRefusal.{RunRefusal}
 use Rattle.reports.specs.Altitude.{AltitudeForm, sign_magnitude}
 use Rattle.reports.specs.Kinds.{kind_of}
 use Rattle.reports.specs.Runs.{read_run}
 use Rattle.lines.specs.Bytes.{most_bytes, words_in}
 use Rattle.lines.specs.Stretches.{Run, runs, idle_words, reported_words, refused_words}
 use Rattle.listing.specs.Letters.{report_line, refused_line, totals_line}
-use Rattle.reports.specs.declared.Report.{Report}
-use Rattle.reports.specs.declared.RunRefusal.{RunRefusal}
-use Rattle.reports.specs.Runs.{refused_at}
 
 -- the lister reads altitudes in document 01's form: a recording does not tell its own
 abbrev pub lister_form : AltitudeForm

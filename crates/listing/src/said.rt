@@ -6,7 +6,7 @@ use crate::letters::Text;
 use reports::kinds::Kind;
 
 // The line of a report.
-#[tactic(auto, using(crate::proofs::Decimals::five, crate::proofs::Names::short))]
+#[tactic(auto, using(crate::proofs::Decimals::five))]
 pub fn report(line: &mut Text, place: u16, kind: Kind, count: u16)
     requires { line.old ≡ [] }
     ensures { line.new ≡ report_line place kind count }
