@@ -1,4 +1,5 @@
--- What the readers remember of a run, and the answer that comes of it: what the private functions of run.rt, wide.rt and bytes.rt compute.
+-- What the readers remember of a run, and the answer that comes of it: what line.rt and answers.rt compute, and which
+-- lines wide.rt and bytes.rt do not take.
 -- Definitions only; no promise of a public function names them.
 use Rattle.std.specs.Prelude.{ℕ, ◌+◌, ◌-◌, ◌%◌, ◌≤◌, ◌<◌, min, ◌≡◌, Bool, true, not, cond, List, eqb, ltb, length, take, drop, Option, Some, None}
 use Rattle.refusals.specs.declared.LineRefusal.{LineRefusal}

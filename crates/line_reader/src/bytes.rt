@@ -39,7 +39,7 @@ impl<'a> Line for Bytes<'a> {
 
     #[tactic(auto, using(lines::proofs::ByteWords::words_length, lines::proofs::ByteWords::word_at))]
     fn word(&self, i: usize) -> u16 {
-        // not u16::from_be_bytes: tried, and bad words in one run then took twice the time, which misses the bar that this form meets
+        // not u16::from_be_bytes: tried; bad words in one run then take near twice the time (that row of docs/PERFORMANCE.md)
         self.bytes[i * 2] as u16 * 256 + self.bytes[i * 2 + 1] as u16
     }
 }
