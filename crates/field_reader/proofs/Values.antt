@@ -1,20 +1,16 @@
--- Laws of the values that are read, the first i of them and the rest, and of the text, which is what is left.
+-- Laws of the values that are read: the first i of them and the rest.
 -- Assumes nothing.
 use mathlib.Core.Path.{◌≡◌, refl, sym, ap, ◌∙◌}
 use mathlib.Core.List.{List, [], ◌∷◌}
-use Prim.Native.Nat.{ℕ, zero, suc, ◌+◌, ◌-◌, ◌≤◌, ◌<◌}
+use Prim.Native.Nat.{ℕ, zero, suc, ◌+◌, ◌≤◌, ◌<◌}
 use native.Mathlib.Decide.{dec_lt}
 use native.Mathlib.Omega.{arith}
-use lib.ListN.{length, take, drop, get_or, replicate, length-drop}
-use lib.Seq.{take_all, get_or-take, ext_get_or}
+use lib.ListN.{length, take, get_or, replicate}
+use lib.Seq.{get_or-take, ext_get_or}
 use Rattle.bits.specs.Bits.{bits_of}
 use Rattle.fields.specs.Table.{values_of}
 use Rattle.fields.proofs.Rows.{values_fit, fit_at}
 use Rattle.fields.proofs.Rounds.{values_of-length}
-
--- a part up to the end is all that is left
-pub rest_whole : (s : List ℕ) (k : ℕ) → take (length s - k) (drop k s) ≡ drop k s
-rest_whole s k = take_all (length s - k) (drop k s) (rw length-drop (omega arith))
 
 values_take : (s : List ℕ) (a : ℕ) (ws : List ℕ) (i : ℕ) → take i (values_of s a ws) ≡ values_of s a (take i ws)
 unfolding values_of

@@ -8,7 +8,7 @@ use Rattle.fields.specs.declared.Row.{Row}
 use Rattle.fields.specs.declared.Field.TheVariants.{ControllerAlert}
 use Rattle.fields.specs.Table.{table, rows, no_row, row_at, widths, widths_at, rules, rules_at, place_from, values_of, has_fault, Quiet, counted, count_in, RowSmall}
 use Rattle.fields.specs.Records.{fields_by, field_at}
-use Rattle.fields.specs.Reading.{block_count, type_not_carried}
+use Rattle.fields.specs.Reading.{type_not_carried}
 
 -- the number c is none of the codes of these rows, as the last arm of a `match` has it: T, and then a code after the other
 abbrev Avoids : Type 0 → ℕ → List Row → Type 0
@@ -243,14 +243,6 @@ count_small r vs s = omega arith
 -- so modulo 2^64 it is itself
 pub count_whole : (r : Row) (vs : List ℕ) → RowSmall r vs → count_in r vs % 2 ^ 64 ≡ count_in r vs
 count_whole r vs s = let h = count_small r vs s in omega arith
-
-pub block_count_small : (r : Row) (vs : List ℕ) → RowSmall r vs → block_count r vs ≤ 64
-unfolding block_count
-block_count_small r vs s = go (eqb r.step 8)
-  where
-    go : (b : Bool) → cond b (count_in r vs) 0 ≤ 64
-    go true = omega (arith, count_small r vs s)
-    go false = zero-le
 
 pub row_base : (i : ℕ) → i < 22 → (row_at i).base ≤ 96
 row_base i h =
