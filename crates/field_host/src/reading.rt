@@ -11,6 +11,7 @@ use field_reader::reading;
 use fields::{Direction, Record};
 use refusals::FieldRefusal;
 
+// The bytes, the count and the direction are three arguments, as C passes them: a struct would be made in each call, and used there once.
 fn answer(bytes: &[u8], count: usize, from_sensor: u32) -> Result<Record, FieldRefusal>
     ensures { result ≡ answer_of bytes.now count (way_of from_sensor) }
 {

@@ -146,7 +146,8 @@ fn unfit() -> Record
     Record::Single(Field::AtcFailure { state: 0 })
 }
 
-// The record of that type and these items, which goes with a list of thirty numbers; or the one that the writer refuses.
+// The record of that type and these items, which goes with a list of thirty numbers; or the one that the writer refuses. The Option ends here:
+// `given` of specs/, which the claims and the C calls name, is a record.
 pub fn record_of(code: u32, gathered: &[u8], list: &[u8]) -> Record
     ensures { result ≡ given code gathered.now list.now }
 {

@@ -15,7 +15,7 @@ use report_items::items;
 use reports::altitude::Form;
 use reports::{kinds, values};
 
-// ---- the kind of what is no report; reports::kinds has the others
+// ---- the kind of what is no report; reports::kinds has the others. They are no Kind: no report has them, and C reads their numbers.
 
 const REFUSED: u32 = 120;
 
@@ -35,6 +35,8 @@ pub extern "C" fn siamrung_version() -> u32
 }
 
 // ---- what stands at a place
+
+// The bytes, the place, the form and the link are four arguments, as C passes them: a struct would be made in each call, and used there once.
 
 // The answer there, with its link; altitudes are read in the form of this number.
 fn received_at(bytes: &[u8], place: usize, form: u32, link: u32) -> Received

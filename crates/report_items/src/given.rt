@@ -369,7 +369,7 @@ fn no_record() -> Report
     })
 }
 
-// The report, or the one that the writer refuses.
+// The report, or the one that the writer refuses. The Option ends here: `given` of specs/, which the claims and the C calls name, is a report.
 pub fn given(kind: u32, items: &[u8]) -> Report
     ensures { result ≡ given kind items.now }
 {

@@ -1,5 +1,7 @@
 // The number of each item, from 1 on without a gap. specs/Items.antt has the same by its own names, and every function that uses them is held
 // to it.
+// They stay numbers: a C program asks by any number, and each is a place in what is given. An enum would take a match of 36 arms to come from a
+// number, and another to be a place.
 // Relies on nothing.
 
 pub const TEST: usize = 1;
