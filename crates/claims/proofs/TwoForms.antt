@@ -1,6 +1,6 @@
 -- The two forms of the altitude: what the new one answers by what document 01's answers (specs/TwoForms.antt). What is read of a report goes by one
 -- law on any two forms (`mapped`). Assumes nothing.
-use Rattle.std.specs.Prelude.{Err, Ok, Result, tt}
+use Rattle.std.specs.Prelude.{Err, Ok, Result}
 use Prim.Native.Nat.{ℕ, zero, suc, ◌+◌, ◌-◌, ◌/◌, ◌%◌}
 use mathlib.Core.Path.{◌≡◌, refl, sym, ap, ◌∙◌}
 use mathlib.Core.Bool.{Bool, true, false, not, cond}

@@ -1,7 +1,7 @@
 -- Document 02, Ticket 2, "One-segment ELM from the aircraft": what is answered for type 42 with Length 0, and that every other answer is the one
 -- before. The rule before the ticket stands here only for these claims: no promise and no code uses it. Definitions and statements;
 -- proofs/OneSegment.antt proves them.
-use Rattle.std.specs.Prelude.{ℕ, ◌+◌, ◌^◌, ◌≡◌, List, [], ◌∷◌, ◌++◌, map, Bool, true, false, not, cond, ◌&&◌, ◌||◌, eqb, ltb, ℤ, length, get_or, take, drop, Err, Ok, Result}
+use Rattle.std.specs.Prelude.{ℕ, ◌+◌, ◌^◌, ◌≡◌, List, [], ◌∷◌, ◌++◌, map, Bool, true, false, not, cond, ◌&&◌, ◌||◌, eqb, ltb, ℤ, length, get_or, take, drop, Err, Ok, Result, Some}
 use Rattle.rows.specs.Rows.{Row, row, first_of}
 use Rattle.rows.specs.Claims.{NoneHolds}
 use Rattle.bits.specs.Bits.{bits}
@@ -21,7 +21,7 @@ use Rattle.refusals.specs.declared.FieldRefusal.{FieldRefusal}
 
 -- the row of type 42 as it was: a Length of 0 was not in use
 abbrev former_row : Known
-former_row = known 0x42 FromSensor 40 80 1 3 none none (any 24 ∷ spare 4 ∷ not_zero 4 ∷ [])
+former_row = known 0x42 FromSensor 40 80 1 (Some 3) none none (any 24 ∷ spare 4 ∷ not_zero 4 ∷ [])
 
 abbrev pub formerly : Known → Known
 formerly k = cond (eqb k.row.code 0x42) former_row k
