@@ -48,8 +48,8 @@ impl Places {
     // The answer to the run, whose first seven words are handed in, with 0 for those past its end; the end where it has no word. Where the run
     // has a fault its words do not matter. Altitudes are read in the form. Inlined, so that the seven words need not go through memory.
     #[inline(always)]
-    pub fn answer(self, words: [u16; 7], form: Form) -> Outcome
-        ensures { result ≡ answered (form_of form) self words }
+    pub fn answer(self, words: &[u16; 7], form: Form) -> Outcome
+        ensures { result ≡ answered (form_of form) self words.now }
     {
         let first = self.first;
         let n = self.after - first;

@@ -97,7 +97,7 @@ fn run_at<L: Line>(line: &L, place: usize, form: Form) -> Outcome
     let run = places(line, place);
     // a run with a fault is refused whatever its words hold, so they are not fetched
     if run.fault < run.after {
-        return run.answer([0; 7], form);
+        return run.answer(&[0; 7], form);
     }
     let words = [
         word(line, run, 0),
@@ -108,7 +108,7 @@ fn run_at<L: Line>(line: &L, place: usize, form: Form) -> Outcome
         word(line, run, 5),
         word(line, run, 6),
     ];
-    run.answer(words, form)
+    run.answer(&words, form)
 }
 
 // What is found at a place; altitudes are read in the form.

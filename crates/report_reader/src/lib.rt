@@ -193,21 +193,21 @@ fn row(holds: bool, why: LineRefusal, offset: usize) -> Result<(), RunRefusal>
 // `too_wide` and its first word with an even number of ones at `even`, or these are `n`. Where a word is too wide, `even` does not matter.
 // Altitudes are read in the form.
 pub fn judge(
-    words: [u16; 7],
+    words: &[u16; 7],
     n: usize,
     too_wide: usize,
     even: usize,
     form: Form,
 ) -> Result<Report, RunRefusal>
-    ensures { result ≡ judged (form_of form) words n too_wide even }
+    ensures { result ≡ judged (form_of form) words.now n too_wide even }
 {
     row(too_wide < n, LineRefusal::WordTooWide, too_wide)?;
     row(even < n, LineRefusal::EvenWord, even)?;
-    row(is_unknown_form(&words), LineRefusal::UnknownForm, 0)?;
-    row(n != word_count(&words), LineRefusal::WrongLength, 0)?;
-    row(is_unassigned(&words), LineRefusal::UnassignedRadar, 0)?;
-    let (report, spare) = report_of(&words, form);
+    row(is_unknown_form(words), LineRefusal::UnknownForm, 0)?;
+    row(n != word_count(words), LineRefusal::WrongLength, 0)?;
+    row(is_unassigned(words), LineRefusal::UnassignedRadar, 0)?;
+    let (report, spare) = report_of(words, form);
     row(spare != 0, LineRefusal::SpareBitSet, 0)?;
-    row(is_minus_zero(&words, form), LineRefusal::MinusZero, 0)?;
+    row(is_minus_zero(words, form), LineRefusal::MinusZero, 0)?;
     Ok(report)
 }

@@ -16,5 +16,5 @@ set_at-requires c =
     let s = x.self in (
       omega arith,
       subst (λ (r : Result Report RunRefusal). answer_offset r ≤ s.after - s.first) (sym c.judge-answer.ensures)
-          (offset_within (form_of x.form) x.words (s.after - s.first) (s.too_wide - s.first) (s.fault - s.first)),
+          (offset_within (form_of x.form) x.words.now (s.after - s.first) (s.too_wide - s.first) (s.fault - s.first)),
     )
