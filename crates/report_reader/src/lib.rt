@@ -25,6 +25,7 @@ mod records; // records.rt: what words hold, field by field
 
 // Of four words of a known form: what is none of the first four is an RTQC.
 #[tactic(auto, unfolding(reports::specs::Records::four_of, reports::specs::Conditions::four_zeros))]
+#[inline(always)]
 fn four_of(words: &[u16; 7]) -> (Report, u16)
     requires { is_four words.now ≡ true }
     ensures report { result.0 ≡ four_of words.now }
@@ -84,6 +85,7 @@ fn height_of(words: &[u16; 7], form: Form) -> (Height, u16)
 
 // Of seven words: what is none of the first three is an ATCRBS.
 #[tactic(auto, unfolding(reports::specs::Records::seven_of, reports::specs::Conditions::seven_spares))]
+#[inline(always)]
 fn seven_of(words: &[u16; 7], form: Form) -> (Report, u16)
     requires { is_seven words.now ≡ true }
     ensures report { result.0 ≡ seven_of (form_of form) words.now }
@@ -118,6 +120,7 @@ fn seven_of(words: &[u16; 7], form: Form) -> (Report, u16)
 
 // Of words of a known form.
 #[tactic(auto, unfolding(reports::specs::Records::report_of, reports::specs::Conditions::zeros))]
+#[inline(always)]
 fn report_of(words: &[u16; 7], form: Form) -> (Report, u16)
     requires { unknown_form words.now ≡ false }
     ensures report { result.0 ≡ report_of (form_of form) words.now }
@@ -192,6 +195,7 @@ fn row(holds: bool, why: LineRefusal, offset: usize) -> Result<(), RunRefusal>
 // The answer to a run of `n` words whose first seven are given, with 0 for those past its end; its first word that is too wide is at
 // `too_wide` and its first word with an even number of ones at `even`, or these are `n`. Where a word is too wide, `even` does not matter.
 // Altitudes are read in the form.
+#[inline(always)]
 pub fn judge(
     words: &[u16; 7],
     n: usize,
