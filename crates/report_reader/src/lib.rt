@@ -195,6 +195,7 @@ fn row(holds: bool, why: LineRefusal, offset: usize) -> Result<(), RunRefusal>
 // The answer to a run of `n` words whose first seven are given, with 0 for those past its end; its first word that is too wide is at
 // `too_wide` and its first word with an even number of ones at `even`, or these are `n`. Where a word is too wide, `even` does not matter.
 // Altitudes are read in the form.
+// Inlined, with what makes the report: else the report goes through memory three times, and a short run takes twice the time (bench/).
 #[inline(always)]
 pub fn judge(
     words: &[u16; 7],
