@@ -595,7 +595,7 @@ uint32_t siamrung_frame_write_refusal(const uint8_t *bytes, size_t length, size_
  * ---- calls of the index: the last report of each file number
  *
  * A table is an array of entries that the program declares, and the number of its entries (not of its bytes), at most 512. An empty table may be NULL
- * with 0 entries. If a table has more than 512, the first 512 are read, and the call is refused. Begin with a table of zeros.
+ * with 0 entries. If a table has more than 512, no entry is read, and the call is refused. Begin with a table of zeros.
  *
  * An entry is used if its number is not 0, also if the number is above 4,095. Of an unused entry nothing else is looked at. The used entries stand
  * first. So a program that takes an entry out must move the used entries behind it up.
