@@ -5,7 +5,7 @@
 
 ghost use Rattle.std.specs.Prelude.{◌≡◌};
 ghost use Rattle.fields.specs.Reading.{way_numbered, number_of};
-ghost use Rattle.fields.specs.Numbers.{rule_numbered};
+ghost use Rattle.fields.specs.Numbers.{part_rule_numbered};
 ghost use Rattle.fields.specs.Table.{behind_of};
 
 pub mod table; // the known types, their lengths, their parts, and the rules of the parts
@@ -94,7 +94,7 @@ pub enum Rule {
 
 // By the number that the definitions name a rule with; any other is any value.
 impl From<u8> for Rule {
-    ghost from_gives = { λ number rule. rule ≡ rule_numbered number };
+    ghost from_gives = { λ number rule. rule ≡ part_rule_numbered number };
 
     fn from(number: u8) -> Rule {
         match number {

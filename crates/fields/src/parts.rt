@@ -2,14 +2,14 @@
 // Relies on the table; specs/Table.antt and specs/Steps.antt say what each function means.
 ghost use Rattle.std.specs.Prelude.{◌≡◌, ◌%◌, ◌^◌, map};
 ghost use Rattle.fields.specs.Table.{counted, count_in};
-ghost use Rattle.fields.specs.Numbers.{rule_number};
+ghost use Rattle.fields.specs.Numbers.{part_rule_number};
 ghost use Rattle.fields.specs.Steps.{faults_within};
 
 use crate::{Fault, Faults, Row, Rule, table};
 
 // What is wrong with the parts up to the first of no bits, in one pass: both kinds of fault.
 pub fn faults(widths: &[u8; 11], rules: &[Rule; 11], v: &[u64; 11]) -> Faults
-    ensures { result ≡ faults_within widths.now (map rule_number rules.now) v.now }
+    ensures { result ≡ faults_within widths.now (map part_rule_number rules.now) v.now }
 {
     let mut found = Faults {
         spare: false,

@@ -5,7 +5,7 @@
 // Relies on nothing but the names; specs/Table.antt says what the table holds.
 ghost use Rattle.std.specs.Prelude.{◌≡◌, ◌-◌, ◌≤◌, ◌++◌, map, replicate};
 ghost use Rattle.fields.specs.Table.{place_of, row_at, widths_at, rules_at, fault_of};
-ghost use Rattle.fields.specs.Numbers.{rule_number, fault_number};
+ghost use Rattle.fields.specs.Numbers.{part_rule_number, fault_number};
 ghost use Rattle.fields.specs.declared.Rule.TheVariants.{Spare};
 
 use crate::{Direction, Fault, Row, Rule};
@@ -353,7 +353,7 @@ fn ruled<const N: usize>(parts: [Rule; N]) -> [Rule; 11]
 // Their rules; past the end any value.
 #[tactic(auto, unfolding(crate::specs::Table::table, crate::specs::Table::rules, crate::specs::Table::rules_at))]
 pub fn rules_at(i: usize) -> [Rule; 11]
-    ensures { map rule_number result ≡ rules_at i }
+    ensures { map part_rule_number result ≡ rules_at i }
 {
     use Rule::{Advisory, Any, NotZero, One, Spare, UpTo4, UpTo5};
     match i {
@@ -387,7 +387,7 @@ pub fn rules_at(i: usize) -> [Rule; 11]
 
 // What is wrong with a part's value, if anything is.
 pub fn fault(rule: Rule, x: u64) -> Option<Fault>
-    ensures { fault_number result ≡ fault_of (rule_number rule) x }
+    ensures { fault_number result ≡ fault_of (part_rule_number rule) x }
 {
     match rule {
         Rule::Spare if x != 0 => Some(Fault::Spare),

@@ -5,7 +5,7 @@ use mathlib.Core.List.{map}
 use lib.ListN.{length}
 use Rattle.std.proofs.lemmas.List.{length-map}
 use Rattle.fields.specs.declared.Faults.{Faults}
-use Rattle.fields.specs.Numbers.{rule_number}
+use Rattle.fields.specs.Numbers.{part_rule_number}
 use Rattle.fields.specs.Table.{rules_at, has_fault}
 use Rattle.fields.specs.Lists.{any_unused}
 use Rattle.fields.specs.Reading.{blocks_by}
@@ -23,7 +23,7 @@ found c =
     let f = c.args.self.now in
     let e = c.rules_at-rules.ensures in
     let n : length c.rules_at-rules.result ≡ 11 = search rules in
-    let m : length (map rule_number c.rules_at-rules.result) ≡ 11 = length-map _ _ ∙ n in
+    let m : length (map part_rule_number c.rules_at-rules.result) ≡ 11 = length-map _ _ ∙ n in
     c.faults-found.ensures ∙ rw (f.its_widths, e) (within_quiet _ _ _ (rw e at m) (search rules) (quiet f.bytes.now f.before f.place f.values f.in_table f.its_values))
 
 -- a spare bit is one

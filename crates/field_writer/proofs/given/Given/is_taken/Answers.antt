@@ -6,7 +6,7 @@ use lib.ListN.{length}
 use Rattle.std.proofs.lemmas.List.{length-map}
 use Rattle.fields.specs.declared.Faults.{Faults}
 use Rattle.fields.specs.Table.{row_at, widths_at, rules_at, has_fault, Quiet, RowSmall}
-use Rattle.fields.specs.Numbers.{rule_number}
+use Rattle.fields.specs.Numbers.{part_rule_number}
 use Rattle.fields.specs.Lists.{list_fits}
 use Rattle.fields.specs.Reading.{listed}
 use Rattle.fields.specs.Writing.{numbers_in, fit_all, takes_at}
@@ -27,7 +27,7 @@ unused c =
     let f = fit_numbers g.place g.given g.in_table (fit ∙ c.if-not-fit_all.false) in
     let k = c.rules_at-rules.ensures in
     let n : length c.rules_at-rules.result ≡ 11 = search rules in
-    let m : length (map rule_number c.rules_at-rules.result) ≡ 11 = length-map _ _ ∙ n in
+    let m : length (map part_rule_number c.rules_at-rules.result) ≡ 11 = length-map _ _ ∙ n in
     let q : Quiet g.widths (rules_at g.place) g.values = rw (g.its_widths, g.its_values) (rest_quiet g.place _ g.in_table f) in
     let e : c.faults-found.result ≡ record { spare = has_fault 1 (rules_at g.place) g.values; unused = has_fault 2 (rules_at g.place) g.values } =
     c.faults-found.ensures ∙ rw k (within_quiet _ _ _ (rw k at m) (search rules) q) in
