@@ -385,17 +385,10 @@ pub fn rules_at(i: usize) -> [Rule; 11]
     }
 }
 
-// What is wrong with a part's value, if anything is.
-pub fn fault(rule: Rule, x: u64) -> Option<Fault>
-    ensures { fault_number result ≡ fault_of (part_rule_number rule) x }
+// What is wrong with a part's value, by its rule's number. It stands beside `Rule::fault` because of what may not change: any number is taken.
+#[tactic(auto, using(crate::proofs::Values::numbered_fault))]
+pub fn fault(rule: u8, x: u64) -> Option<Fault>
+    ensures { fault_number result ≡ fault_of rule x }
 {
-    match rule {
-        Rule::Spare if x != 0 => Some(Fault::Spare),
-        Rule::NotZero if x == 0 => Some(Fault::Unused),
-        Rule::One if x != 1 => Some(Fault::Unused),
-        Rule::UpTo4 if 4 < x => Some(Fault::Unused),
-        Rule::UpTo5 if 5 < x => Some(Fault::Unused),
-        Rule::Advisory if x % 8 == 7 => Some(Fault::Unused),
-        _ => None,
-    }
+    Rule::from(rule).fault(x)
 }

@@ -1,4 +1,4 @@
--- `fields::parts::faults` meets its contract: what was seen before i or is found from i on is what all parts say. Assumes nothing.
+-- `fields::parts::faults_by` meets its contract: what was seen before i or is found from i on is what all parts say. Assumes nothing.
 use Rattle.std.proofs.Common.{◌≡◌, ◌-◌, get_or, map, sym, ap, ◌∙◌, arith}
 use Rattle.std.proofs.Math.ListN.{get_or-map}
 use Rattle.fields.specs.declared.Rule.TheVariants.{Any}
@@ -6,8 +6,8 @@ use Rattle.fields.specs.Table.{fault_of}
 use Rattle.fields.specs.Numbers.{part_rule_number, fault_number}
 use Rattle.fields.specs.declared.Faults.{Faults}
 use Rattle.fields.proofs.Values.{within_next, within_stop, within_none, noted, noted_is}
-use Rattle.fields.proofs.parts.faults.Goals as goal
-use Rattle.fields.proofs.parts.faults.Goals.{in-None, in-Some-Spare, in-Some-Unused}
+use Rattle.fields.proofs.parts.faults_by.Goals as goal
+use Rattle.fields.proofs.parts.faults_by.Goals.{in-None, in-Some-Spare, in-Some-Unused}
 
 pub returns-then-width-eq0 : goal.returns-then-width-eq0
 returns-then-width-eq0 c =

@@ -1,8 +1,8 @@
--- `fields::parts::faults` meets its contract: what was seen before i or is found from i on is what all parts say. Assumes nothing.
+-- `fields::parts::faults_by` meets its contract: what was seen before i or is found from i on is what all parts say. Assumes nothing.
 use Rattle.std.proofs.Common.{◌≡◌, ◌-◌, ◌||◌, map}
 use Rattle.fields.specs.Numbers.{part_rule_number}
 use Rattle.fields.specs.Steps.{fault_within}
-use Rattle.fields.proofs.parts.faults.Given as goal
+use Rattle.fields.proofs.parts.faults_by.Given as goal
 
 abbrev pub invariant-loop-i : goal.invariant-loop-i
 invariant-loop-i l = record {
