@@ -1,15 +1,9 @@
 -- What each call that reads a link data field answers, from what the reader of fields answers. Definitions only.
 use Rattle.std.specs.Prelude.{ℕ, ◌-◌, ◌/◌, cond, ◌||◌, eqb, Err, None, Ok, Option, Result, Some}
-use Rattle.fields.specs.declared.Direction.{Direction}
-use Rattle.fields.specs.declared.Direction.TheVariants.{ToSensor, FromSensor}
 use Rattle.fields.specs.declared.Record.{Record}
 use Rattle.fields.specs.declared.Record.TheVariants.{Single, Relay}
 use Rattle.field_items.specs.Items.{item_of, inner_of}
 use Rattle.refusals.specs.declared.FieldRefusal.{FieldRefusal}
-
--- 0 to the sensor, any other number from it
-abbrev pub way_of : ℕ → Direction
-way_of k = cond (eqb k 0) ToSensor FromSensor
 
 -- ---- types
 

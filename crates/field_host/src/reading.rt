@@ -3,8 +3,8 @@
 // Relies on field_reader for the answer, field_items for the parts; specs/Reading.antt says what each call answers.
 ghost use Rattle.std.specs.Prelude.{◌≡◌, ◌-◌, pos, length, get_or};
 ghost use Rattle.pairs.specs.Pairs.{value_of};
-ghost use Rattle.fields.specs.Reading.{answer_of, answer_number, read_field, text_of};
-ghost use Rattle.field_host.specs.Reading.{way_of, outer_of, inner_type, type_of, item_in, is_there, entries_of};
+ghost use Rattle.fields.specs.Reading.{way_numbered, answer_of, answer_number, read_field, text_of};
+ghost use Rattle.field_host.specs.Reading.{outer_of, inner_type, type_of, item_in, is_there, entries_of};
 
 use field_items::items;
 use field_reader::reading;
@@ -13,7 +13,7 @@ use refusals::FieldRefusal;
 
 // The bytes, the count and the direction are three arguments, as C passes them: a struct would be made in each call, and used there once.
 fn answer(bytes: &[u8], count: usize, from_sensor: u32) -> Result<Record, FieldRefusal>
-    ensures { result ≡ answer_of bytes.now count (way_of from_sensor) }
+    ensures { result ≡ answer_of bytes.now count (way_numbered from_sensor) }
 {
     reading::judge(bytes, count, Direction::from(from_sensor))
 }
@@ -22,7 +22,7 @@ fn answer(bytes: &[u8], count: usize, from_sensor: u32) -> Result<Record, FieldR
 
 #[unsafe(no_mangle)]
 pub extern "C" fn siamrung_field_refusal(bytes: &[u8], count: usize, from_sensor: u32) -> u32
-    ensures { result ≡ answer_number (answer_of bytes.now count (way_of from_sensor)) }
+    ensures { result ≡ answer_number (answer_of bytes.now count (way_numbered from_sensor)) }
 {
     u32::from(fields::number(answer(bytes, count, from_sensor)))
 }
@@ -51,7 +51,7 @@ fn inner_type(a: Result<Record, FieldRefusal>) -> u32
 // The type; 3 for a relay, 0 where the field is refused.
 #[unsafe(no_mangle)]
 pub extern "C" fn siamrung_field_type(bytes: &[u8], count: usize, from_sensor: u32) -> u32
-    ensures { result ≡ type_of (answer_of bytes.now count (way_of from_sensor)) }
+    ensures { result ≡ type_of (answer_of bytes.now count (way_numbered from_sensor)) }
 {
     outer_type(answer(bytes, count, from_sensor))
 }
@@ -59,7 +59,7 @@ pub extern "C" fn siamrung_field_type(bytes: &[u8], count: usize, from_sensor: u
 // The type that the items speak of: of a relay that of the field inside; 0 where the field is refused.
 #[unsafe(no_mangle)]
 pub extern "C" fn siamrung_field_inner_type(bytes: &[u8], count: usize, from_sensor: u32) -> u32
-    ensures { result ≡ inner_type (answer_of bytes.now count (way_of from_sensor)) }
+    ensures { result ≡ inner_type (answer_of bytes.now count (way_numbered from_sensor)) }
 {
     inner_type(answer(bytes, count, from_sensor))
 }
@@ -74,7 +74,7 @@ fn item_in(a: Result<Record, FieldRefusal>, item: u32) -> Option<u64>
 
 #[unsafe(no_mangle)]
 pub extern "C" fn siamrung_field_has(bytes: &[u8], count: usize, from_sensor: u32, item: u32) -> u32
-    ensures { result ≡ is_there (item_in (answer_of bytes.now count (way_of from_sensor)) item) }
+    ensures { result ≡ is_there (item_in (answer_of bytes.now count (way_numbered from_sensor)) item) }
 {
     u32::from(item_in(answer(bytes, count, from_sensor), item).is_some())
 }
@@ -87,7 +87,7 @@ pub extern "C" fn siamrung_field_item(
     from_sensor: u32,
     item: u32,
 ) -> u64
-    ensures { result ≡ value_of (item_in (answer_of bytes.now count (way_of from_sensor)) item) }
+    ensures { result ≡ value_of (item_in (answer_of bytes.now count (way_numbered from_sensor)) item) }
 {
     item_in(answer(bytes, count, from_sensor), item).unwrap_or(0)
 }
@@ -107,7 +107,7 @@ fn entries(code: u32, count: usize) -> usize
 
 #[unsafe(no_mangle)]
 pub extern "C" fn siamrung_field_entries(bytes: &[u8], count: usize, from_sensor: u32) -> usize
-    ensures { result ≡ entries_of (type_of (answer_of bytes.now count (way_of from_sensor))) count }
+    ensures { result ≡ entries_of (type_of (answer_of bytes.now count (way_numbered from_sensor))) count }
 {
     entries(outer_type(answer(bytes, count, from_sensor)), count)
 }
@@ -126,7 +126,7 @@ pub extern "C" fn siamrung_field_entry(
     from_sensor: u32,
     index: usize,
 ) -> i64
-    ensures { result ≡ get_or (read_field bytes.now count (way_of from_sensor)).list index (pos 0) }
+    ensures { result ≡ get_or (read_field bytes.now count (way_numbered from_sensor)).list index (pos 0) }
 {
     entry(
         reading::read(bytes, count, Direction::from(from_sensor)).list,
@@ -138,14 +138,14 @@ pub extern "C" fn siamrung_field_entry(
 
 #[unsafe(no_mangle)]
 pub extern "C" fn siamrung_field_text_length(bytes: &[u8], count: usize, from_sensor: u32) -> usize
-    ensures { result ≡ length (text_of bytes.now count (way_of from_sensor)) }
+    ensures { result ≡ length (text_of bytes.now count (way_numbered from_sensor)) }
 {
     reading::text(bytes, count, Direction::from(from_sensor)).len()
 }
 
 #[unsafe(no_mangle)]
 pub extern "C" fn siamrung_field_text_place(bytes: &[u8], count: usize, from_sensor: u32) -> usize
-    ensures { result ≡ length bytes.now - length (text_of bytes.now count (way_of from_sensor)) }
+    ensures { result ≡ length bytes.now - length (text_of bytes.now count (way_numbered from_sensor)) }
 {
     bytes
         .len()

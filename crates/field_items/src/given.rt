@@ -129,7 +129,7 @@ fn checked(code: u32, told: &[u8], list: &[u8]) -> Option<Record>
     if list.len() != 240 || !pairs::whole(told) {
         return None;
     }
-    let i = table::find(code as u64)?;
+    let i = table::find(u64::from(code))?;
     let gathered = Gathered(pairs::gather(told, FIRST));
     let record = gathered.record(i);
     if gathered.fits(code, pairs::count(told), record) {

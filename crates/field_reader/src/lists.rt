@@ -70,6 +70,7 @@ impl<'a> Entries<'a> {
         requires { self.now.step ≡ 8 }
         ensures { result ≡ any_unused (values_of self.now.bytes.now self.now.before (replicate self.now.n 8)) }
     {
+        // The range stays: k numbers bit fields, which are in no slice that could be walked.
         for k in 0..self.n {
             if block_unused(piece(self.bytes, self.before + 8 * k, 8)) {
                 return true;

@@ -82,7 +82,7 @@ impl<'a> Typed<'a> {
         ensures { result ≡ judged_by self.now.bytes.now self.now.before self.now.place self.now.row self.now.values }
     {
         let rules = table::rules_at(self.place);
-        let found = fields::parts::faults(&self.widths, &rules, &self.values);
+        let found = fields::parts::faults_by(&self.widths, &rules, &self.values);
         if found.spare {
             return Err(FieldRefusal::SpareBitSet);
         }

@@ -119,7 +119,7 @@ impl<'a> Given<'a> {
             return false;
         }
         let rules = table::rules_at(self.place);
-        let found = parts::faults(&self.widths, &rules, &self.values);
+        let found = parts::faults_by(&self.widths, &rules, &self.values);
         if found.unused {
             return false;
         }

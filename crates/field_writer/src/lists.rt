@@ -61,8 +61,8 @@ pub fn put_entries(s: &mut [u8], before: usize, step: usize, n: usize, list: &[i
     requires { (before ≤ 4096) × (step ≤ 80) × (n ≤ 30) }
     ensures { s.new ≡ put_all s.old before (replicate n step) (entries_bits step n list.now) }
 {
-    for k in 0..n {
-        let z = list[k];
+    for (k, number) in list[..n].iter().enumerate() {
+        let z = *number;
         bits::write(s, before + step * k, step, entry_bits(step, z));
     }
 }

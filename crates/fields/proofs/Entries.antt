@@ -1,6 +1,6 @@
 -- Laws of a list's entries: the next of them, and how far they reach.
 -- Assumes nothing.
-use Rattle.std.proofs.Common.{◌≡◌, ℕ, ◌+◌, ◌-◌, ◌*◌, ◌≤◌, ap, ◌∙◌, le_trans, mul-le-mul_right, mul-le-mul_left, mul-zero, mul-suc, add-one, arith}
+use Rattle.std.proofs.Common.{◌≡◌, ℕ, ◌+◌, ◌*◌, ◌≤◌, le_trans, mul-le-mul_right, mul-le-mul_left, mul-suc, add-one, arith}
 
 -- a product is bounded by its factors' bounds
 pub product : (a b m k : ℕ) → a ≤ m → b ≤ k → a * b ≤ m * k
@@ -9,7 +9,3 @@ product a b m k h l = le_trans (mul-le-mul_right b h) (mul-le-mul_left m l)
 -- one step further
 pub next : (a step k : ℕ) → a + step * k + step ≡ a + step * (k + 1)
 next a step k = rw (add-one, mul-suc) (omega arith)
-
--- at the first entry nothing is left out
-pub from_first : {X : Type 0} (f : ℕ → ℕ → X) (a step n : ℕ) → f (a + step * 0) (n - 0) ≡ f a n
-from_first f a step n = ap (λ (x : ℕ). f x (n - 0)) (omega (arith, mul-zero step)) ∙ ap (λ (x : ℕ). f a x) (omega arith)

@@ -10,22 +10,6 @@ use Rattle.fields.specs.Table.{table, rows, no_row, row_at, widths, widths_at, r
 use Rattle.fields.specs.Records.{fields_by, field_at}
 use Rattle.fields.specs.Reading.{type_not_carried}
 
--- the number c is none of the codes of these rows, as the last arm of a `match` has it: T, and then a code after the other
-abbrev Avoids : Type 0 → ℕ → List Row → Type 0
-Avoids T c [] = T
-Avoids T c (r ∷ rs) = Avoids (T × (c ≡ r.code → ⊥)) c rs
-
-avoided : (T : Type 0) (c : ℕ) (rs : List Row) (i : ℕ) → Avoids T c rs → T × (place_from c rs i ≡ None)
-unfolding place_from
-avoided T c [] i t = (t, refl)
-avoided T c (r ∷ rs) i t =
-    let h = avoided (T × (c ≡ r.code → ⊥)) c rs (i + 1) t in
-    (h.0.0, rw (ne_eqb _ _ (λ e. h.0.1 (sym e))) h.1)
-
--- what is no row's code has no place
-pub place_from_none : (c : ℕ) (rs : List Row) → Avoids (Unit {0}) c rs → place_from c rs 0 ≡ None
-place_from_none c rs t = (avoided (Unit {0}) c rs 0 t).1
-
 -- the number i is none of the first n, as the last arm of a `match` has it
 abbrev NotBelow : ℕ → ℕ → Type 0
 NotBelow i zero = Unit {0}

@@ -88,14 +88,6 @@ text_small r vs s = go (eqb r.step 80)
     go true = omega (arith, count_small r vs s)
     go false = zero-le
 
-pub listed_small : (r : Row) (vs : List ℕ) → RowSmall r vs → listed_as r vs ≤ 46
-unfolding listed_as
-listed_small r vs s = go (eqb r.step 80)
-  where
-    go : (b : Bool) → cond b 0 (count_in r vs) ≤ 46
-    go true = zero-le
-    go false = count_small r vs s
-
 -- ---- the groups of a field's parts
 
 pub head_lengths : (r : Record) → length (head_widths r) ≡ length (head_values r)

@@ -1,12 +1,14 @@
 -- Laws of the faults of a layout's parts, up to the first part of no bits.
 -- Assumes nothing.
-use Rattle.std.proofs.Common.{◌≡◌, ℕ, zero, suc, ◌+◌, Bool, true, false, ◌||◌, eqb, List, length, get_or, drop, sym, refl, add-one, arith, drop_of_length-le, drop-cons, eq-eqb, ne_eqb, eqb-true, None, Option, Some}
+use Rattle.std.proofs.Common.{◌≡◌, ℕ, zero, suc, ◌+◌, Bool, true, false, ◌||◌, cond, eqb, List, length, get_or, drop, map, sym, refl, ap, ◌∙◌, add-one, arith, drop_of_length-le, drop-cons, eq-eqb, ne_eqb, eqb-true, None, Option, Some}
 use mathlib.Core.Bool.{or_assoc, or-false, or-true}
+use Rattle.std.proofs.Math.ListN.{get_or-map}
 use Rattle.fields.specs.declared.Fault.{Fault}
 use Rattle.fields.specs.declared.Fault.TheVariants as F
 use Rattle.fields.specs.declared.Faults.{Faults}
+use Rattle.fields.specs.declared.Rule.TheVariants as R
 use Rattle.fields.specs.Table.{has_fault, fault_of, Quiet}
-use Rattle.fields.specs.Numbers.{fault_number}
+use Rattle.fields.specs.Numbers.{part_rule_number, part_rule_numbered, fault_number}
 use Rattle.fields.specs.Steps.{fault_within, faults_within}
 
 -- a fault seen before i or found from i on: the part at i, which has bits, passes from the one to the other
@@ -55,3 +57,31 @@ pub noted_is : (f : Faults) (r : Option Fault) →
 noted_is f None = (sym (or-false f.spare), sym (or-false f.unused))
 noted_is f (Some F.Spare) = (sym (or-true f.spare), sym (or-false f.unused))
 noted_is f (Some F.Unused) = (sym (or-false f.spare), sym (or-true f.unused))
+
+-- ---- by a rule's number
+
+-- a number that is no rule's has no fault, as any value has none
+pub numbered_fault : (n x : ℕ) → fault_of (part_rule_number (part_rule_numbered n)) x ≡ fault_of n x
+numbered_fault n x = go (eqb n 1) (eqb n 2) (eqb n 3) (eqb n 4) (eqb n 5) (eqb n 6)
+  where
+    go : (a b c d e f : Bool) →
+        fault_of (part_rule_number (cond a R.Spare (cond b R.NotZero (cond c R.One (cond d R.UpTo4 (cond e R.UpTo5 (cond f R.Advisory R.Any))))))) x
+        ≡ cond a (fault_of 1 x) (cond b (fault_of 2 x) (cond c (fault_of 3 x) (cond d (fault_of 4 x) (cond e (fault_of 5 x) (cond f (fault_of 6 x) 0)))))
+    go true b c d e f = refl
+    go false true c d e f = refl
+    go false false true d e f = refl
+    go false false false true e f = refl
+    go false false false false true f = refl
+    go false false false false false true = refl
+    go false false false false false false = refl
+
+numbered_at : (rs : List ℕ) (i : ℕ) → get_or (map part_rule_number (map part_rule_numbered rs)) i 0 ≡ part_rule_number (part_rule_numbered (get_or rs i 0))
+numbered_at rs i = get_or-map part_rule_number (map part_rule_numbered rs) i R.Any ∙ ap part_rule_number (get_or-map part_rule_numbered rs i 0)
+
+within_named : (k : ℕ) (ws rs vs : List ℕ) (n i : ℕ) → fault_within k ws (map part_rule_number (map part_rule_numbered rs)) vs n i ≡ fault_within k ws rs vs n i
+unfolding fault_within
+within_named k ws rs vs zero i = refl
+within_named k ws rs vs (suc n) i = rw (numbered_at rs i, numbered_fault (get_or rs i 0) (get_or vs i 0), within_named k ws rs vs n (i + 1)) refl
+
+pub faults_named : (ws rs vs : List ℕ) → faults_within ws (map part_rule_number (map part_rule_numbered rs)) vs ≡ faults_within ws rs vs
+faults_named ws rs vs = rw (within_named 1 ws rs vs 11 0, within_named 2 ws rs vs 11 0) refl

@@ -5,8 +5,8 @@
 
 ghost use Rattle.std.specs.Prelude.{◌≡◌};
 ghost use Rattle.fields.specs.Reading.{way_numbered, number_of};
-ghost use Rattle.fields.specs.Numbers.{rule_numbered};
-ghost use Rattle.fields.specs.Table.{behind_of};
+ghost use Rattle.fields.specs.Numbers.{part_rule_number, part_rule_numbered, fault_number};
+ghost use Rattle.fields.specs.Table.{behind_of, fault_of};
 
 pub mod table; // the known types, their lengths, their parts, and the rules of the parts
 pub mod parts; // the parts of a field: their faults, and what the counted ones say
@@ -94,7 +94,7 @@ pub enum Rule {
 
 // By the number that the definitions name a rule with; any other is any value.
 impl From<u8> for Rule {
-    ghost from_gives = { λ number rule. rule ≡ rule_numbered number };
+    ghost from_gives = { λ number rule. rule ≡ part_rule_numbered number };
 
     fn from(number: u8) -> Rule {
         match number {
@@ -105,6 +105,23 @@ impl From<u8> for Rule {
             5 => Rule::UpTo5,
             6 => Rule::Advisory,
             _ => Rule::Any,
+        }
+    }
+}
+
+impl Rule {
+    // What is wrong with a part's value, if anything is.
+    pub fn fault(self, x: u64) -> Option<Fault>
+        ensures { fault_number result ≡ fault_of (part_rule_number self) x }
+    {
+        match self {
+            Rule::Spare if x != 0 => Some(Fault::Spare),
+            Rule::NotZero if x == 0 => Some(Fault::Unused),
+            Rule::One if x != 1 => Some(Fault::Unused),
+            Rule::UpTo4 if 4 < x => Some(Fault::Unused),
+            Rule::UpTo5 if 5 < x => Some(Fault::Unused),
+            Rule::Advisory if x % 8 == 7 => Some(Fault::Unused),
+            _ => None,
         }
     }
 }

@@ -2,14 +2,14 @@
 // Relies on the table; specs/Table.antt and specs/Steps.antt say what each function means.
 ghost use Rattle.std.specs.Prelude.{◌≡◌, ◌%◌, ◌^◌, map};
 ghost use Rattle.fields.specs.Table.{counted, count_in};
-ghost use Rattle.fields.specs.Numbers.{rule_number};
+ghost use Rattle.fields.specs.Numbers.{part_rule_number, part_rule_numbered};
 ghost use Rattle.fields.specs.Steps.{faults_within};
 
-use crate::{Fault, Faults, Row, Rule, table};
+use crate::{Fault, Faults, Row, Rule};
 
 // What is wrong with the parts up to the first of no bits, in one pass: both kinds of fault.
-pub fn faults(widths: &[u8; 11], rules: &[Rule; 11], v: &[u64; 11]) -> Faults
-    ensures { result ≡ faults_within widths.now (map rule_number rules.now) v.now }
+pub fn faults_by(widths: &[u8; 11], rules: &[Rule; 11], v: &[u64; 11]) -> Faults
+    ensures { result ≡ faults_within widths.now (map part_rule_number rules.now) v.now }
 {
     let mut found = Faults {
         spare: false,
@@ -19,13 +19,28 @@ pub fn faults(widths: &[u8; 11], rules: &[Rule; 11], v: &[u64; 11]) -> Faults
         if *width == 0 {
             return found;
         }
-        match table::fault(rules[i], v[i]) {
+        match rules[i].fault(v[i]) {
             None => {}
             Some(Fault::Spare) => found.spare = true,
             Some(Fault::Unused) => found.unused = true,
         }
     }
     found
+}
+
+// The rules that numbers name.
+fn named(rules: &[u8; 11]) -> [Rule; 11]
+    ensures { result ≡ map part_rule_numbered rules.now }
+{
+    rules.map(Rule::from)
+}
+
+// The same by the rules' numbers. It stands beside `faults_by` because of what may not change: any number is taken.
+#[tactic(auto, using(crate::proofs::Values::faults_named))]
+pub fn faults(widths: &[u8; 11], rules: &[u8; 11], v: &[u64; 11]) -> Faults
+    ensures { result ≡ faults_within widths.now rules.now v.now }
+{
+    faults_by(widths, &named(rules), v)
 }
 
 // What a counted part says; 0 where there is none.

@@ -5,7 +5,7 @@
 // Relies on nothing but the names; specs/Table.antt says what the table holds.
 ghost use Rattle.std.specs.Prelude.{◌≡◌, ◌-◌, ◌≤◌, ◌++◌, map, replicate};
 ghost use Rattle.fields.specs.Table.{place_of, row_at, widths_at, rules_at, fault_of};
-ghost use Rattle.fields.specs.Numbers.{rule_number, fault_number};
+ghost use Rattle.fields.specs.Numbers.{part_rule_number, fault_number};
 ghost use Rattle.fields.specs.declared.Rule.TheVariants.{Spare};
 
 use crate::{Direction, Fault, Row, Rule};
@@ -353,7 +353,7 @@ fn ruled<const N: usize>(parts: [Rule; N]) -> [Rule; 11]
 // Their rules; past the end any value.
 #[tactic(auto, unfolding(crate::specs::Table::table, crate::specs::Table::rules, crate::specs::Table::rules_at))]
 pub fn rules_at(i: usize) -> [Rule; 11]
-    ensures { map rule_number result ≡ rules_at i }
+    ensures { map part_rule_number result ≡ rules_at i }
 {
     use Rule::{Advisory, Any, NotZero, One, Spare, UpTo4, UpTo5};
     match i {
@@ -385,17 +385,10 @@ pub fn rules_at(i: usize) -> [Rule; 11]
     }
 }
 
-// What is wrong with a part's value, if anything is.
-pub fn fault(rule: Rule, x: u64) -> Option<Fault>
-    ensures { fault_number result ≡ fault_of (rule_number rule) x }
+// What is wrong with a part's value, by its rule's number. It stands beside `Rule::fault` because of what may not change: any number is taken.
+#[tactic(auto, using(crate::proofs::Values::numbered_fault))]
+pub fn fault(rule: u8, x: u64) -> Option<Fault>
+    ensures { fault_number result ≡ fault_of rule x }
 {
-    match rule {
-        Rule::Spare if x != 0 => Some(Fault::Spare),
-        Rule::NotZero if x == 0 => Some(Fault::Unused),
-        Rule::One if x != 1 => Some(Fault::Unused),
-        Rule::UpTo4 if 4 < x => Some(Fault::Unused),
-        Rule::UpTo5 if 5 < x => Some(Fault::Unused),
-        Rule::Advisory if x % 8 == 7 => Some(Fault::Unused),
-        _ => None,
-    }
+    Rule::from(rule).fault(x)
 }

@@ -6,7 +6,7 @@ use lib.ListN.{length}
 use Rattle.std.proofs.lemmas.List.{length-map}
 use Rattle.fields.specs.declared.Faults.{Faults}
 use Rattle.fields.specs.Table.{row_at, widths_at, rules_at, has_fault, Quiet, RowSmall}
-use Rattle.fields.specs.Numbers.{rule_number}
+use Rattle.fields.specs.Numbers.{part_rule_number}
 use Rattle.fields.specs.Lists.{list_fits}
 use Rattle.fields.specs.Reading.{listed}
 use Rattle.fields.specs.Writing.{numbers_in, fit_all, takes_at}
@@ -15,22 +15,22 @@ use Rattle.fields.proofs.Values.{within_quiet}
 use Rattle.fields.proofs.Taking.{fit_numbers}
 use Rattle.field_writer.proofs.Left.{fits_small}
 use Rattle.field_writer.proofs.given.Given.is_taken.Goals as goal
-use Rattle.field_writer.proofs.given.Given.is_taken.Goals.{After-faults-found, After-fit_all, After-list_fits, Else-not-fit_all}
+use Rattle.field_writer.proofs.given.Given.is_taken.Goals.{After-faults_by-found, After-fit_all, After-list_fits, Else-not-fit_all}
 
 fit : (c : After-fit_all) → let g = c.args.self.now in fit_all (widths_at g.place) (numbers_in g.given) ≡ c.fit_all.result
 fit c = let g = c.args.self.now in rw (← g.its_widths, ← g.its_values) (sym c.fit_all.ensures)
 
-unused : (c : After-faults-found) → let g = c.args.self.now in has_fault 2 (rules_at g.place) (numbers_in g.given) ≡ c.faults-found.result.unused
+unused : (c : After-faults_by-found) → let g = c.args.self.now in has_fault 2 (rules_at g.place) (numbers_in g.given) ≡ c.faults_by-found.result.unused
 unused c =
     let g = c.args.self.now in
     let fit : fit_all (widths_at g.place) (numbers_in g.given) ≡ c.fit_all.result = rw (← g.its_widths, ← g.its_values) (sym c.fit_all.ensures) in
     let f = fit_numbers g.place g.given g.in_table (fit ∙ c.if-not-fit_all.false) in
     let k = c.rules_at-rules.ensures in
     let n : length c.rules_at-rules.result ≡ 11 = search rules in
-    let m : length (map rule_number c.rules_at-rules.result) ≡ 11 = length-map _ _ ∙ n in
+    let m : length (map part_rule_number c.rules_at-rules.result) ≡ 11 = length-map _ _ ∙ n in
     let q : Quiet g.widths (rules_at g.place) g.values = rw (g.its_widths, g.its_values) (rest_quiet g.place _ g.in_table f) in
-    let e : c.faults-found.result ≡ record { spare = has_fault 1 (rules_at g.place) g.values; unused = has_fault 2 (rules_at g.place) g.values } =
-    c.faults-found.ensures ∙ rw k (within_quiet _ _ _ (rw k at m) (search rules) q) in
+    let e : c.faults_by-found.result ≡ record { spare = has_fault 1 (rules_at g.place) g.values; unused = has_fault 2 (rules_at g.place) g.values } =
+    c.faults_by-found.ensures ∙ rw k (within_quiet _ _ _ (rw k at m) (search rules) q) in
     rw (← g.its_values) (sym (ap (λ (x : Faults). x.unused) e))
 
 small : (c : Else-not-fit_all) → let g = c.args.self.now in RowSmall g.row g.values
@@ -56,7 +56,7 @@ returns-then-not-fit_all c =
 pub returns-then-found : goal.returns-then-found
 unfolding takes_at
 returns-then-found c =
-    let h = (goal.at.returns-then-found c).After-faults-found in
+    let h = (goal.at.returns-then-found c).After-faults_by-found in
     rw (sym c.head_fits.ensures ∙ c.if-not-head_fits.false, fit ((goal.at.returns-then-found c).After-fit_all) ∙ c.if-not-fit_all.false, unused h ∙ c.if-found.true)
 
 pub listed-requires : goal.listed-requires
@@ -69,13 +69,13 @@ pub returns-then-list_fits : goal.returns-then-list_fits
 unfolding takes_at
 returns-then-list_fits c =
     let g = c.args.self.now in
-    let h = (goal.at.returns-then-list_fits c).After-faults-found in
+    let h = (goal.at.returns-then-list_fits c).After-faults_by-found in
     rw (sym c.head_fits.ensures ∙ c.if-not-head_fits.false, fit ((goal.at.returns-then-list_fits c).After-fit_all) ∙ c.if-not-fit_all.false, unused h ∙ c.if-found.false, list-ok ((goal.at.returns-then-list_fits c).After-list_fits) ∙ c.if-list_fits.true, c.text_length.ensures, g.its_values, g.its_row)
     refl
 
 pub returns-else-list_fits : goal.returns-else-list_fits
 unfolding takes_at
 returns-else-list_fits c =
-    let h = (goal.at.returns-else-list_fits c).After-faults-found in
+    let h = (goal.at.returns-else-list_fits c).After-faults_by-found in
     rw (sym c.head_fits.ensures ∙ c.if-not-head_fits.false, fit ((goal.at.returns-else-list_fits c).After-fit_all) ∙ c.if-not-fit_all.false, unused h ∙ c.if-found.false, list-ok ((goal.at.returns-else-list_fits c).After-list_fits) ∙ c.if-list_fits.false, c.if-list_fits.false)
     refl
