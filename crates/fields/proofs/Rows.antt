@@ -1,6 +1,6 @@
 -- Laws of the table: what is looked up, row by row.
 -- Assumes nothing.
-use Rattle.std.proofs.Common.{◌≡◌, ℕ, zero, suc, ◌+◌, ◌-◌, ◌%◌, ◌^◌, ◌<◌, ◌≤◌, Bool, true, false, cond, not, ◌&&◌, ◌||◌, T, eqb, leb, List, [], ◌∷◌, length, get_or, sym, refl, zero-le, lt_of_lt_of_le, le_of_suc-le-suc, not-suc-le-zero, arith, eqb→eq, leb→le, pow_mono, eq-eqb, ne_eqb, eqb-true, lit<, None, Option, Some}
+use Rattle.std.proofs.Common.{◌≡◌, ℕ, zero, suc, ◌+◌, ◌-◌, ◌%◌, ◌^◌, ◌<◌, ◌≤◌, Bool, true, false, cond, not, ◌&&◌, ◌||◌, T, eqb, leb, List, [], ◌∷◌, length, get_or, refl, zero-le, lt_of_lt_of_le, le_of_suc-le-suc, not-suc-le-zero, arith, eqb→eq, leb→le, pow_mono, eq-eqb, ne_eqb, eqb-true, lit<, None, Option, Some}
 use native.Mathlib.Decide.{ℕ_discrete}
 use lib.ListN.{get_or-eq_default}
 use Rattle.bits.proofs.Laws.{bits_of-lt}

@@ -11,7 +11,7 @@ use Rattle.fields.specs.declared.Record.TheVariants.{Single, Relay}
 use Rattle.fields.specs.Table.{table, rows, row_at, widths, widths_at, rules_at, has_fault, count_in, size_in, RowSmall}
 use Rattle.fields.specs.Records.{numbers_of}
 use Rattle.fields.specs.Lists.{list_fits, entries_bits}
-use Rattle.fields.specs.Reading.{listed, listed_as}
+use Rattle.fields.specs.Reading.{listed}
 use Rattle.fields.specs.Writing.{numbers_in, field_in, head_bits, head_widths, head_values, head_fits, fit_all, text_length, text_length_by, takes_at, widths_in, values_in, put_all, sum_of}
 use Rattle.fields.proofs.Rows.{below_at, Fit, row_small, count_small}
 use Rattle.fields.proofs.Facts.{steps_told}
