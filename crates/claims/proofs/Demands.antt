@@ -114,6 +114,7 @@ meaning = record {
   rules_of_all = all_have_rules;
   lists_by_bits = entries_as_printed;
   weights = measures.weights_as_printed;
+  weights_in_code = measures.weights_in_code;
   values = one_value;
   twelve = twelve;
 }

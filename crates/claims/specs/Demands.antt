@@ -123,7 +123,7 @@ Doubles None = Unit {0}
 -- mean is defined twice, by bit numbers as the tables print it and by the widths of what is written, and the two are one: a run is read as a
 -- report exactly when its words are the report's, and a field as a record exactly when its bytes are the record's. The bit numbers of reports
 -- stand in reports/specs/Records.antt, the patterns that tell the form in Forms.antt, those of fields in Printed.antt. The weights of counts are
--- the printed ones, a report's counts have one range, azimuth and time in doubles, and the worked cases hold
+-- the printed ones, in the definitions and in the code's types, a report's counts have one range, azimuth and time in doubles, and the worked cases hold
 pub record MeanWhatIsPrinted : Type 0 where
   pub runs : reports.Demand2
   pub forms : reports.FormsSound
@@ -137,6 +137,7 @@ pub record MeanWhatIsPrinted : Type 0 where
   pub rules_of_all : AllHaveRules
   pub lists_by_bits : (s : List ℕ) (k : ℕ) → EntriesAsPrinted s k
   pub weights : measures.WeightsAsPrinted
+  pub weights_in_code : measures.WeightsInCode
   pub values : (c : Counted) (x y : Option Measured) → Doubles x → Doubles y → Yields c x → Yields c y → x ≡ y
   pub twelve : Twelve
 

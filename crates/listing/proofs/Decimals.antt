@@ -25,11 +25,11 @@ digits_enough (suc k) (suc m) n h g =
     ∙ ap (λ (l : List ℕ). l ++ ((48 + n % 10) ∷ [])) (digits_enough k m (n / 10) (omega arith) (omega arith))
     ∙ sym (passed _ _ e))
 
-one_digit : (n : ℕ) → n < 10 → decimal n ≡ (48 + n) ∷ []
+pub one_digit : (n : ℕ) → n < 10 → decimal n ≡ (48 + n) ∷ []
 unfolding decimal digits
 one_digit n h = picked _ _ (lt-ltb n 10 h)
 
-last_digit : (n : ℕ) → 10 ≤ n → decimal n ≡ decimal (n / 10) ++ ((48 + n % 10) ∷ [])
+pub last_digit : (n : ℕ) → 10 ≤ n → decimal n ≡ decimal (n / 10) ++ ((48 + n % 10) ∷ [])
 unfolding decimal digits
 last_digit n h =
     passed _ _ (le-ltb n 10 h)
@@ -39,7 +39,7 @@ last_digit n h =
 pub same : (n : ℕ) → n < 2 ^ 64 → Std.decimal n ≡ decimal n
 same = decimal_by_steps (λ m ds. ds ≡ decimal m) (λ m l. sym (one_digit m l)) (λ m ds l h. ap (λ (k : List ℕ). k ++ ((48 + m % 10) ∷ [])) h ∙ sym (last_digit m l))
 
-pub five : (n : ℕ) → n < 2 ^ 16 → length (decimal n) ≤ 5
+pub five : (n : ℕ) → n < 100000 → length (decimal n) ≤ 5
 five n h = rw (← same n (omega arith)) (length-decimal-le 5 n (omega arith) (omega arith) (omega arith))
 
 pub twenty : (n : ℕ) → n < 2 ^ 64 → length (decimal n) ≤ 20
