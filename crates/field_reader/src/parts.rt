@@ -12,10 +12,10 @@ pub fn values(b: &[u8], before: usize, code: u64, widths: [u8; 11]) -> [u64; 11]
 {
     let mut v = [0u64; 11];
     v[0] = code;
-    let mut at: usize = before + widths[0] as usize;
+    let mut at: usize = before + usize::from(widths[0]);
     // The range stays: i is the place in both arrays. Behind `skip(1)` a loop has no index that its invariant could name; `i + 1` is no plainer.
     for i in 1..11 {
-        let w = widths[i] as usize;
+        let w = usize::from(widths[i]);
         if w == 0 {
             return v;
         }
