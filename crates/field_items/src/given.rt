@@ -41,7 +41,12 @@ impl Gathered {
     fn values(&self, items: [u64; 11]) -> [u64; 11]
         ensures { (k : ℕ) → k < 11 → slice_index result k ≡ value_of (found_in self.now.0 (slice_index items k)) }
     {
-        items.map(|item| self.value(item))
+        // `map` was tried; the proof did not close: its calls are tied by a chain of states, so that call k lends this `self` nothing says at once.
+        let mut v = [0; 11];
+        for (k, x) in v.iter_mut().enumerate() {
+            *x = self.value(items[k]);
+        }
+        v
     }
 
     // The record of the type at place i, of what is given for its items. A sensor that is given makes a relay of it.
@@ -164,6 +169,7 @@ fn signed(x: u64) -> i32
 pub fn list_given(list: &[u8]) -> [i32; 30]
     ensures { result ≡ list_given list.now }
 {
+    // The loop stays: `from_fn` ties its calls by a chain of states, as `map` in `values`, and its proof would follow `list` through all thirty.
     let mut v = [0; 30];
     for (k, x) in v.iter_mut().enumerate() {
         *x = signed(bits::read(list, 64 * k, 64));

@@ -11,7 +11,7 @@ use fields::{Field, Record, records, table};
 pub const SENSOR: u64 = 237;
 
 // What the parts of the type at place i are, in the order of the table of types. 0 is no item: a table of Options would say Some at each number, and
-// is no plainer.
+// is no plainer. That i is below 22 stands in two `requires` and in invariants: `find` gives a number, and a type for it would be made once a call.
 #[tactic(auto, using(fields::proofs::Rows::last_is), unfolding(crate::specs::Items::item_table, crate::specs::Items::items_at))]
 pub(crate) fn items_at(i: usize) -> [u64; 11]
     requires { i < 22 }
@@ -43,6 +43,7 @@ pub(crate) fn items_at(i: usize) -> [u64; 11]
     }
 }
 
+// Items and values stay apart, as the table and `pairs_by` of specs/Items.antt have them.
 // Among parts with these items and values, the value of this one.
 fn search(items: [u64; 11], v: [u64; 11], item: u64) -> Option<u64>
     ensures { result ≡ find_in item (pairs_by items v) }

@@ -96,6 +96,7 @@ impl<'a> Entries<'a> {
     pub fn numbers(&self) -> [i32; 30]
         ensures { result ≡ entries_in self.now.step 30 (values_of self.now.bytes.now self.now.before (replicate self.now.n self.now.step)) }
     {
+        // The loop stays: `from_fn` ties its calls by a chain of states, and its proof would follow `self` through all thirty: no plainer.
         let mut v = [0i32; 30];
         for (k, entry) in v.iter_mut().enumerate() {
             *entry = self.at(k);

@@ -72,6 +72,7 @@ impl<'a> Asked<'a> {
         Ok(())
     }
 
+    // `before`, 0 or 16, is a number: the definitions take it so, and `Typed` keeps that it is at most 16.
     // A field of the type `code` that is no relay and begins behind the first `before` bits: 23 to 28, or its record.
     #[tactic(auto, using(crate::proofs::Order::unplaced, crate::proofs::Order::placed, fields::proofs::Rows::found_within), unfolding(crate::specs::Steps::row_read, fields::specs::Reading::same_way_as))]
     fn plain(&self, before: usize, code: u64) -> Result<Field, FieldRefusal>

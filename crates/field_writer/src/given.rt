@@ -70,7 +70,9 @@ impl<'a> Given<'a> {
         match self.given {
             Record::Single(_) => true,
             Record::Relay { sensor, inner: _ } => {
-                sensor < 256 && self.row.way == Direction::FromSensor && self.row.code != TEST_RESPONSE
+                sensor < 256
+                    && self.row.way == Direction::FromSensor
+                    && self.row.code != TEST_RESPONSE
             }
         }
     }

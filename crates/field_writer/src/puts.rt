@@ -1,6 +1,8 @@
 // The parts of a field and the bytes of a text, one by one: whether the values fit, and their bits.
 // Relies on `bits`; specs/Writing.antt of `fields` says what each function means.
-// That `before` is at most 4096 stands in two of the three `requires`: it is another sum at each call, kept nowhere, so a type for it would be no plainer.
+// That `before` is at most 4096 stands in two of the three `requires`: it is another sum at each call, kept nowhere, so a type for it would be no
+// plainer.
+// That no width is above 63 is a law of the table, which both callers have by `Given`: a type for widths alone would be no plainer.
 ghost use Rattle.std.specs.Prelude.{◌≡◌, ℕ, ◌≤◌, length, get_or, replicate};
 ghost use Rattle.fields.specs.Writing.{fit_all, put_all};
 
