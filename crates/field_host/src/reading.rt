@@ -8,7 +8,7 @@ ghost use Rattle.field_host.specs.Reading.{outer_of, inner_type, type_of, item_i
 
 use field_items::items;
 use field_reader::reading;
-use fields::{Direction, Record};
+use fields::{Direction, RELAY, Record};
 use refusals::FieldRefusal;
 
 // The bytes, the count and the direction are three arguments, as C passes them: a struct would be made in each call, and used there once.
@@ -32,7 +32,7 @@ fn outer(r: Record) -> u32
 {
     match r {
         Record::Single(f) => items::type_of(f),
-        Record::Relay { .. } => 0x03,
+        Record::Relay { .. } => RELAY as u32,
     }
 }
 
@@ -94,7 +94,8 @@ pub extern "C" fn siamrung_field_item(
 
 // ---- its list
 
-// What stands behind the first 16 bits, by the bits of an entry.
+// What stands behind the first 16 bits, by the bits of an entry. It goes by the type's number, as `entries_of` of specs/Reading.antt has it: to find
+// the row of the type for its `Behind` would be no plainer.
 fn entries(code: u32, count: usize) -> usize
     ensures { result ≡ entries_of code count }
 {

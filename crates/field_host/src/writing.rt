@@ -9,6 +9,7 @@ ghost use Rattle.field_host.specs.Writing.{bits_of};
 use field_items::given;
 use field_writer::writing;
 
+// The arguments are those that C passes: a struct would be made in each call, and used there once.
 // Writes the field. Answers how many bits it has; 0 where it is refused and every byte left as it was.
 #[unsafe(no_mangle)]
 pub extern "C" fn siamrung_field_write(

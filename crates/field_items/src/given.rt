@@ -15,7 +15,7 @@ use pairs::SLOTS;
 // The first item's number: there are thirty-seven.
 const FIRST: u64 = 201;
 
-// What is given for each item's number, from the first one on.
+// What is given for each item's number, from the first one on. An array, not a map: the memory is fixed.
 #[derive(Drop)]
 struct Gathered([Option<u64>; SLOTS]);
 
@@ -37,10 +37,11 @@ impl Gathered {
         self.found(item).unwrap_or(0)
     }
 
-    // Theirs, item by item.
+    // The values of these items, in order.
     fn values(&self, items: [u64; 11]) -> [u64; 11]
         ensures { (k : ℕ) → k < 11 → slice_index result k ≡ value_of (found_in self.now.0 (slice_index items k)) }
     {
+        // `map` was tried; the proof did not close: its calls are tied by a chain of states, so that call k lends this `self` nothing says at once.
         let mut v = [0; 11];
         for (k, x) in v.iter_mut().enumerate() {
             *x = self.value(items[k]);
@@ -112,7 +113,7 @@ impl Gathered {
         }
     }
 
-    // Of so many pairs what they tell are the items of this record, and the type is the record's.
+    // Whether `count` pairs that tell this are just the items of the record, and the type is the record's.
     #[tactic(auto, unfolding(crate::specs::Given::fits))]
     fn fits(&self, code: u32, count: usize, r: Record) -> bool
         ensures { result ≡ fits code count self.now.0 r }
@@ -148,15 +149,16 @@ fn unfit() -> Record
 
 // The record of that type and these items, which goes with a list of thirty numbers; or the one that the writer refuses. The Option ends here:
 // `given` of specs/, which the claims and the C calls name, is a record.
-pub fn record_of(code: u32, gathered: &[u8], list: &[u8]) -> Record
-    ensures { result ≡ given code gathered.now list.now }
+pub fn record_of(code: u32, told: &[u8], list: &[u8]) -> Record
+    ensures { result ≡ given code told.now list.now }
 {
-    checked(code, gathered, list).unwrap_or(unfit())
+    checked(code, told, list).unwrap_or(unfit())
 }
 
 // ---- the list
 
-// A number of eight bytes in two's complement. One that 32 bits do not hold becomes the least that they do, which no entry holds.
+// A number of eight bytes in two's complement. One that 32 bits do not hold becomes the least that they do, which no entry holds,
+// as `signed_of` of specs/Given.antt has it.
 fn signed(x: u64) -> i32
     ensures { result ≡ signed_of x }
 {
@@ -167,6 +169,7 @@ fn signed(x: u64) -> i32
 pub fn list_given(list: &[u8]) -> [i32; 30]
     ensures { result ≡ list_given list.now }
 {
+    // The loop stays: `from_fn` ties its calls by a chain of states, as `map` in `values`, and its proof would follow `list` through all thirty.
     let mut v = [0; 30];
     for (k, x) in v.iter_mut().enumerate() {
         *x = signed(bits::read(list, 64 * k, 64));

@@ -19,7 +19,7 @@ use Rattle.fields.specs.Writing.{field_in}
 -- ---- the count and the bytes
 
 abbrev pub passed : Result Record FieldRefusal → Result ⊤ FieldRefusal
-passed (Ok r) = (Ok tt)
+passed (Ok r) = Ok tt
 passed (Err r) = Err r
 
 unfoldable pub outer_of : List ℕ → ℕ → Result ⊤ FieldRefusal

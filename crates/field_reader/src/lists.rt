@@ -1,6 +1,7 @@
 // The entries of a list that is read, and their numbers: altimeter blocks of 8 bits with a sign, addresses and identifiers of 24.
 // Relies on `bits`; specs/Lists.antt of `fields` and of this crate say what each function means.
-// The bits of an entry tell what it is, as in those definitions: 8 a block. An enum beside them would be no plainer.
+// The bits of an entry tell what it is, as in those definitions: 8 a block. `Behind` tells the same of a row of the table; here there is only a
+// width, which the layout needs too.
 ghost use Rattle.std.specs.Prelude.{◌≡◌, ◌+◌, ◌*◌, ◌<◌, ◌≤◌, ◌^◌, replicate};
 ghost use Rattle.bits.specs.Bits.{bits_of};
 ghost use Rattle.fields.specs.Table.{values_of};
@@ -95,6 +96,7 @@ impl<'a> Entries<'a> {
     pub fn numbers(&self) -> [i32; 30]
         ensures { result ≡ entries_in self.now.step 30 (values_of self.now.bytes.now self.now.before (replicate self.now.n self.now.step)) }
     {
+        // The loop stays: `from_fn` ties its calls by a chain of states, and its proof would follow `self` through all thirty: no plainer.
         let mut v = [0i32; 30];
         for (k, entry) in v.iter_mut().enumerate() {
             *entry = self.at(k);

@@ -1,5 +1,5 @@
 // The reader: the bytes of a field, its bit count and its direction to its record and list, its text, or a refusal.
-// Each function takes every input that its `requires`, if it has one, lets through; the public ones have none.
+// The public functions take every input.
 // Relies on `bits` and, of `fields`, on the table, the parts and the records. specs/Reading.antt of `fields` says what is answered, specs/Steps.antt
 // the same by steps.
 ghost use Rattle.std.specs.Prelude.{◌≡◌, ◌≤◌, ◌&&◌, eqb, leb};
@@ -9,7 +9,7 @@ ghost use Rattle.field_reader.specs.Steps.{unknown_of, plain_of, relayed, opened
 
 use crate::lists;
 use crate::typed::Typed;
-use fields::{Behind, Direction, Field, Found, Record, table};
+use fields::{Behind, Direction, Field, Found, RELAY, Record, TEST_RESPONSE, table};
 use refusals::FieldRefusal;
 
 // A type of Table 5-1 that is not carried.
@@ -35,7 +35,7 @@ fn unknown(code: u64) -> FieldRefusal
 fn not_relayed(code: u64, before: usize) -> bool
     ensures { result ≡ not_relayed code before }
 {
-    before == 16 && matches!(code, 0x03 | 0x62)
+    before == 16 && matches!(code, RELAY | TEST_RESPONSE)
 }
 
 // The type of a field that begins behind the first `before` bits.
@@ -63,7 +63,7 @@ impl<'a> Asked<'a> {
         if !(8..=2008).contains(&self.count) {
             return Err(FieldRefusal::CountOutOfRange);
         }
-        if self.bytes.len() != (self.count + 7) / 8 {
+        if self.bytes.len() != self.count.div_ceil(8) {
             return Err(FieldRefusal::WrongByteCount);
         }
         if bits::read(self.bytes, self.count, (8 - self.count % 8) % 8) != 0 {
@@ -72,6 +72,7 @@ impl<'a> Asked<'a> {
         Ok(())
     }
 
+    // `before`, 0 or 16, is a number: the definitions take it so, and `Typed` keeps that it is at most 16.
     // A field of the type `code` that is no relay and begins behind the first `before` bits: 23 to 28, or its record.
     #[tactic(auto, using(crate::proofs::Order::unplaced, crate::proofs::Order::placed, fields::proofs::Rows::found_within), unfolding(crate::specs::Steps::row_read, fields::specs::Reading::same_way_as))]
     fn plain(&self, before: usize, code: u64) -> Result<Field, FieldRefusal>
@@ -85,6 +86,7 @@ impl<'a> Asked<'a> {
         if field.row.way != self.way {
             return Err(FieldRefusal::WrongDirection);
         }
+        // Both are asked first: an edit of must-fail/ swaps the two tests, and is to be refused for their order, not for a name.
         let relayed = not_relayed(code, before);
         let sized = field.is_sized(self.count);
         if relayed {
@@ -113,7 +115,7 @@ impl<'a> Asked<'a> {
     fn opens(&self, code: u64) -> bool
         ensures { result ≡ (eqb code 0x03 && (from_sensor self.now.way && leb 24 self.now.count)) }
     {
-        code == 0x03 && self.way == Direction::FromSensor && 24 <= self.count
+        code == RELAY && self.way == Direction::FromSensor && 24 <= self.count
     }
 
     // A field whose count and bytes nothing is said against.
@@ -184,7 +186,8 @@ pub fn read(b: &[u8], count: usize, way: Direction) -> Found
     }
 }
 
-// Where the text of a field that begins behind the first `before` bits stands; the end where there is none.
+// Where the text of a field that begins behind the first `before` bits stands; the end where there is none. The
+// end, not None: `text_place` of specs/Reading.antt has it, and the slice from there on is empty.
 #[tactic(auto, using(fields::proofs::Rows::row_base, fields::proofs::Rows::found_within), unfolding(fields::specs::Reading::text_in))]
 fn text_in(b: &[u8], before: usize) -> usize
     requires { before ≤ 16 }

@@ -9,7 +9,7 @@ ghost use Rattle.field_reader.specs.Steps.{judged_by};
 
 use crate::lists::Entries;
 use crate::parts;
-use fields::{Behind, Field, Row, records, table};
+use fields::{Behind, Field, RELAY, Row, records, table};
 use refusals::FieldRefusal;
 
 // It begins behind the first `before` bits, 16 inside a relay, else none.
@@ -60,7 +60,7 @@ impl<'a> Typed<'a> {
     pub fn is_sized(&self, count: usize) -> bool
         ensures { result ≡ sized_by count self.now.before self.now.row self.now.values }
     {
-        self.row.code != 0x03
+        self.row.code != RELAY
             && count == self.before + (self.row.base + self.row.step * self.steps())
     }
 

@@ -2,6 +2,7 @@
 -- Assumes nothing.
 use mathlib.Core.Path.{◌≡◌, refl, ap, ◌∙◌}
 use mathlib.Core.List.{List, [], ◌∷◌}
+use mathlib.Core.Logic.{◌⊎◌, ⊎_elim}
 use mathlib.Core.Bool.{Bool, true, false, ◌&&◌}
 use Prim.Native.Nat.{ℕ, zero, suc, ◌+◌, ◌-◌, ◌*◌, ◌/◌, ◌≤◌, ◌<◌, ◌^◌}
 use native.Mathlib.Decide.{dec_lt}
@@ -20,11 +21,16 @@ use Rattle.fields.specs.Writing.{put_all, fit_all}
 use Rattle.fields.proofs.Entries.{next}
 use Rattle.field_writer.specs.Lists.{entry_ok}
 
--- the parts from i on: the one at i is written first
-pub put_all_step : (s : List ℕ) (a : ℕ) (ws vs : List ℕ) (i : ℕ) → i < length ws → i < length vs →
-    put_all s a (drop i ws) (drop i vs) ≡ put_all (put_bits s a (get_or ws i 0) (get_or vs i 0)) (a + get_or ws i 0) (drop (i + 1) ws) (drop (i + 1) vs)
+-- of the parts that are left the first is written first
+pub put_all_step : (s : List ℕ) (a : ℕ) (ws vs : List ℕ) (w v : ℕ) → put_all s a (w ∷ ws) (v ∷ vs) ≡ put_all (put_bits s a w v) (a + w) ws vs
 unfolding put_all
-put_all_step s a ws vs i h k = rw (drop-cons ws i 0 h, drop-cons vs i 0 k, add-one) refl
+put_all_step s a ws vs w v = refl
+
+pub put_all_none : (s : List ℕ) (a : ℕ) (ws vs : List ℕ) → (ws ≡ []) ⊎ (vs ≡ []) → put_all s a ws vs ≡ s
+unfolding put_all
+put_all_none s a [] vs e = refl
+put_all_none s a (w ∷ ws) [] e = refl
+put_all_none s a (w ∷ ws) (v ∷ vs) o = ⊎_elim (λ e. cc) (λ e. cc) o
 
 pub same_step : (s : List ℕ) (a w n : ℕ) (vs : List ℕ) (k : ℕ) → k < n → k < length vs →
     put_all s (a + w * k) (replicate (n - k) w) (drop k vs)
@@ -69,17 +75,19 @@ pub list_fits_good : (step n : ℕ) (l : List ℤ) (k : ℕ) → k < length l �
     list_fits step (n - k) (drop k l) ≡ list_fits step (n - (k + 1)) (drop (k + 1) l)
 list_fits_good step n l k h e = list_fits_step step n l k h ∙ ap (λ (b : Bool). b && list_fits step (n - (k + 1)) (drop (k + 1) l)) e
 
-fit_all_step : (ws vs : List ℕ) (i : ℕ) → i < length ws → i < length vs →
-    fit_all (drop i ws) (drop i vs) ≡ (ltb (get_or vs i 0) (2 ^ get_or ws i 0) && fit_all (drop (i + 1) ws) (drop (i + 1) vs))
+pub fit_all_good : (ws vs : List ℕ) (w v : ℕ) → v < 2 ^ w → fit_all (w ∷ ws) (v ∷ vs) ≡ fit_all ws vs
 unfolding fit_all
-fit_all_step ws vs i h k = rw (drop-cons ws i 0 h, drop-cons vs i 0 k, add-one) refl
+fit_all_good ws vs w v l = ap (λ (b : Bool). b && fit_all ws vs) (lt-ltb _ _ l)
 
-pub fit_all_good : (ws vs : List ℕ) (i : ℕ) → i < length ws → i < length vs → get_or vs i 0 < 2 ^ get_or ws i 0 →
-    fit_all (drop i ws) (drop i vs) ≡ fit_all (drop (i + 1) ws) (drop (i + 1) vs)
-fit_all_good ws vs i h k l = fit_all_step ws vs i h k ∙ ap (λ (b : Bool). b && fit_all (drop (i + 1) ws) (drop (i + 1) vs)) (lt-ltb _ _ l)
+pub fit_all_bad : (ws vs : List ℕ) (w v : ℕ) → 2 ^ w ≤ v → fit_all (w ∷ ws) (v ∷ vs) ≡ false
+unfolding fit_all
+fit_all_bad ws vs w v l = ap (λ (b : Bool). b && fit_all ws vs) (le-ltb _ _ l)
 
-pub fit_all_bad : (ws vs : List ℕ) (i : ℕ) → i < length ws → i < length vs → 2 ^ get_or ws i 0 ≤ get_or vs i 0 → fit_all (drop i ws) (drop i vs) ≡ false
-fit_all_bad ws vs i h k l = fit_all_step ws vs i h k ∙ ap (λ (b : Bool). b && fit_all (drop (i + 1) ws) (drop (i + 1) vs)) (le-ltb _ _ l)
+pub fit_all_none : (ws vs : List ℕ) → (ws ≡ []) ⊎ (vs ≡ []) → fit_all ws vs ≡ true
+unfolding fit_all
+fit_all_none [] vs e = refl
+fit_all_none (w ∷ ws) [] e = refl
+fit_all_none (w ∷ ws) (v ∷ vs) o = ⊎_elim (λ e. cc) (λ e. cc) o
 
 -- a number from which a shift leaves nothing is within the width
 pub shifted_out : (x w : ℕ) → x / 2 ^ w ≡ 0 → x < 2 ^ w

@@ -7,9 +7,11 @@ ghost use Rattle.fields.specs.Writing.{numbers_in, head_bits, head_widths, head_
 ghost use Rattle.field_writer.specs.Steps.{written_at};
 
 use crate::{lists, puts};
-use fields::{Behind, Direction, Record, Row, parts, records, table};
+use fields::{Behind, Direction, RELAY, Record, Row, TEST_RESPONSE, parts, records, table};
 use refusals::FieldRefusal;
 
+// The list is an array, not a Vec: the memory is fixed.
+// `RowSmall`, which four contracts have, is no invariant: `is_taken` finds it of a value that is there already.
 #[derive(Drop)]
 pub struct Given<'a> {
     given: Record,
@@ -68,7 +70,9 @@ impl<'a> Given<'a> {
         match self.given {
             Record::Single(_) => true,
             Record::Relay { sensor, inner: _ } => {
-                sensor < 256 && self.row.way == Direction::FromSensor && self.row.code != 0x62
+                sensor < 256
+                    && self.row.way == Direction::FromSensor
+                    && self.row.code != TEST_RESPONSE
             }
         }
     }
@@ -145,7 +149,7 @@ impl<'a> Given<'a> {
             return Err(FieldRefusal::NotWritable);
         }
         let n = self.bits();
-        if room < (n + 7) / 8 {
+        if room < n.div_ceil(8) {
             return Err(FieldRefusal::NoRoom);
         }
         Ok(n)
@@ -157,7 +161,7 @@ impl<'a> Given<'a> {
         ensures { s.new ≡ put_all s.old 0 (head_widths self.now.given) (head_values self.now.given) }
     {
         if let Record::Relay { sensor, inner: _ } = self.given {
-            bits::write(s, 0, 8, 0x03);
+            bits::write(s, 0, 8, RELAY);
             bits::write(s, 8, 8, sensor);
         }
     }

@@ -1,7 +1,8 @@
 // The entries of a list that is written: which numbers they hold, and their bits: altimeter blocks of 8 bits with a sign, addresses and
 // identifiers of 24.
 // Relies on `bits`; specs/Lists.antt of `fields` and of this crate say what each function means.
-// The bits of an entry tell what it is, as in those definitions: 8 a block. An enum beside them would be no plainer.
+// The bits of an entry tell what it is, as in those definitions: 8 a block. `Behind` tells the same of a row of the table; here there is only a
+// width, which the layout needs too.
 ghost use Rattle.std.specs.Prelude.{◌≡◌, ◌≤◌, replicate};
 ghost use Rattle.fields.specs.Lists.{entry_bits, entry_fits, list_fits, entries_bits};
 ghost use Rattle.fields.specs.Writing.{put_all};

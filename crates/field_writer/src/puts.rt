@@ -1,6 +1,8 @@
 // The parts of a field and the bytes of a text, one by one: whether the values fit, and their bits.
 // Relies on `bits`; specs/Writing.antt of `fields` says what each function means.
-// That `before` is at most 4096 stands in each `requires`: it is another sum at each call, kept nowhere, so a type for it would be no plainer.
+// That `before` is at most 4096 stands in two of the three `requires`: it is another sum at each call, kept nowhere, so a type for it would be no
+// plainer.
+// That no width is above 63 is a law of the table, which both callers have by `Given`: a type for widths alone would be no plainer.
 ghost use Rattle.std.specs.Prelude.{◌≡◌, ℕ, ◌≤◌, length, get_or, replicate};
 ghost use Rattle.fields.specs.Writing.{fit_all, put_all};
 
@@ -9,8 +11,8 @@ pub fn fit_all(widths: &[u8; 11], v: &[u64; 11]) -> bool
     requires { (k : ℕ) → get_or widths.now k 0 ≤ 63 }
     ensures { result ≡ fit_all widths.now v.now }
 {
-    for (i, width) in widths.iter().enumerate() {
-        if v[i] >> *width != 0 {
+    for (width, x) in widths.iter().zip(v.iter()) {
+        if *x >> *width != 0 {
             return false;
         }
     }
@@ -23,9 +25,9 @@ pub fn put_parts(s: &mut [u8], before: usize, widths: &[u8; 11], v: &[u64; 11])
     ensures { s.new ≡ put_all s.old before widths.now v.now }
 {
     let mut at: usize = before;
-    for (i, width) in widths.iter().enumerate() {
-        let w = *width as usize;
-        bits::write(s, at, w, v[i]);
+    for (width, x) in widths.iter().zip(v.iter()) {
+        let w = usize::from(*width);
+        bits::write(s, at, w, *x);
         at += w;
     }
 }

@@ -19,7 +19,11 @@ part_rule_number R.Advisory = 6
 abbrev pub part_rule_numbered : ℕ → Rule
 part_rule_numbered n =
     cond (n == 1) R.Spare
-    (cond (n == 2) R.NotZero (cond (n == 3) R.One (cond (n == 4) R.UpTo4 (cond (n == 5) R.UpTo5 (cond (n == 6) R.Advisory R.Any)))))
+    (cond (n == 2) R.NotZero
+    (cond (n == 3) R.One
+    (cond (n == 4) R.UpTo4
+    (cond (n == 5) R.UpTo5
+    (cond (n == 6) R.Advisory R.Any)))))
 
 -- 0 where nothing is wrong
 abbrev pub fault_number : Option Fault → ℕ

@@ -3,6 +3,7 @@
 use Rattle.std.specs.Prelude.{ℕ, ◌+◌, ◌-◌, ◌/◌, ◌%◌, Bool, true, false, cond, not, ◌&&◌, ◌||◌, List, [], ◌∷◌, ◌++◌, length, drop, replicate, ℤ, ◌==◌, nat_le, nat_lt, Err, Ok, Result}
 use Rattle.rows.specs.Rows.{Row, row, first_of}
 use Rattle.bits.specs.Bits.{bits_of, bits}
+use Rattle.refusals.specs.declared.FieldRefusal.{FieldRefusal}
 use Rattle.refusals.specs.declared.FieldRefusal.TheVariants.{CountOutOfRange, WrongByteCount, BitAfterCount, UnknownType, TypeNotCarried, WrongDirection, NotRelayed, WrongBitCount, SpareBitSet, ValueNotInUse}
 use Rattle.refusals.specs.Numbers.{field_number}
 use Rattle.fields.specs.declared.Direction.{Direction}
@@ -15,7 +16,6 @@ use Rattle.fields.specs.declared.Found.{Found}
 use Rattle.fields.specs.Table.{place_of, by_place, row_at, widths_at, rules_at, values_of, has_fault, count_in, size_in}
 use Rattle.fields.specs.Records.{field_of}
 use Rattle.fields.specs.Lists.{any_unused, entries_in}
-use Rattle.refusals.specs.declared.FieldRefusal.{FieldRefusal}
 
 -- ---- directions
 
@@ -30,6 +30,11 @@ same_way_as FromSensor w = from_sensor w
 -- the way that C names by a number: 0 is to the sensor, any other from it
 abbrev pub way_numbered : ℕ → Direction
 way_numbered k = cond (k == 0) ToSensor FromSensor
+
+-- and back
+abbrev pub way_number : Direction → ℕ
+way_number ToSensor = 0
+way_number FromSensor = 1
 
 -- ---- the count and the bytes
 

@@ -54,7 +54,7 @@ pub record Known : Type 0 where
   pub row : Row
   pub parts : List Part
 
--- no part is counted
+-- no part is counted; it has a name because specs/OneSegment.antt of `claims` names it
 abbrev pub none : Option ℕ
 none = None
 

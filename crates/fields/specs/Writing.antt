@@ -4,6 +4,7 @@
 use Rattle.std.specs.Prelude.{ℕ, ◌+◌, ◌-◌, ◌*◌, ◌/◌, ◌%◌, ◌^◌, Bool, true, false, cond, not, ◌&&◌, List, [], ◌∷◌, ◌++◌, length, replicate, ℤ, ◌==◌, nat_lt, slice_index, Err, Ok, Result}
 use Rattle.rows.specs.Rows.{Row, row, first_of}
 use Rattle.bits.specs.Bits.{put_bits}
+use Rattle.refusals.specs.declared.FieldRefusal.{FieldRefusal}
 use Rattle.refusals.specs.declared.FieldRefusal.TheVariants.{NotWritable, NoRoom}
 use Rattle.fields.specs.declared.Direction.{Direction}
 use Rattle.fields.specs.declared.Direction.TheVariants.{ToSensor}
@@ -15,7 +16,6 @@ use Rattle.fields.specs.Table.{place_of, by_place, row_at, widths_at, rules_at, 
 use Rattle.fields.specs.Records.{numbers_of}
 use Rattle.fields.specs.Lists.{list_fits, entries_bits}
 use Rattle.fields.specs.Reading.{from_sensor, listed, number_of}
-use Rattle.refusals.specs.declared.FieldRefusal.{FieldRefusal}
 
 -- ---- a record
 

@@ -4,7 +4,7 @@
 #![tactic(auto)]
 
 ghost use Rattle.std.specs.Prelude.{◌≡◌};
-ghost use Rattle.fields.specs.Reading.{way_numbered, number_of};
+ghost use Rattle.fields.specs.Reading.{way_numbered, way_number, number_of};
 ghost use Rattle.fields.specs.Numbers.{part_rule_number, part_rule_numbered, fault_number};
 ghost use Rattle.fields.specs.Table.{behind_of, fault_of};
 
@@ -32,6 +32,23 @@ impl From<u32> for Direction {
         }
     }
 }
+
+// And back: 1 from the sensor.
+impl From<Direction> for u32 {
+    ghost from_gives = { λ way number. number ≡ way_number way };
+
+    fn from(way: Direction) -> u32 {
+        match way {
+            Direction::ToSensor => 0,
+            Direction::FromSensor => 1,
+        }
+    }
+}
+
+// The type of a relay, and that of a test response, which no relay holds.
+pub const RELAY: u64 = 0x03;
+
+pub const TEST_RESPONSE: u64 = 0x62;
 
 // A row of the table. A field of the type has base + step * (more + the values of its counted parts) bits; a part is named by its place in
 // the layout, the type itself being part 0.
@@ -70,7 +87,7 @@ impl Row {
     }
 }
 
-// The document's number of a refusal; 0 where there is none.
+// The document's number of a refusal; 0 where there is none: 0, as C reads it, and as `answer_number` of specs/ has it.
 pub fn number<T: Drop>(answer: Result<T, FieldRefusal>) -> u8
     ensures { result ≡ number_of answer }
 {
@@ -92,7 +109,7 @@ pub enum Rule {
     Advisory = 6,
 }
 
-// By the number that the definitions name a rule with; any other is any value.
+// By the number that the definitions name a rule with; any other number is `Rule::Any`.
 impl From<u8> for Rule {
     ghost from_gives = { λ number rule. rule ≡ part_rule_numbered number };
 
@@ -257,7 +274,8 @@ pub enum Record {
     Relay { sensor: u64, inner: Field },
 }
 
-// What reading answers: the record, or why there is none; and the list of the record: zero from its count on, and where there is none.
+// What reading answers: the record, or why there is none; and the list of the record: zeros behind its entries, all zeros where there is none. An
+// array, not a Vec: the memory is fixed.
 #[derive(Clone, Copy)]
 pub struct Found {
     pub answer: Result<Record, FieldRefusal>,

@@ -15,6 +15,7 @@ pub fn faults_by(widths: &[u8; 11], rules: &[Rule; 11], v: &[u64; 11]) -> Faults
         spare: false,
         unused: false,
     };
+    // The places stay: `faults_within` of specs/Steps.antt goes by them, and behind two zips there is none to name.
     for (i, width) in widths.iter().enumerate() {
         if *width == 0 {
             return found;

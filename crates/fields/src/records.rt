@@ -1,11 +1,13 @@
-// A record from the values of its parts, and the values of a record's parts: the only two functions that go by type.
+// A record from the values of its parts, and the values of a record's parts: the two functions that have a case for each record. Each is long
+// because of that.
 // Relies on nothing but the types; specs/Records.antt says what each gives.
 ghost use Rattle.std.specs.Prelude.{◌≡◌};
 ghost use Rattle.fields.specs.Records.{field_of, numbers_of};
 
 use crate::Field;
 
-// The record of the type at place `at` of the table, from the values of its parts, the first of which, the type code, is passed over.
+// The record of the type at place `at` of the table, from the values of its parts, the first of which, the type code, is passed over. The type is
+// told by its place, as `field_of` of specs/Records.antt has it.
 #[tactic(auto, using(crate::proofs::Rows::field_at_last), unfolding(crate::specs::Records::field_at))]
 pub fn field_at(at: usize, v: [u64; 11]) -> Field
     ensures { result ≡ field_of at v }

@@ -1,7 +1,8 @@
 // The known types (document 01, "Link data fields"): one constant table, looked up by the reader and the writer alike. A type's parts go by the
 // place of its row: eleven widths and eleven rules; a type with fewer has parts of no bits behind them. Those are a `match` on the place, so that
 // each stands in one line with its type.
-// Types that are known but not carried have no row: `unknown` of `field_reader` names them.
+// Types that are known but not carried have no row: `type_not_carried` of `field_reader` names them.
+// Rows, widths, rules and items stay apart: the definitions and the public functions take them apart, and no parts are copied that are not asked for.
 // Relies on nothing but the names; specs/Table.antt says what the table holds.
 ghost use Rattle.std.specs.Prelude.{◌≡◌, ◌-◌, ◌≤◌, ◌++◌, map, replicate};
 ghost use Rattle.fields.specs.Table.{place_of, row_at, widths_at, rules_at, fault_of};
@@ -256,7 +257,7 @@ static KNOWN: [Row; 22] = [
     },
 ];
 
-// What stands for a row past the end.
+// What stands for a row past the end, and no Option: every place is taken, as `row_at` (`widths_at`, `rules_at`) of specs/Table.antt has it.
 const NO_ROW: Row = Row {
     code: 0,
     way: Direction::ToSensor,
@@ -308,7 +309,7 @@ pub fn find(code: u64) -> Option<usize>
     }
 }
 
-// The widths of the parts of the type at place i; past the end eleven parts of no bits.
+// The widths of the parts of the type at place i; past the end eleven parts of no bits: every place is taken, as `widths_at` of specs/ has it.
 #[tactic(auto, unfolding(crate::specs::Table::table, crate::specs::Table::widths, crate::specs::Table::widths_at))]
 pub fn widths_at(i: usize) -> [u8; 11]
     ensures { result ≡ widths_at i }
@@ -350,7 +351,7 @@ fn ruled<const N: usize>(parts: [Rule; N]) -> [Rule; 11]
     rules
 }
 
-// Their rules; past the end any value.
+// Their rules; past the end any value: every place is taken, as `rules_at` of specs/ has it.
 #[tactic(auto, unfolding(crate::specs::Table::table, crate::specs::Table::rules, crate::specs::Table::rules_at))]
 pub fn rules_at(i: usize) -> [Rule; 11]
     ensures { map part_rule_number result ≡ rules_at i }

@@ -1,7 +1,6 @@
 -- What each call of frames answers, from what the reader and the writer of frames answer. Definitions only.
 use Rattle.std.specs.Prelude.{ℕ, ◌+◌, ◌/◌, cond, List, ◌++◌, ltb, length, take, drop, Ok, Err}
-use Rattle.fields.specs.declared.Direction.{Direction}
-use Rattle.fields.specs.declared.Direction.TheVariants.{ToSensor, FromSensor}
+use Rattle.fields.specs.Reading.{way_number}
 use Rattle.frames.specs.declared.What.{What}
 use Rattle.frames.specs.declared.What.TheVariants as W
 use Rattle.frames.specs.declared.Found.{Found}
@@ -32,10 +31,6 @@ refusal_of (W.Refused q) = frame_number q
 refusal_of W.End = 0
 
 -- ---- a frame; 0 where there is none
-
-abbrev pub way_number : Direction → ℕ
-way_number ToSensor = 0
-way_number FromSensor = 1
 
 abbrev pub from_sensor : What → ℕ
 from_sensor (W.Frame w c n) = way_number w

@@ -3,9 +3,8 @@
 // Relies on frames for the answer; specs/Calls.antt says what each call answers.
 ghost use Rattle.std.specs.Prelude.{◌≡◌, ◌+◌, ◌/◌, ◌≤◌, length, take, drop, ◌++◌};
 ghost use Rattle.frames.specs.Reading.{read_frame};
-ghost use Rattle.frame_host.specs.Calls.{kind_of, refusal_of, way_number, from_sensor, control_of, count_of, copied, field_left};
+ghost use Rattle.frame_host.specs.Calls.{kind_of, refusal_of, from_sensor, control_of, count_of, copied, field_left};
 
-use fields::Direction;
 use frames::What;
 
 // The kinds are numbers of the C interface.
@@ -53,21 +52,12 @@ pub extern "C" fn siamrung_frame_place(bytes: &[u8], count: usize, place: usize)
 
 // ---- the frame; 0 where there is none
 
-fn way_number(w: Direction) -> u32
-    ensures { result ≡ way_number w }
-{
-    match w {
-        Direction::ToSensor => 0,
-        Direction::FromSensor => 1,
-    }
-}
-
 #[unsafe(no_mangle)]
 pub extern "C" fn siamrung_frame_from_sensor(bytes: &[u8], count: usize, place: usize) -> u32
     ensures { result ≡ from_sensor (read_frame bytes.now count place).what }
 {
     match what(bytes, count, place) {
-        What::Frame { way, .. } => way_number(way),
+        What::Frame { way, .. } => u32::from(way),
         _ => 0,
     }
 }

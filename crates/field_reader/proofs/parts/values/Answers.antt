@@ -1,6 +1,6 @@
 -- `field_reader::parts::values` meets its contract: after i turns the first i values are those of the first i parts. Assumes nothing.
 use borrow.Author.Rules.{rules}
-use mathlib.Core.Path.{◌≡◌, refl, ◌∙◌}
+use mathlib.Core.Path.{◌≡◌, refl, sym, ◌∙◌}
 use mathlib.Core.List.{[], ◌∷◌, ◌++◌}
 use Prim.Native.Nat.{◌+◌}
 use native.Mathlib.Numerals.{add-one}
@@ -31,7 +31,7 @@ returns-then-w-eq0 c =
     let l = c.loop-i in
     let a = c.args in
     let n : length a.widths ≡ 11 = search rules in
-    values-are a.b.now a.before a.widths l.v l.i (omega (arith, l.invariant.0)) l.invariant.3 l.invariant.4 (λ k h. c.requires.3 l.i k h c.if-w-eq0.true)
+    values-are a.b.now a.before a.widths l.v l.i (omega (arith, l.invariant.0)) l.invariant.3 l.invariant.4 (λ k h. c.requires.3 l.i k h (sym c.from-w.ensures ∙ c.if-w-eq0.true))
 
 pub loop-i-preserved : goal.loop-i-preserved
 loop-i-preserved c =
@@ -43,7 +43,7 @@ loop-i-preserved c =
       simp length-set l.invariant.0,
       omega (arith, c.requires.2 l.i),
       rw (t, sum_join) (omega (arith, l.invariant.2)),
-      rw (t, values_of_snoc, ← l.invariant.2, ← l.invariant.3, ← whole a.b.now l.at w (omega (arith, c.requires.2 l.i)), ← c.read.ensures, add-one) (take-suc-set l.v l.i _ (omega arith)),
+      rw (t, values_of_snoc, ← l.invariant.2, ← l.invariant.3, ← c.from-w.ensures, ← whole a.b.now l.at c.from-w.result (omega (arith, c.from-w.ensures, c.requires.2 l.i)), ← c.read.ensures, add-one) (take-suc-set l.v l.i _ (omega arith)),
       λ k h. get_or-set_other l.v l.i k _ 0 (λ e. omega arith) ∙ l.invariant.4 k (omega arith),
     )
 

@@ -1,8 +1,13 @@
--- `field_writer::puts::fit_all` meets its contract: what the parts from i on say is what all of them say. Assumes nothing.
+-- `field_writer::puts::fit_all` meets its contract: what the parts that are left say is what all of them say. Assumes nothing.
 use mathlib.Core.Path.{◌≡◌}
-use lib.ListN.{drop}
+use Prim.Native.Nat.{ℕ, ◌≤◌}
+use lib.ListN.{get_or}
+use Rattle.std.specs.Iterator.Adapters.{zip_first, zip_second}
+use Rattle.std.specs.Slice.Iter.{iter_rest}
 use Rattle.fields.specs.Writing.{fit_all}
 use Rattle.field_writer.proofs.puts.fit_all.Given as goal
 
-abbrev pub invariant-loop-i : goal.invariant-loop-i
-invariant-loop-i l = fit_all (drop l.i l.widths) (drop l.i l.v) ≡ fit_all l.widths l.v
+abbrev pub invariant-loop-width : goal.invariant-loop-width
+invariant-loop-width l =
+    ((k : ℕ) → get_or (iter_rest (zip_first l.width-iterator)) k 0 ≤ 63)
+    × (fit_all (iter_rest (zip_first l.width-iterator)) (iter_rest (zip_second l.width-iterator)) ≡ fit_all l.widths l.v)

@@ -17,8 +17,8 @@ overflow_mul-result c = omega (arith, most ((goal.at.overflow_mul-result c).Afte
 pub overflow_add-result : goal.overflow_add-result
 overflow_add-result c = let m = most ((goal.at.overflow_add-result c).After-steps) in omega arith
 
-pub overflow_add-result-then-self-ne3 : goal.overflow_add-result-then-self-ne3
-overflow_add-result-then-self-ne3 c =
-    let m = most ((goal.at.overflow_add-result-then-self-ne3 c).After-steps) in
+pub overflow_add-result-then-self-ne-RELAY : goal.overflow_add-result-then-self-ne-RELAY
+overflow_add-result-then-self-ne-RELAY c =
+    let m = most ((goal.at.overflow_add-result-then-self-ne-RELAY c).After-steps) in
     let b = c.args.self.now.near in
     omega arith
