@@ -47,6 +47,7 @@ pub struct Sound {
     pub at: Option<usize>,
 }
 
+// What is found: number x's entry and the first unused one; or that the table is broken.
 pub fn look(entries: &[Entry], x: u16) -> Result<Sound, IndexRefusal>
     ensures found { result ≡ looked_in entries.now x }
     ensures within { IfOk result (λ s. IsWithin (length entries.now) s.free × IsWithin (length entries.now) s.at) }

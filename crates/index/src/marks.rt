@@ -4,7 +4,7 @@ ghost use Rattle.std.specs.Prelude.{◌≡◌, ℕ, false, ◌||◌, eqb, ◌<�
 ghost use Rattle.std.specs.Int.Bits.{bit_or};
 ghost use Rattle.index.specs.Steps.{marked};
 
-// So many words of so many bits.
+// 1024 words of 64 bits: a bit for each number. An array, not a set: the memory is fixed.
 const WORDS: usize = 1024;
 
 const BITS: usize = 64;
@@ -45,7 +45,7 @@ impl Marks {
         ensures before { result ≡ marked self.old n }
         ensures now { (m : ℕ) → marked self.new m ≡ (eqb n m || marked self.old m) }
     {
-        let x = n as usize;
+        let x = usize::from(n);
         let at = x / BITS;
         let k = x % BITS;
         let word = self.words[at];

@@ -1,4 +1,5 @@
 // What an outcome brings to the index: the file number of an ATCRBS, MTD or RDAS report, and number 0 for every other outcome.
+// 0, not None, for no number and for no kind: an entry is as a C program declares it.
 // Relies on lines and reports; specs/Entries.antt says which outcome brings what.
 ghost use Rattle.std.specs.Prelude.{◌≡◌};
 ghost use Rattle.index.specs.Entries.{file_of, number_in, kind_in, entry_of};

@@ -56,6 +56,8 @@ fn found_number(answer: Result<Option<u16>, IndexRefusal>) -> u32
 
 // ---- entering
 
+// The arguments are those that C passes: a struct would be made in each call, and used there once.
+
 // What the outcome at a place of the line brings. An entry has no link number.
 fn brought(bytes: &[u8], place: usize, form: u32, link: u32, scan: u32) -> Entry
     ensures { result ≡ entry_at (chosen form) link bytes.now place scan }

@@ -23,10 +23,11 @@ use Rattle.reports.proofs.Tests.{by_cond}
 use Rattle.lines.specs.declared.Outcome.{Outcome}
 use Rattle.lines.specs.Line.{most, gap, stretch, run_in, end_of, placed, outcome_at, run_at, read_by, read_at}
 use Rattle.lines.specs.Bytes.{most_bytes, words_in, read_bytes}
+use Rattle.lines.specs.Taking.{wide_refused, bytes_refused}
 use Rattle.lines.proofs.Runs.{gap_all}
 use Rattle.lines.proofs.Walked.{stretch_front}
 use Rattle.line_reader.specs.declared.run.Places.{Places}
-use Rattle.line_reader.specs.Places.{not_idle, faulty, is_idle, Ended, RunPlaces, run_words, answer_at, answered, found_in, wide_refused, bytes_refused}
+use Rattle.line_reader.specs.Places.{not_idle, faulty, is_idle, Ended, RunPlaces, run_words, answer_at, answered, found_in}
 use Rattle.line_reader.proofs.Searches.{to_end, next_through}
 use Rattle.reports.specs.declared.Report.{Report}
 use Rattle.reports.specs.declared.RunRefusal.{RunRefusal}
@@ -192,11 +193,11 @@ word_past line run k h =
 
 -- ---- what is found in each form of a line is what the definition of that form has
 
-pub wide_found : (form : AltitudeForm) (line : List ℕ) (place : ℕ) → found_in form (wide_refused line) line place ≡ read_at form line place
+pub wide_found : (form : AltitudeForm) (line : List ℕ) (place : ℕ) → found_in form (wide_refused (length line)) line place ≡ read_at form line place
 unfolding read_by
 wide_found form line place = by_test (ltb most (length line)) (λ e. rw e refl) (λ e. rw e refl)
 
-pub bytes_found : (form : AltitudeForm) (bytes : List ℕ) (place : ℕ) → found_in form (bytes_refused bytes) (words_in bytes) place ≡ read_bytes form bytes place
+pub bytes_found : (form : AltitudeForm) (bytes : List ℕ) (place : ℕ) → found_in form (bytes_refused (length bytes)) (words_in bytes) place ≡ read_bytes form bytes place
 unfolding read_bytes
 bytes_found form bytes place =
     by_test (ltb most_bytes (length bytes)) (λ e. rw e refl) (λ e. rw e (by_test (eqb (length bytes % 2) 1) (λ f. rw f refl) (λ f. rw f refl)))

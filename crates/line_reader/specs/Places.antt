@@ -1,15 +1,13 @@
--- What the readers remember of a run, and the answer that comes of it: what line.rt and answers.rt compute, and which
--- lines wide.rt and bytes.rt do not take.
+-- What the readers remember of a run, and the answer that comes of it: what line.rt and answers.rt compute.
 -- Definitions only; no promise of a public function names them.
-use Rattle.std.specs.Prelude.{ℕ, ◌+◌, ◌-◌, ◌%◌, ◌≤◌, ◌<◌, min, ◌≡◌, Bool, true, not, cond, List, eqb, ltb, length, take, drop, Option, Some, None}
+use Rattle.std.specs.Prelude.{ℕ, ◌+◌, ◌-◌, ◌≤◌, ◌<◌, min, ◌≡◌, Bool, true, not, cond, List, eqb, ltb, length, take, drop, Option, Some, None}
 use Rattle.refusals.specs.declared.LineRefusal.{LineRefusal}
-use Rattle.refusals.specs.declared.LineRefusal.TheVariants.{LineTooLong, OddByteCount, PlaceBeyondLine}
+use Rattle.refusals.specs.declared.LineRefusal.TheVariants.{PlaceBeyondLine}
 use Rattle.words.specs.Word.{idle, wider_than_a_word, even, first}
 use Rattle.reports.specs.Altitude.{AltitudeForm}
 use Rattle.reports.specs.Runs.{judged, read_run}
 use Rattle.lines.specs.declared.Outcome.{Outcome}
-use Rattle.lines.specs.Line.{most, end_of, placed, not_taken_at, run_at}
-use Rattle.lines.specs.Bytes.{most_bytes}
+use Rattle.lines.specs.Line.{end_of, placed, not_taken_at, run_at}
 use Rattle.line_reader.specs.declared.run.Places.{Places}
 
 -- ---- a search
@@ -70,11 +68,3 @@ answered form run ws =
 abbrev pub found_in : AltitudeForm → Option LineRefusal → List ℕ → ℕ → Outcome
 found_in form (Some why) line place = not_taken_at why place
 found_in form None line place = cond (ltb (length line) place) (not_taken_at PlaceBeyondLine place) (run_at (read_run form) line place)
-
--- lent as words: 2
-abbrev pub wide_refused : List ℕ → Option LineRefusal
-wide_refused line = cond (ltb most (length line)) (Some LineTooLong) None
-
--- lent as bytes: 2, 14
-abbrev pub bytes_refused : List ℕ → Option LineRefusal
-bytes_refused bytes = cond (ltb most_bytes (length bytes)) (Some LineTooLong) (cond (eqb (length bytes % 2) 1) (Some OddByteCount) None)

@@ -21,7 +21,7 @@ pub fn not_taken(why: LineRefusal, place: usize) -> Outcome
     Outcome::new(What::Refused(why), place, place, place)
 }
 
-// The number of an outcome that came on no link. It is the first link's number too.
+// The number of an outcome that came on no link. It is the first link's number too. It stays a number: C and document 02, Ticket 7 have 0 here.
 const NO_LINK: u32 = 0;
 
 // A number that no link has.

@@ -1,13 +1,13 @@
 // The reader of a line that is lent as bytes: two bytes a word, high byte first, places counted in words.
 // Relies on line for what is found.
-ghost use Rattle.std.specs.Prelude.{◌≡◌};
+ghost use Rattle.std.specs.Prelude.{◌≡◌, length};
 ghost use Rattle.reports.specs.Altitude.{form_of};
 ghost use Rattle.lines.specs.Bytes.{words_in};
 ghost use Rattle.lines.specs.Links.{read_bytes_on};
-ghost use Rattle.line_reader.specs.Places.{bytes_refused};
+ghost use Rattle.lines.specs.Taking.{bytes_refused};
 
 use crate::line::{self, Line};
-use lines::{MOST_BYTES, Received};
+use lines::Received;
 use refusals::LineRefusal;
 use reports::altitude::Form;
 
@@ -20,16 +20,10 @@ struct Bytes<'a> {
 impl<'a> Line for Bytes<'a> {
     ghost held = { λ line. words_in line.bytes.now };
 
-    ghost refused = { λ line. bytes_refused line.bytes.now };
+    ghost refused = { λ line. bytes_refused (length line.bytes.now) };
 
     fn refusal(&self) -> Option<LineRefusal> {
-        if MOST_BYTES < self.bytes.len() {
-            return Some(LineRefusal::LineTooLong);
-        }
-        if self.bytes.len() % 2 == 1 {
-            return Some(LineRefusal::OddByteCount);
-        }
-        None
+        lines::refusal_of_bytes(self.bytes.len())
     }
 
     #[tactic(auto, using(lines::proofs::ByteWords::words_length))]

@@ -37,6 +37,7 @@ pub trait Line {
 
 // Along the words from a place up to another: the place of the first at which the search stops, or that other place. It is not inlined, so that the
 // loop has all registers: inlined, a long run takes twice the time (bench/).
+// No Option: `report_reader::judge` is asked by these places.
 #[inline(never)]
 fn seek<L: Line, F: Fn(u16) -> bool>(line: &L, from: usize, to: usize, stops: F) -> usize
     requires range { (from ≤ to) × (to ≤ length (L.held line.now)) }

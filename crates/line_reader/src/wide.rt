@@ -1,12 +1,12 @@
 // The reader of a line that is lent as 16-bit numbers, a word each.
 // Relies on line for what is found.
-ghost use Rattle.std.specs.Prelude.{◌≡◌};
+ghost use Rattle.std.specs.Prelude.{◌≡◌, length};
 ghost use Rattle.reports.specs.Altitude.{form_of};
 ghost use Rattle.lines.specs.Links.{read_on};
-ghost use Rattle.line_reader.specs.Places.{wide_refused};
+ghost use Rattle.lines.specs.Taking.{wide_refused};
 
 use crate::line::{self, Line};
-use lines::{MOST, Received};
+use lines::Received;
 use refusals::LineRefusal;
 use reports::altitude::Form;
 
@@ -19,13 +19,10 @@ struct Wide<'a> {
 impl<'a> Line for Wide<'a> {
     ghost held = { λ line. line.words.now };
 
-    ghost refused = { λ line. wide_refused line.words.now };
+    ghost refused = { λ line. wide_refused (length line.words.now) };
 
     fn refusal(&self) -> Option<LineRefusal> {
-        if MOST < self.words.len() {
-            return Some(LineRefusal::LineTooLong);
-        }
-        None
+        lines::refusal_of_words(self.words.len())
     }
 
     fn count(&self) -> usize {

@@ -22,12 +22,13 @@ use Rattle.lines.specs.declared.NotWritten.{NotWritten}
 use Rattle.lines.specs.Line.{most}
 use Rattle.lines.specs.Bytes as lent
 use Rattle.lines.specs.Bytes.{most_bytes}
+use Rattle.lines.specs.Taking.{wide_refused, bytes_refused}
 use Rattle.lines.specs.Claims.{put}
 use Rattle.lines.specs.Writing.{not_written, place_rows, wrote_after, write_at, left_as, Writes}
 use Rattle.lines.specs.ByteWriting.{write_bytes, bytes_left, WritesBytes}
 use Rattle.lines.proofs.ByteWords as bytes
 use Rattle.lines.proofs.Puts.{put_put}
-use Rattle.line_writer.specs.Deciding.{room, room_for, decided, lent_answer, wide_refused, bytes_refused, handed, left_by, put_bytes}
+use Rattle.line_writer.specs.Deciding.{room, room_for, decided, lent_answer, handed, left_by, put_bytes}
 use Rattle.line_writer.proofs.Leaves.{bytes_put}
 
 -- ---- a report's words

@@ -1,14 +1,13 @@
 -- What the writers' private functions compute: the answer from numbers alone and from what a report was made into, and what is put on the
 -- line. Definitions only; no promise of a public function names them.
-use Rattle.std.specs.Prelude.{ℕ, ◌+◌, ◌*◌, ◌-◌, ◌%◌, cond, List, [], ◌∷◌, eqb, ltb, length, Err, Ok, Result, Option, Some, None}
+use Rattle.std.specs.Prelude.{ℕ, ◌+◌, ◌*◌, ◌-◌, List, [], ◌∷◌, ltb, length, Err, Ok, Result, Option, Some, None}
 use Rattle.rows.specs.Rows.{row, first_of}
-use Rattle.refusals.specs.declared.LineRefusal.TheVariants.{LineTooLong, OddByteCount, PlaceBeyondLine, NoRoom}
-use Rattle.lines.specs.Line.{most}
-use Rattle.lines.specs.Bytes.{most_bytes, bytes_of}
+use Rattle.refusals.specs.declared.LineRefusal.{LineRefusal}
+use Rattle.refusals.specs.declared.LineRefusal.TheVariants.{PlaceBeyondLine, NoRoom}
+use Rattle.lines.specs.Bytes.{bytes_of}
 use Rattle.lines.specs.Claims.{put}
 use Rattle.words.specs.Word.{idle}
 use Rattle.reports.specs.Layouts.{words_in}
-use Rattle.refusals.specs.declared.LineRefusal.{LineRefusal}
 use Rattle.reports.specs.declared.Words.{Words}
 use Rattle.lines.specs.declared.NotWritten.{NotWritten}
 use Rattle.lines.specs.Writing.{not_written}
@@ -32,14 +31,6 @@ decided size place made = first_of (row (ltb size place) (not_written PlaceBeyon
 abbrev pub lent_answer : Option LineRefusal → ℕ → ℕ → Result Words LineRefusal → Result ℕ NotWritten
 lent_answer (Some why) size place made = not_written why place
 lent_answer None size place made = decided size place made
-
--- of so many words: 2
-abbrev pub wide_refused : ℕ → Option LineRefusal
-wide_refused size = cond (ltb most size) (Some LineTooLong) None
-
--- of so many bytes: 2, 14
-abbrev pub bytes_refused : ℕ → Option LineRefusal
-bytes_refused size = cond (ltb most_bytes size) (Some LineTooLong) (cond (eqb (size % 2) 1) (Some OddByteCount) None)
 
 -- ---- what is put
 

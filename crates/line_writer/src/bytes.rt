@@ -3,10 +3,11 @@
 ghost use Rattle.std.specs.Prelude.{◌≡◌, ◌/◌};
 ghost use Rattle.reports.specs.Altitude.{form_of};
 ghost use Rattle.lines.specs.ByteWriting.{write_bytes, WritesBytes};
-ghost use Rattle.line_writer.specs.Deciding.{bytes_refused, put_bytes};
+ghost use Rattle.lines.specs.Taking.{bytes_refused};
+ghost use Rattle.line_writer.specs.Deciding.{put_bytes};
 
 use crate::lent::{self, Lent};
-use lines::{MOST_BYTES, NotWritten};
+use lines::NotWritten;
 use refusals::LineRefusal;
 use reports::Report;
 use reports::altitude::Form;
@@ -24,13 +25,7 @@ impl Lent for Bytes {
     ghost put_into = { put_bytes };
 
     fn refusal(size: usize) -> Option<LineRefusal> {
-        if MOST_BYTES < size {
-            return Some(LineRefusal::LineTooLong);
-        }
-        if size % 2 == 1 {
-            return Some(LineRefusal::OddByteCount);
-        }
-        None
+        lines::refusal_of_bytes(size)
     }
 
     fn count(size: usize) -> usize {
@@ -38,6 +33,7 @@ impl Lent for Bytes {
     }
 
     fn put(line: &mut [u8], place: usize, words: &[u16]) {
+        // no chunks_exact_mut: the proof does not close, since once its borrows are over a slice's length is known and not its elements
         let part = &mut line[place * 2..];
         for (i, word) in words.iter().enumerate() {
             let [high, low] = word.to_be_bytes();

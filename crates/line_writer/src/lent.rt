@@ -52,7 +52,8 @@ pub fn answer<L: Lent>(
     }
 }
 
-// A report's words, its altitude in the form, and one idle word, from a place on.
+// A report's words, its altitude in the form, and one idle word, from a place on. Line, place, form and report are four arguments, as the caller has
+// them: a struct would be made in each call, and used there once.
 pub fn write<L: Lent>(
     line: &mut [L::Unit],
     place: usize,

@@ -4,10 +4,10 @@ ghost use Rattle.std.specs.Prelude.{◌≡◌};
 ghost use Rattle.reports.specs.Altitude.{form_of};
 ghost use Rattle.lines.specs.Claims.{put};
 ghost use Rattle.lines.specs.Writing.{Writes};
-ghost use Rattle.line_writer.specs.Deciding.{wide_refused};
+ghost use Rattle.lines.specs.Taking.{wide_refused};
 
 use crate::lent::{self, Lent};
-use lines::{MOST, NotWritten};
+use lines::NotWritten;
 use refusals::LineRefusal;
 use reports::Report;
 use reports::altitude::Form;
@@ -25,10 +25,7 @@ impl Lent for Wide {
     ghost put_into = { put };
 
     fn refusal(size: usize) -> Option<LineRefusal> {
-        if MOST < size {
-            return Some(LineRefusal::LineTooLong);
-        }
-        None
+        lines::refusal_of_words(size)
     }
 
     fn count(size: usize) -> usize {

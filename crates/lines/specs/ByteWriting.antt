@@ -7,9 +7,8 @@ use Rattle.reports.specs.declared.Report.{Report}
 use Rattle.reports.specs.Altitude.{AltitudeForm}
 use Rattle.reports.specs.Layouts.{words_of}
 use Rattle.lines.specs.Bytes.{most_bytes, words_in, bytes_of}
-use Rattle.lines.specs.Writing.{place_rows, wrote_after}
 use Rattle.lines.specs.declared.NotWritten.{NotWritten}
-use Rattle.lines.specs.Writing.{not_written}
+use Rattle.lines.specs.Writing.{not_written, place_rows, wrote_after}
 
 -- the writer's rows: 2, 14, then 1, 11 and 10
 abbrev pub byte_writer_rows : AltitudeForm → List ℕ → ℕ → Report → List (Row (Result ℕ NotWritten))

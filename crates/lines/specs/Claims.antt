@@ -11,7 +11,8 @@ use Rattle.reports.specs.Kinds.{kind_of}
 use Rattle.reports.specs.Altitude.{AltitudeForm, Sound, sign_magnitude}
 use Rattle.reports.specs.Layouts.{words_of, Fits}
 use Rattle.reports.specs.Records.{report_of}
-use Rattle.reports.specs.Runs.{read_run}
+use Rattle.reports.specs.declared.RunRefusal.{RunRefusal}
+use Rattle.reports.specs.Runs.{read_run, refused_at}
 use Rattle.lines.specs.declared.What.{What}
 use Rattle.lines.specs.declared.What.TheVariants as W
 use Rattle.lines.specs.declared.Outcome.{Outcome}
@@ -23,10 +24,7 @@ use Rattle.lines.specs.ByteWriting.{byte_writer_rows, write_bytes, bytes_left}
 use Rattle.lines.specs.Stretches.{Run, runs, runs_at, gathered, idle_words, reported_words, refused_words}
 use Rattle.lines.specs.Spaced.{Spaced, line_of, reports_of, AllFit, Apart, back}
 use Rattle.lines.specs.Rows.{rows_on, byte_rows_on}
-use Rattle.lines.specs.Writing.{writer_rows, write_at, left_as, puts, taken}
-use Rattle.reports.specs.declared.RunRefusal.{RunRefusal}
-use Rattle.reports.specs.Runs.{refused_at}
-use Rattle.lines.specs.Writing.{not_written}
+use Rattle.lines.specs.Writing.{not_written, writer_rows, write_at, left_as, puts, taken}
 
 -- what looks at the words of a run
 abbrev pub Answer : Type 0

@@ -1,5 +1,6 @@
 pub mod Line
 pub mod Bytes
+pub mod Taking
 pub mod Links
 pub mod Writing
 pub mod ByteWriting

@@ -42,7 +42,7 @@ idle_words [] = 0
 idle_words (w ∷ ws) = cond (eqb w idle) (suc (idle_words ws)) (idle_words ws)
 
 -- the words of the runs whose answer passes a test
-unfoldable pub words_where : ((Result Report RunRefusal) → Bool) → (List ℕ → Result Report RunRefusal) → List Run → ℕ
+unfoldable pub words_where : (Result Report RunRefusal → Bool) → (List ℕ → Result Report RunRefusal) → List Run → ℕ
 words_where test answer [] = 0
 words_where test answer (r ∷ rs) = cond (test (answer r.words)) (length r.words) 0 + words_where test answer rs
 

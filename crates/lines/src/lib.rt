@@ -7,6 +7,7 @@
 ghost use Rattle.std.specs.Prelude.{◌≡◌};
 ghost use Rattle.lines.specs.Line.{outcome_of};
 ghost use Rattle.lines.specs.Links.{received_on};
+ghost use Rattle.lines.specs.Taking.{wide_refused, bytes_refused};
 
 use refusals::LineRefusal;
 use reports::Report;
@@ -16,6 +17,29 @@ pub const MOST: usize = 32768;
 
 // The most bytes of a line that is lent as bytes.
 pub const MOST_BYTES: usize = 65536;
+
+// Why a line of so many words is not taken, where it is not.
+pub fn refusal_of_words(n: usize) -> Option<LineRefusal>
+    ensures { result ≡ wide_refused n }
+{
+    if MOST < n {
+        return Some(LineRefusal::LineTooLong);
+    }
+    None
+}
+
+// Why a line of so many bytes is not taken, where it is not.
+pub fn refusal_of_bytes(n: usize) -> Option<LineRefusal>
+    ensures { result ≡ bytes_refused n }
+{
+    if MOST_BYTES < n {
+        return Some(LineRefusal::LineTooLong);
+    }
+    if n % 2 == 1 {
+        return Some(LineRefusal::OddByteCount);
+    }
+    None
+}
 
 // What reading at a place found. It stays an enum: the document names these three, and `Option<Result<Report, LineRefusal>>` is no plainer.
 #[derive(Clone, Copy)]

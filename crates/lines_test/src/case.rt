@@ -43,7 +43,7 @@ pub struct Case {
     pub task: Task,
     // how many words the line has
     pub n: u16,
-    // how many words are repeated along it
+    // how many words are repeated along it; beside an array, not a Vec: the memory is fixed
     pub k: usize,
     pub place: usize,
     pub form: Form,
@@ -77,8 +77,8 @@ fn link_of(n: u16) -> u32 {
 // The words that are repeated, behind the first seven numbers.
 fn repeated(bytes: &[u8; SIZE]) -> [u16; 64] {
     let mut words = [0u16; 64];
-    for i in 0..64 {
-        words[i] = number(bytes, i + 7);
+    for (i, word) in words.iter_mut().enumerate() {
+        *word = number(bytes, i + 7);
     }
     words
 }

@@ -1,5 +1,6 @@
 // The lines of the cases, as words and as bytes.
 
+// Written again, so that the test does not rest on `words::IDLE`.
 const IDLE: u16 = 1023;
 
 // The word at i of a line along which the first k words are repeated, idle where there are none.

@@ -63,7 +63,7 @@ fn told(what: What) -> u8 {
     }
 }
 
-// What is compared of what a reader answers.
+// What is compared of what a reader answers. Not all of it is, so no PartialEq: a report's fields are agree.c's.
 fn compared(r: Received) -> (u32, u8, usize, usize, usize) {
     let o = r.outcome;
     (r.link, told(o.what), o.first, o.after, o.named)

@@ -96,7 +96,7 @@ fn run(rt: HostRuntime, buffer: &mut [u8], text: &mut [u8]) -> Result<(), Troubl
 
 // An error is returned where standard error itself cannot be written: every other failure is named there.
 fn main(rt: HostRuntime) -> io::Result<()> {
-    // one byte more than the longest recording, so that a longer one is seen
+    // arrays, not a Vec: the memory is fixed; one byte more than the longest recording, so that a longer one is seen
     let mut buffer = [0u8; 65537];
     let mut text = [0u8; 8192];
     if let Err(trouble) = run(rt, &mut buffer, &mut text) {

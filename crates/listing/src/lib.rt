@@ -146,6 +146,7 @@ fn step(recording: &[u8], walk: Walk, text: &mut Text) -> Result<Option<Walk>, W
     if walk.done {
         return Ok(None);
     }
+    // not lines::refusal_of_bytes: each of the two has a text of its own here, and a match would need an arm for refusals that it never gives
     if MOST_BYTES < recording.len() {
         text.text(b"LONG\n");
         return Ok(Some(walk.closed()));

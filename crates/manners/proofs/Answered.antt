@@ -4,18 +4,19 @@ use mathlib.Core.Path.{◌≡◌, refl, ap, sym, ◌∙◌}
 use mathlib.Core.Bool.{Bool, false, cond}
 use mathlib.Core.List.{List, ◌++◌}
 use native.Mathlib.Omega.{arith}
-use lib.Dec.{ltb}
+use lib.Dec.{eqb, ltb}
 use lib.ListN.{length, take, drop, length-append, length-drop}
 use lib.Seq.{take-append_seam, drop-append_seam}
-use borrow.Author.Tests.{lt-ltb, le-ltb, eq-eqb, ne_eqb, ltb-true, ltb-false, eqb-false}
-use Rattle.std.specs.Prelude.{Result, Ok, Err}
+use borrow.Author.Tests.{lt-ltb, le-ltb, ne_eqb, ltb-true, ltb-false, eqb-false}
+use Rattle.std.specs.Prelude.{Option, Some, None, Result, Ok, Err}
 use Rattle.rows.proofs.Claims as law
 use Rattle.rows.proofs.Claims.{differ}
-use Rattle.refusals.specs.declared.LineRefusal.TheVariants.{LineTooLong, OddByteCount}
+use Rattle.refusals.specs.declared.LineRefusal.{LineRefusal}
 use Rattle.words.proofs.Tests.{picked, passed, by_test}
 use Rattle.reports.specs.Altitude.{AltitudeForm}
 use Rattle.lines.specs.Line.{most}
 use Rattle.lines.specs.Bytes.{most_bytes, words_in, bytes_of}
+use Rattle.lines.specs.Taking.{wide_refused, bytes_refused}
 use Rattle.lines.proofs.ByteWords.{words_length}
 use Rattle.manners.specs.declared.MannersRefusal.TheVariants.{ListTooSmall}
 use Rattle.manners.specs.declared.NotListed.{NotListed}
@@ -41,9 +42,24 @@ module _ (form : AltitudeForm) (line : List ℕ) (room : ℕ) (short : length li
       let n = wide_laws.each (breaches form line) in
       passed _ _ (le-ltb most (length line) short) ∙ passed _ _ (le-ltb room (length (numbers_of (breaches form line))) (omega arith))
 
-pub long : (form : AltitudeForm) (line : List ℕ) (room : ℕ) → most < length line → listed form line room ≡ Err (N.Line LineTooLong)
+-- ---- a line that is not taken
+
+clash : {X : Type 0} (q : LineRefusal) → ◌≡◌ {A = Option LineRefusal} (Some q) None → X
+clash q e = let z : ◌≡◌ {A = ℕ} 0 1 = cc in absurd (omega arith)
+
+abbrev line_answer : Option LineRefusal → Result ℕ NotListed
+line_answer (Some q) = Err (N.Line q)
+line_answer None = Ok 0
+
+pub words_taken : (n : ℕ) → wide_refused n ≡ None → n ≤ most
+words_taken n e = by_test (ltb most n) (λ t. clash _ (sym (picked _ _ t) ∙ e)) (λ t. ltb-false most n t)
+
+pub words_not_taken : (form : AltitudeForm) (line : List ℕ) (room : ℕ) {q : LineRefusal} → wide_refused (length line) ≡ Some q → listed form line room ≡ Err (N.Line q)
 unfolding listed
-long form line room h = picked _ _ (lt-ltb most (length line) h)
+words_not_taken form line room e =
+    by_test (ltb most (length line))
+    (λ t. picked _ _ t ∙ ap line_answer (sym (picked _ _ t) ∙ e))
+    (λ t. clash _ (sym e ∙ passed _ _ t))
 
 -- bytes are answered as the words that they hold, where neither 2 nor 14 is given
 pub bytes_as_words : BytesAsWords
@@ -62,13 +78,20 @@ bytes_as_words form bytes room m even =
         (λ t. let l = ltb-true room v t in t ∙ sym (lt-ltb (room / 2) w (omega arith)))
         (λ t. let l = ltb-false room v t in t ∙ sym (le-ltb (room / 2) w (omega arith)))
 
-pub long_bytes : (form : AltitudeForm) (bytes : List ℕ) (room : ℕ) → most_bytes < length bytes → listed_bytes form bytes room ≡ Err (N.Line LineTooLong)
-unfolding listed_bytes
-long_bytes form bytes room h = picked _ _ (lt-ltb most_bytes (length bytes) h)
+pub bytes_taken : (n : ℕ) → bytes_refused n ≡ None → (n ≤ most_bytes) × (n % 2 ≡ 0)
+bytes_taken n e =
+    by_test (ltb most_bytes n) (λ t. clash _ (sym (picked _ _ t) ∙ e))
+    (λ t. by_test (eqb (n % 2) 1) (λ u. clash _ (sym (passed _ _ t ∙ picked _ _ u) ∙ e))
+    (λ u. (ltb-false most_bytes n t, let odd = eqb-false (n % 2) 1 u in omega arith)))
 
-pub odd_bytes : (form : AltitudeForm) (bytes : List ℕ) (room : ℕ) → length bytes ≤ most_bytes → length bytes % 2 ≡ 1 → listed_bytes form bytes room ≡ Err (N.Line OddByteCount)
+pub bytes_not_taken : (form : AltitudeForm) (bytes : List ℕ) (room : ℕ) {q : LineRefusal} → bytes_refused (length bytes) ≡ Some q → listed_bytes form bytes room ≡ Err (N.Line q)
 unfolding listed_bytes
-odd_bytes form bytes room m h = passed _ _ (le-ltb most_bytes (length bytes) m) ∙ picked _ _ (eq-eqb (length bytes % 2) 1 h)
+bytes_not_taken form bytes room e =
+    by_test (ltb most_bytes (length bytes))
+    (λ t. picked _ _ t ∙ ap line_answer (sym (picked _ _ t) ∙ e))
+    (λ t. by_test (eqb (length bytes % 2) 1)
+    (λ u. passed _ _ t ∙ picked _ _ u ∙ ap line_answer (sym (passed _ _ t ∙ picked _ _ u) ∙ e))
+    (λ u. clash _ (sym e ∙ passed _ _ t ∙ passed _ _ u)))
 
 module _ (form : AltitudeForm) (bytes : List ℕ) (room : ℕ) (short : length bytes ≤ most_bytes) (even : length bytes % 2 ≡ 0) where
   abbrev found : ℕ

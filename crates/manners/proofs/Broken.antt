@@ -48,7 +48,6 @@ use Rattle.manners.specs.Breaches.{breach, rules, passing, broken_by, breaches_o
 use Rattle.manners.specs.Steps.{atcrbs_found}
 use Rattle.manners.specs.Claims.{SameOfRecord, AtMostOne, AtMostOneOfRecord, FoundExactly}
 use Rattle.reports.specs.declared.RunRefusal.{RunRefusal}
-use Rattle.reports.specs.Runs.{refused_at}
 
 only : (b : Bool) → b ≡ cond b true false
 only true = refl

@@ -54,7 +54,6 @@ use Rattle.manners.specs.Claims.{Among, ExactlyTheBreaches, RisingFrom, ByPlace,
 use Rattle.manners.proofs.Broken.{splits, is_false, substitution_told, could, told, rules_differ, same_of_record, brought}
 use Rattle.manners.proofs.Answered as answered
 use Rattle.reports.specs.declared.RunRefusal.{RunRefusal}
-use Rattle.reports.specs.Runs.{refused_at}
 
 -- ---- a run has one breach at most
 

@@ -1,4 +1,5 @@
 -- Each kind of line and list keeps the laws of Lent.antt: 16-bit numbers, a word each, and bytes, two a word. Assumes nothing.
+-- Proofs, not definitions: the impls name them in code, so they stand here.
 use Prim.Native.Nat.{ℕ, ◌*◌, ◌/◌, ◌%◌}
 use mathlib.Core.Path.{◌≡◌, refl, ap, ◌∙◌}
 use mathlib.Core.List.{List, [], ◌∷◌, ◌++◌}

@@ -7,14 +7,13 @@ ghost use Rattle.manners.specs.Breaches.{numbers_of};
 ghost use Rattle.manners.specs.Listing.{ListsBytes};
 ghost use Rattle.manners.specs.Laws.{byte_laws};
 
-use crate::lent::{Lent, Line};
+use crate::lent::{Element, Taken};
 use crate::{LINK, NotListed, Rule};
 use line_reader::bytes;
-use lines::{MOST_BYTES, Outcome};
-use refusals::LineRefusal;
+use lines::Outcome;
 use reports::altitude::Form;
 
-impl Lent for u8 {
+impl Element for u8 {
     ghost words = { words_in };
 
     ghost held_in = { 2 };
@@ -35,11 +34,12 @@ impl Lent for u8 {
 
     fn put(list: &mut [u8], k: usize, place: usize, rule: Rule) {
         let at = k * 4;
-        let number = u16::from(rule);
-        list[at] = (place / 256) as u8;
-        list[at + 1] = (place % 256) as u8;
-        list[at + 2] = (number / 256) as u8;
-        list[at + 3] = (number % 256) as u8;
+        let [a, b] = (place as u16).to_be_bytes();
+        let [c, d] = u16::from(rule).to_be_bytes();
+        list[at] = a;
+        list[at + 1] = b;
+        list[at + 2] = c;
+        list[at + 3] = d;
     }
 
     ghost laws = { byte_laws };
@@ -49,11 +49,8 @@ impl Lent for u8 {
 pub fn list(line: &[u8], form: Form, list: &mut [u8]) -> Result<usize, NotListed>
     ensures { ListsBytes (form_of form) line.now list.old result list.new }
 {
-    if MOST_BYTES < line.len() {
-        return Err(NotListed::Line(LineRefusal::LineTooLong));
+    if let Some(why) = lines::refusal_of_bytes(line.len()) {
+        return Err(NotListed::Line(why));
     }
-    if line.len() % 2 == 1 {
-        return Err(NotListed::Line(LineRefusal::OddByteCount));
-    }
-    Line { held: line, form }.list(list)
+    Taken { held: line, form }.list(list)
 }

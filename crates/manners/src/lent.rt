@@ -10,7 +10,8 @@ use crate::Rule;
 use lines::Outcome;
 use reports::altitude::Form;
 
-pub trait Lent: Copy {
+// One of what a line and its list are made of.
+pub trait Element: Copy {
     // The words of a line, each held in so many.
     ghost words: { List Self → List ℕ };
 
@@ -43,7 +44,7 @@ pub trait Lent: Copy {
 
 // A line that is not too long and has no part of a word, and the form in which its altitudes are read.
 #[derive(Drop)]
-pub struct Line<'a, L: Lent> {
+pub struct Taken<'a, L: Element> {
     pub held: &'a [L],
     pub form: Form,
     ghost short: { length (L.words held.now) ≤ most },

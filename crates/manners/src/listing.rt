@@ -6,10 +6,10 @@ ghost use Rattle.reports.specs.Altitude.{form_of};
 ghost use Rattle.manners.specs.Breaches.{breaches};
 ghost use Rattle.manners.specs.Steps.{ListsAll};
 
-use crate::lent::{Lent, Line};
+use crate::lent::{Element, Taken};
 use crate::{MannersRefusal, NotListed, most_in, rules};
 
-impl<'a, L: Lent> Line<'a, L> {
+impl<'a, L: Element> Taken<'a, L> {
     // How many breaches the line has.
     fn count(&self) -> usize
         ensures { result ≡ length (breaches (form_of self.now.form) (L.words self.now.held.now)) }

@@ -6,14 +6,13 @@ ghost use Rattle.manners.specs.Breaches.{numbers_of};
 ghost use Rattle.manners.specs.Listing.{Lists};
 ghost use Rattle.manners.specs.Laws.{wide_laws};
 
-use crate::lent::{Lent, Line};
+use crate::lent::{Element, Taken};
 use crate::{LINK, NotListed, Rule};
 use line_reader::wide;
-use lines::{MOST, Outcome};
-use refusals::LineRefusal;
+use lines::Outcome;
 use reports::altitude::Form;
 
-impl Lent for u16 {
+impl Element for u16 {
     ghost words = { λ line. line };
 
     ghost held_in = { 1 };
@@ -45,8 +44,8 @@ impl Lent for u16 {
 pub fn list(line: &[u16], form: Form, list: &mut [u16]) -> Result<usize, NotListed>
     ensures { Lists (form_of form) line.now list.old result list.new }
 {
-    if MOST < line.len() {
-        return Err(NotListed::Line(LineRefusal::LineTooLong));
+    if let Some(why) = lines::refusal_of_words(line.len()) {
+        return Err(NotListed::Line(why));
     }
-    Line { held: line, form }.list(list)
+    Taken { held: line, form }.list(list)
 }

@@ -4,7 +4,7 @@ use Rattle.reports.specs.Altitude.{form_of}
 use Rattle.reports.specs.Records.{report_of}
 use Rattle.lines.specs.declared.Received.{Received}
 use Rattle.lines.proofs.ByteWords.{words_length, bytes_as_words}
-use Rattle.manners.proofs.bytes.U8Lent.outcome_at.Goals as goal
+use Rattle.manners.proofs.bytes.U8Element.outcome_at.Goals as goal
 
 pub returns : goal.returns
 returns c =

@@ -1,13 +1,13 @@
--- `manners::lent::Line::count` meets its contract: each outcome brings its breaches. Assumes nothing.
+-- `manners::lent::Taken::count` meets its contract: each outcome brings its breaches. Assumes nothing.
 use Rattle.std.proofs.Common.{ℕ, Bool, cond, rules, ap, sym, ◌∙◌, arith}
 use Rattle.manners.specs.Steps.{count_of}
 use Rattle.manners.proofs.Gathered.{Step, step, counted_more, counted_all, one_for_some}
-use Rattle.manners.proofs.lent.Line.count.Goals as goal
-use Rattle.manners.proofs.lent.Line.count.Goals.{After-outcome_at-o}
+use Rattle.manners.proofs.lent.Taken.count.Goals as goal
+use Rattle.manners.proofs.lent.Taken.count.Goals.{After-outcome_at-o}
 
-stepped : (g : _) (c : After-outcome_at-o g) → Step c.args.self.now.form (g.L.Lent.words c.args.self.now.held.now) c.loop-place.place c.outcome_at-o.result
+stepped : (g : _) (c : After-outcome_at-o g) → Step c.args.self.now.form (g.L.Element.words c.args.self.now.held.now) c.loop-place.place c.outcome_at-o.result
 stepped g c =
-    step c.args.self.now.form (g.L.Lent.words c.args.self.now.held.now) c.loop-place.place c.outcome_at-o.result
+    step c.args.self.now.form (g.L.Element.words c.args.self.now.held.now) c.loop-place.place c.outcome_at-o.result
     c.args.self.now.short
     c.loop-place.invariant.inside
     c.outcome_at-o.ensures

@@ -2,7 +2,7 @@
 use Rattle.std.proofs.Common.{ap, ◌∙◌, ◌+◌, ◌*◌, ℕ, set, arith}
 use Rattle.manners.specs.Breaches.{numbers_of}
 use Rattle.manners.proofs.Stored.{two_stores}
-use Rattle.manners.proofs.wide.U16Lent.put.Goals as goal
+use Rattle.manners.proofs.wide.U16Element.put.Goals as goal
 
 pub returns : goal.returns
 unfolding numbers_of
