@@ -10,6 +10,7 @@ ghost use Rattle.frames.specs.Steps.{BodyIs, RunIs, RunPut, fives_in};
 use crate::stream::{CHUNK, bit, copy_bits};
 
 // Bits that are put one behind the other into N bytes of zeros, and how many they are. Past the last byte nothing is put.
+// That the count stays below 2^64 is no invariant: it is of the count and of what is put together, which only a call has.
 // An array, not a Vec: the memory is fixed.
 #[derive(Clone, Copy)]
 pub struct Filled<const N: usize> {
