@@ -14,7 +14,8 @@ pub const CHUNK: usize = 56;
 pub fn bit(b: &[u8], p: usize) -> u64
     ensures { (result ≡ bit_at b.now p) × (result < 2) }
 {
-    b.get(p / 8).map_or(0, |x| (u64::from(*x) >> (7 - p % 8)) % 2)
+    b.get(p / 8)
+        .map_or(0, |x| (u64::from(*x) >> (7 - p % 8)) % 2)
 }
 
 // Puts n bits of t, behind its first `from`, behind the first `at` of s.
