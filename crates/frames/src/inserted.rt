@@ -41,7 +41,7 @@ impl<const N: usize> Filled<N> {
     // the fifth one in a row.
     fn put_run(&mut self, b: &[u8], p: usize, left: usize, ones: usize) -> Run
         requires { (0 < left) × (ones ≤ 4) × (self.old.count + left < 2 ^ 64) }
-        ensures { RunPut b.now p left ones self.old.bytes self.old.count result.bits result.ones self.new.bytes self.new.count }
+        ensures { RunPut b.now p left ones self.old result self.new }
     {
         let count = left.min(CHUNK);
         let bits = bits::read(b, p, count);
