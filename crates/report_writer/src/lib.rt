@@ -1,7 +1,7 @@
 // A report to its words, or to refusal 11 where a value is too large for its field.
 // Each word's data is computed without a branch, field by field as its layout has it; a value too large pushes the number above 4095
-// (`data_or_more`), and one function looks at the numbers at the end and makes the words. Relies on words for the parity bit, measures for the
-// types of counts.
+// (`data_or_more`), and one function looks at the numbers at the end and makes the words. A number and no Option: a sum of fields stays one sum,
+// as `data_or_more` has it. Relies on words for the parity bit, measures for the types of counts.
 #![tactic(auto)]
 
 ghost use Rattle.std.specs.Prelude.{◌≡◌, [], ◌∷◌, ◌/◌, ◌<◌, ◌^◌};
@@ -326,7 +326,7 @@ fn words_or_refusal<const N: usize>(each: [u32; N]) -> Result<[u16; N], LineRefu
         return Err(LineRefusal::ValueTooLarge);
     }
     let mut words = [0; N];
-    // not by `map`: it asks that twice N elements fit the memory, which nothing says of a generic N
+    // not by `map`: it requires that eight bytes a word and more fit the memory, which nothing says of a generic N
     for (i, word) in words.iter_mut().enumerate() {
         *word = word_of(each[i]);
     }
