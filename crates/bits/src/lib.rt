@@ -27,7 +27,7 @@ fn digit(b: &[u8], before: usize, i: usize) -> u64
 {
     let k = behind(before, i);
     b.get(byte_of(before, i))
-        .map_or(0, |x| (*x as u64 >> k) % 2)
+        .map_or(0, |x| (u64::from(*x) >> k) % 2)
 }
 
 // Bit by bit: the number that the n bits after the first `before` make, the first the heaviest; of more than 64 bits, that of the last 64.
@@ -54,7 +54,7 @@ fn two(b: &[u8], j: usize) -> u64
     requires { j + 2 ≤ length b.now }
     ensures { (result ≡ bits_of b.now (j * 8) 16) × (result < 65536) }
 {
-    u16::from_be_bytes([b[j], b[j + 1]]) as u64
+    u64::from(u16::from_be_bytes([b[j], b[j + 1]]))
 }
 
 // Four bytes, of which the compiler makes one load.
@@ -62,7 +62,7 @@ fn four(b: &[u8], j: usize) -> u64
     requires { j + 4 ≤ length b.now }
     ensures { (result ≡ bits_of b.now (j * 8) 32) × (result < 4294967296) }
 {
-    u32::from_be_bytes([b[j], b[j + 1], b[j + 2], b[j + 3]]) as u64
+    u64::from(u32::from_be_bytes([b[j], b[j + 1], b[j + 2], b[j + 3]]))
 }
 
 // Eight bytes: one load too.
@@ -84,7 +84,7 @@ fn few(b: &[u8]) -> u64
     } else if 2 <= len {
         (two(b, 0) * 65536 + (two(b, len - 2) << (32 - 8 * len)) % 65536) * 4294967296
     } else if len == 1 {
-        (b[0] as u64) << 56
+        u64::from(b[0]) << 56
     } else {
         0
     }
@@ -144,7 +144,7 @@ fn with_digit(x: u8, k: usize, v: u64) -> u8
     requires { (k ≤ 7) × (v < 2) }
     ensures { result ≡ with_digit x k v }
 {
-    let w = x as u64;
+    let w = u64::from(x);
     let p = weight(k);
     let h = w / p / 2 * 2 + v;
     ((h * p + w % p) % 256) as u8
@@ -179,7 +179,7 @@ fn with_part(x: u8, k: usize, w: usize, v: u64) -> u8
     requires { (k + w ≤ 8) × (v < 2 ^ w) }
     ensures { result ≡ with_part x k w v }
 {
-    let x = x as u64;
+    let x = u64::from(x);
     let p = weight(k);
     let above = x / weight(k + w) * weight(w);
     (((above + v) * p + x % p) % 256) as u8

@@ -1,5 +1,6 @@
 // The calls that read a frame at a bit place of a stream: its bytes, and a count of its bits. Each answers one thing about what stands there. Any
 // bytes, any count and any place are taken.
+// The arguments are those that C passes: a struct would be made in each call, and used there once.
 // Relies on frames for the answer; specs/Calls.antt says what each call answers.
 ghost use Rattle.std.specs.Prelude.{◌≡◌, ◌+◌, ◌/◌, ◌≤◌, length, take, drop, ◌++◌};
 ghost use Rattle.frames.specs.Reading.{read_frame};
@@ -38,7 +39,7 @@ pub extern "C" fn siamrung_frame_refusal(bytes: &[u8], count: usize, place: usiz
     ensures { result ≡ refusal_of (read_frame bytes.now count place).what }
 {
     match what(bytes, count, place) {
-        What::Refused(why) => u8::from(why) as u32,
+        What::Refused(why) => u32::from(u8::from(why)),
         _ => 0,
     }
 }
@@ -67,7 +68,7 @@ pub extern "C" fn siamrung_frame_control(bytes: &[u8], count: usize, place: usiz
     ensures { result ≡ control_of (read_frame bytes.now count place).what }
 {
     match what(bytes, count, place) {
-        What::Frame { control, .. } => control as u32,
+        What::Frame { control, .. } => u32::from(control),
         _ => 0,
     }
 }

@@ -1,4 +1,5 @@
 // The calls that write a frame into a stream: which way it travels, its control, and the bits of its field.
+// The arguments are those that C passes: a struct would be made in each call, and used there once.
 // Relies on frames for the writer; specs/Calls.antt says what each call answers.
 ghost use Rattle.std.specs.Prelude.{◌≡◌, length};
 ghost use Rattle.frames.specs.Writing.{given, write_frame, left_as};
@@ -52,6 +53,6 @@ pub extern "C" fn siamrung_frame_write_refusal(
     };
     match frames::writing::answer(bytes.len(), count, place, frame) {
         Ok(_) => 0,
-        Err(refused) => u8::from(refused.why) as u32,
+        Err(refused) => u32::from(u8::from(refused.why)),
     }
 }

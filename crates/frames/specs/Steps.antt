@@ -7,6 +7,8 @@ use Rattle.frames.specs.Stream.{bits_from, put_all, number, digits}
 use Rattle.frames.specs.Check.{preset, feed}
 use Rattle.frames.specs.declared.FrameRefusal.TheVariants as R
 use Rattle.frames.specs.declared.Found.{Found}
+use Rattle.frames.specs.declared.inserted.Filled.{Filled}
+use Rattle.frames.specs.declared.inserted.Run.{Run}
 use Rattle.frames.specs.Zeros.{ones, zeros_out, zero_missing}
 use Rattle.frames.specs.Reading.{Answer, accepted, refused, unknown_address, frame_in, read_bits, found_at}
 use Rattle.frames.specs.Frame.{between}
@@ -52,14 +54,14 @@ pub record RunIs (n m x k o : ℕ) : Type 0 where
   pub few : o ≤ 5
   pub passes : Passes n (digits k (x / 2 ^ (m - k))) o
 
--- of the bits left from p on, with n ones in front of them, the first k are such, and stand behind the first `count` of the bytes
-pub record RunPut (b : List ℕ) (p left n : ℕ) (bytes : List ℕ) (count k o : ℕ) (next : List ℕ) (total : ℕ) : Type 0 where
-  pub some : 0 < k
-  pub within : k ≤ left
-  pub few : o ≤ 5
-  pub passes : Passes n (bits_from b p k) o
-  pub put : next ≡ put_bits bytes count k (bits_of b p k)
-  pub counted : total ≡ count + k
+-- of the bits left from p on, with n ones in front of them, those of the run are such, and stand behind what was put
+pub record RunPut {N : ℕ} (b : List ℕ) (p left n : ℕ) (old : Filled N) (run : Run) (new : Filled N) : Type 0 where
+  pub some : 0 < run.bits
+  pub within : run.bits ≤ left
+  pub few : run.ones ≤ 5
+  pub passes : Passes n (bits_from b p run.bits) run.ones
+  pub put : new.bytes ≡ put_bits old.bytes old.count run.bits (bits_of b p run.bits)
+  pub counted : new.count ≡ old.count + run.bits
 
 -- ---- the check sequence, by bytes
 

@@ -19,7 +19,7 @@ fn fed(register: u16, b: u64) -> u16
     ensures { result ≡ cond (eqb (register / 32768) b) (register * 2 % 65536) (bit_xor (register * 2 % 65536) 0x1021) }
 {
     let moved = register << 1;
-    if (register >> 15) as u64 == b {
+    if u64::from(register >> 15) == b {
         moved
     } else {
         moved ^ GENERATOR
@@ -30,7 +30,7 @@ fn fed(register: u16, b: u64) -> u16
 fn fed_byte(register: u16, byte: u8) -> u16
     ensures { result ≡ bit_xor (register % 256 * 256) (remainder_of (bit_xor (register / 256) byte)) }
 {
-    let x = (register >> 8) ^ byte as u16;
+    let x = (register >> 8) ^ u16::from(byte);
     let y = x ^ (x >> 4);
     (register << 8) ^ ((y << 12) ^ (y << 5) ^ y)
 }
@@ -56,5 +56,5 @@ pub fn check(b: &[u8], n: usize) -> u64
     for i in m * 8..n {
         register = fed(register, bit(b, i));
     }
-    (ONES - register) as u64
+    u64::from(ONES - register)
 }

@@ -35,8 +35,8 @@ fn clear(b: &[u8], p: usize, n: usize) -> usize
     n + u64::leading_zeros(ones) as usize - 69
 }
 
-// The first flag from a place on, sought bit by bit up to another; that one where there is none. Called where ones were seen, so that many
-// ones in a row, which are no flag, cost no window each.
+// The first place of a flag from `from` on, sought bit by bit up to `to`; `to` where there is none. Called where ones were seen, so that many
+// ones in a row, which are no flag, cost no window each. No Option: the search goes on from that place.
 fn near(b: &[u8], from: usize, to: usize) -> usize
     requires { (from ≤ to) × (to + 7 < 2 ^ 64) }
     ensures { (from ≤ result) × (result ≤ to) × NoFlags b.now from result × (result < to → bits_of b.now result 8 ≡ 0x7E) }
@@ -83,7 +83,7 @@ impl Stream<'_> {
         p
     }
 
-    // The place of the first flag; the count where there is none.
+    // The place of the first flag; the count where there is none. No Option: what stands between is judged up to that place.
     pub fn closing(self, from: usize) -> usize
         requires { from ≤ self.count }
         ensures { result ≡ from + length (up_to_flag (stream_at self.entry.bytes.now self.entry.count from)) }

@@ -10,6 +10,7 @@ ghost use Rattle.frames.specs.Steps.{BodyIs, RunIs, RunPut, fives_in};
 use crate::stream::{CHUNK, bit, copy_bits};
 
 // Bits that are put one behind the other into N bytes of zeros, and how many they are. Past the last byte nothing is put.
+// That the count stays below 2^64 is no invariant: it is of the count and of what is put together, which only a call has.
 // An array, not a Vec: the memory is fixed.
 #[derive(Clone, Copy)]
 pub struct Filled<const N: usize> {
@@ -40,7 +41,7 @@ impl<const N: usize> Filled<N> {
     // the fifth one in a row.
     fn put_run(&mut self, b: &[u8], p: usize, left: usize, ones: usize) -> Run
         requires { (0 < left) × (ones ≤ 4) × (self.old.count + left < 2 ^ 64) }
-        ensures { RunPut b.now p left ones self.old.bytes self.old.count result.bits result.ones self.new.bytes self.new.count }
+        ensures { RunPut b.now p left ones self.old result self.new }
     {
         let count = left.min(CHUNK);
         let bits = bits::read(b, p, count);

@@ -55,7 +55,7 @@ impl From<FrameRefusal> for u8 {
 }
 
 // What stands at a place: a frame with the way it travels, its control and the bits of its field; a refusal; or nothing but flags.
-// Three cases, each with a name: no Option or Result has its shape.
+// It stays an enum: the document names these three, and a Result of an Option is no plainer.
 #[derive(Clone, Copy)]
 pub enum What {
     Frame {
@@ -76,7 +76,8 @@ pub struct Found {
     pub field: [u8; 251],
 }
 
-// Why no frame was written, and the caller's place.
+// Why no frame was written, and the caller's place. Beside `NotWritten` of lines, which has a line's refusal: the two libraries know nothing of
+// each other.
 #[derive(Clone, Copy, Debug, PartialEq, Eq)]
 pub struct NotWritten {
     pub why: FrameRefusal,

@@ -39,8 +39,8 @@ fn nothing(what: What, place: usize) -> Found
 }
 
 // A body with an address, as the frame that it is.
-// Its bounds stay in the contracts, here, in `addressed` and in `with_zeros`: a type for them would be plainer nowhere, since `body_of` also
-// makes bodies without them, which `judged` refuses.
+// Its bounds stay in the contracts, here, in `addressed` and in `with_zeros`: a type for them is no plainer: `body_of` also makes bodies outside
+// them, which `judged` refuses.
 fn frame(body: &Filled<255>, way: Direction, place: usize) -> Found
     requires { (32 ≤ body.now.count) × (body.now.count ≤ 2040) }
     ensures { result ≡ found_at place (accepted (frame_of way (control_in (bits_from body.now.bytes 0 body.now.count)) (field_in (bits_from body.now.bytes 0 body.now.count)))) }

@@ -9,12 +9,13 @@ ghost use Rattle.frames.specs.Reading.{count_over};
 // As many bits as one load of eight bytes always holds, in whole bytes.
 pub const CHUNK: usize = 56;
 
-// Past the end there are zeros. Not by `digit` of bits, which takes a place in two parts: this one is called for each bit of a search.
+// Past the end there are zeros. For many bits `bits::read`; this one is called for each bit of a search.
 #[tactic(auto, unfolding(bits::specs::Bits::bit_at))]
 pub fn bit(b: &[u8], p: usize) -> u64
     ensures { (result ≡ bit_at b.now p) × (result < 2) }
 {
-    b.get(p / 8).map_or(0, |x| (*x as u64 >> (7 - p % 8)) % 2)
+    b.get(p / 8)
+        .map_or(0, |x| (u64::from(*x) >> (7 - p % 8)) % 2)
 }
 
 // Puts n bits of t, behind its first `from`, behind the first `at` of s.

@@ -39,7 +39,7 @@ fn body_of(frame: Given) -> Filled<255>
 {
     let mut body = Filled::new();
     body.put(8, address_of(frame.way));
-    body.put(8, frame.control as u64);
+    body.put(8, u64::from(frame.control));
     body.put_bits_of(frame.field, frame.count);
     let sequence = check(&body.bytes, body.count);
     body.put(CHECK_BITS, sequence);

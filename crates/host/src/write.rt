@@ -1,5 +1,6 @@
 // The calls that write a report into a line lent as bytes. The report is given by its kind's number and its items, sixteen bytes an item.
 // Any bytes, any place, any number of an altitude form, any kind and any items are taken: what is no record is refused with number 11.
+// The arguments are those that C passes: a struct would be made in each call, and used there once.
 // Relies on report_items for the report, line_writer for the writer, refusals for numbers.
 ghost use Rattle.std.specs.Prelude.{◌≡◌};
 ghost use Rattle.lines.specs.ByteWriting.{write_bytes};

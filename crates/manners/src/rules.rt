@@ -18,22 +18,7 @@ use reports::{Height, Report};
 fn substitution_mode3a(mode3a: bool, height: Height) -> bool
     ensures { result ≡ all (radar height ∷ mode3a ∷ []) }
 {
-    matches!(
-        height,
-        Height::Cd { .. } | Height::Mtd { .. } | Height::Rdas { .. }
-    ) && mode3a
-}
-
-// Bit 6.
-fn mode_c_of(height: Height) -> bool
-    ensures { result ≡ mode_c_of height }
-{
-    match height {
-        Height::Altitude(_) => true,
-        Height::Carried(_) => false,
-        Height::Cd { mode_c, .. } | Height::Mtd { mode_c, .. } | Height::Rdas { mode_c, .. } =>
-            mode_c,
-    }
+    height.is_radar() && mode3a
 }
 
 // 3: an altitude, and it is zero.
@@ -61,7 +46,7 @@ fn atcrbs_found(mode3a: bool, height: Height) -> Option<Rule>
 fn dabs_found(relay: bool, height: Height) -> Option<Rule>
     ensures { result ≡ dabs_found relay height }
 {
-    (relay && !mode_c_of(height)).then_some(Rule::RelayWithoutModeC)
+    (relay && !height.mode_c()).then_some(Rule::RelayWithoutModeC)
 }
 
 // 4: the stop is below the start.

@@ -28,8 +28,9 @@ abbrev pub value_of : Option ℕ → ℕ
 value_of (Some v) = v
 value_of None = 0
 
--- what f says of what is found for each of k numbers, n the first
-unfoldable pub each_from : {X : Type 0} → ((Option ℕ) → X) → ℕ → ℕ → List Pair → List X
+-- what f says of what is found for each of k numbers, n the first. The f stays: the law `each_at` of proofs/Laws.antt, which other crates name, is of
+-- every f
+unfoldable pub each_from : {X : Type 0} → (Option ℕ → X) → ℕ → ℕ → List Pair → List X
 each_from f n zero ps = []
 each_from f n (suc k) ps = f (find_in n ps) ∷ each_from f (suc n) k ps
 

@@ -4,7 +4,7 @@
 // one record that the writer refuses.
 // Relies on pairs for the items' values, items for a record's own, numbers and reports::kinds for their numbers.
 ghost use Rattle.std.specs.Prelude.{◌≡◌, ◌<◌, List, ℕ, Option, ◌^◌, length, get_or, unwrap_or};
-ghost use Rattle.pairs.specs.Pairs.{slots, value_of};
+ghost use Rattle.pairs.specs.Pairs.{value_of};
 ghost use Rattle.reports.specs.Kinds.{kind_number};
 ghost use Rattle.report_items.specs.Items.{last, item_of, items_of};
 ghost use Rattle.report_items.specs.Given.{as_signed, flag_of, count_of, item_gathered, search_given, strobe_given, map_given, status_given, rtqc_given, plain_given, cd_given, mtd_height_given, rdas_height_given, dabs_given, atcrbs_given, mtd_given, rdas_given, unfit, built, same_item, agree_to, given};
@@ -18,21 +18,19 @@ use reports::{Atcrbs, Dabs, Height, Map, Mtd, Rdas, Report, Rtqc, Search, Status
 
 // ---- what the items say
 
-// What is given for each item's number, and for 0, which is none's.
+// What is given for each number from 0 on; 0 is the number of no item.
 #[derive(Drop)]
 struct Values([Option<u64>; SLOTS]);
 
 impl Values {
     // 0 where it is not given.
     fn value(&self, item: usize) -> u64
-        requires { item < slots }
         ensures { result ≡ value_of (get_or self.now.0 item None) }
     {
-        self.0[item].unwrap_or(0)
+        self.0.get(item).copied().flatten().unwrap_or(0)
     }
 
     fn flag(&self, item: usize) -> bool
-        requires { item < slots }
         ensures { result ≡ flag_of self.now.0 item }
     {
         self.value(item) == 1
@@ -40,21 +38,18 @@ impl Values {
 
     // A count is cut to its width. One generic function would need a trait with an impl for each width, which is longer than these three.
     fn byte(&self, item: usize) -> u8
-        requires { item < slots }
         ensures { result ≡ count_of 8 self.now.0 item }
     {
         (self.value(item) % (1 << 8)) as u8
     }
 
     fn word(&self, item: usize) -> u16
-        requires { item < slots }
         ensures { result ≡ count_of 16 self.now.0 item }
     {
         (self.value(item) % (1 << 16)) as u16
     }
 
     fn long(&self, item: usize) -> u32
-        requires { item < slots }
         ensures { result ≡ count_of 32 self.now.0 item }
     {
         (self.value(item) % (1 << 32)) as u32
@@ -161,6 +156,7 @@ fn cd_given(v: &Values) -> Height
     }
 }
 
+// Beside `rdas_height_given` only the case differs, and `built` of specs/Given.antt names the two.
 fn mtd_height_given(v: &Values) -> Height
     ensures { result ≡ mtd_height_given v.now.0 }
 {
@@ -317,7 +313,8 @@ fn stands(report: Report, n: usize, value: u64) -> bool
 }
 
 // For each number the report, of so many items, has what is given for it: whatever is given stands in the report, and so many are given. Only
-// what is given is looked up in the report: to look up every number takes more time (docs/PERFORMANCE.md).
+// what is given is looked up in the report: to look up every number takes more time (docs/PERFORMANCE.md). By the number, which the look-up asks
+// for too.
 fn agrees(report: Report, size: usize, v: &Values) -> bool
     requires { length (items_of report) ≡ size }
     ensures { result ≡ agree_to last report (item_gathered v.now.0) }

@@ -1,4 +1,4 @@
-// The items of a report: what a C program asks for by number. Every number is answered: an item that the report has not is Missing.
+// The items of a report: what a C program asks for by number. Every number is answered: None for an item that the report has not.
 // Relies on the records of reports, numbers for the items.
 ghost use Rattle.std.specs.Prelude.{◌≡◌};
 ghost use Rattle.reports.specs.declared.Height.TheVariants as Ht;

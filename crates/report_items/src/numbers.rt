@@ -1,7 +1,7 @@
 // The number of each item, from 1 on without a gap. specs/Items.antt has the same by its own names, and every function that uses them is held
 // to it.
-// They stay numbers: a C program asks by any number, and each is a place in what is given. An enum would take a match of 36 arms to come from a
-// number, and another to be a place.
+// They stay numbers: a C program asks by any number, and each is a place in what is given. To come from a number an enum would take a match of
+// 36 arms.
 // Relies on nothing.
 
 pub const TEST: usize = 1;
@@ -75,6 +75,3 @@ pub const DOPPLER1: usize = 34;
 pub const DOPPLER2: usize = 35;
 
 pub const GROUND: usize = 36;
-
-// The greatest of them.
-pub const LAST: usize = GROUND;

@@ -12,8 +12,10 @@ pub fn altitude_of(n: u16, form: Form) -> i16
     ensures { result ≡ (form_of form).altitude n }
 {
     let magnitude = (n % ELEVEN_BITS) as i16;
+    if n / ELEVEN_BITS != 1 {
+        return magnitude;
+    }
     match form {
-        _ if n / ELEVEN_BITS != 1 => magnitude,
         Form::SignMagnitude => -magnitude,
         Form::TwosComplement => magnitude - ELEVEN_BITS as i16,
     }

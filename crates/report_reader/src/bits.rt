@@ -1,4 +1,5 @@
 // The bits of a report by the document's numbers, which go on over all its words with the parity bits counted.
+// `InOneWord` stays in the contracts: a type for two bit numbers would be made at each of some 90 calls, which is no plainer.
 // Private to the crate. Relies on nothing; specs/Word.antt of words says what each answer means, under the same names.
 ghost use Rattle.std.specs.Prelude.{◌≡◌, ◌<◌, ◌+◌};
 ghost use Rattle.words.specs.Word.{bits, bit, bits_then};

@@ -21,7 +21,8 @@ mod altitude; // altitude.rt: the altitude of twelve bits, in each form
 mod bits; // bits.rt: the bits of a report by number
 mod records; // records.rt: what words hold, field by field
 
-// ---- what words hold, and the sum of the bits that are zero in an accepted report
+// ---- what words hold, and the sum of the bits that are zero in an accepted report: a number, and no bool, as `zeros` of specs/Conditions.antt of
+// reports has it
 
 // Of four words of a known form: what is none of the first four is an RTQC.
 #[tactic(auto, unfolding(reports::specs::Records::four_of, reports::specs::Conditions::four_zeros))]

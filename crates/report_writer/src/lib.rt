@@ -1,7 +1,7 @@
 // A report to its words, or to refusal 11 where a value is too large for its field.
 // Each word's data is computed without a branch, field by field as its layout has it; a value too large pushes the number above 4095
-// (`data_or_more`), and one function looks at the numbers at the end and makes the words. Relies on words for the parity bit, measures for the
-// types of counts.
+// (`data_or_more`), and one function looks at the numbers at the end and makes the words. A number and no Option: a sum of fields stays one sum,
+// as `data_or_more` has it. Relies on words for the parity bit, measures for the types of counts.
 #![tactic(auto)]
 
 ghost use Rattle.std.specs.Prelude.{◌≡◌, [], ◌∷◌, ◌/◌, ◌<◌, ◌^◌};
@@ -25,7 +25,8 @@ use words::weights;
 mod altitude; // altitude.rt: the twelve bits of an altitude, in each form
 mod field; // field.rt: what a field adds to the data of its word
 
-// The data of a report's words, each 4096 or more where a value in it is too large.
+// The data of a report's words, each 4096 or more where a value in it is too large (`data_or_more`). Beside `Words`: a generic one would show in
+// every crate that names it.
 #[derive(Clone, Copy)]
 enum Data {
     Four([u32; 4]),
@@ -88,23 +89,6 @@ fn radar_fourth(azimuth: FineAzimuth, aims: bool, time: Time) -> u32
 
 // ---- bits 6, 12 and 79 to 90 of DABS and ATCRBS
 
-fn mode_c_of(h: Height) -> bool
-    ensures { result ≡ mode_c_of h }
-{
-    match h {
-        Height::Altitude(_) => true,
-        Height::Carried(_) => false,
-        Height::Cd { mode_c, .. } | Height::Mtd { mode_c, .. } | Height::Rdas { mode_c, .. } =>
-            mode_c,
-    }
-}
-
-fn radar_of(h: Height) -> bool
-    ensures { result ≡ radar h }
-{
-    !matches!(h, Height::Altitude(_) | Height::Carried(_))
-}
-
 // An altitude that has no twelve bits in the form becomes a number that is too large.
 fn height_last(h: Height, form: Form) -> u32
     ensures { result ≡ data_or_more (last_word (form_of form) h) }
@@ -143,13 +127,13 @@ impl Beacon {
             + count::<2, 3>(forms::SEVEN_WORDS.into())
             + flag::<4>(self.dabs)
             + flag::<5>(self.fifth);
-        let middle = flag::<6>(mode_c_of(self.height))
+        let middle = flag::<6>(self.height.mode_c())
             + flag::<7>(self.spi)
             + flag::<8>(self.reinforced);
         let last = flag::<9>(self.code7700)
             + flag::<10>(self.code7600)
             + flag::<11>(self.faa)
-            + flag::<12>(radar_of(self.height));
+            + flag::<12>(self.height.is_radar());
         first + middle + last
     }
 }
@@ -342,6 +326,7 @@ fn words_or_refusal<const N: usize>(each: [u32; N]) -> Result<[u16; N], LineRefu
         return Err(LineRefusal::ValueTooLarge);
     }
     let mut words = [0; N];
+    // not by `map`: it requires that eight bytes a word and more fit the memory, which nothing says of a generic N
     for (i, word) in words.iter_mut().enumerate() {
         *word = word_of(each[i]);
     }

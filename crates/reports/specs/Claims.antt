@@ -11,8 +11,7 @@ use Rattle.reports.specs.Altitude.{AltitudeForm, Sound, sign_magnitude, twos_com
 use Rattle.words.specs.Layout.{twelve_each}
 use Rattle.reports.specs.Layouts.{layout_of, words_of, Fits, Takes, as_written, written}
 use Rattle.reports.specs.Conditions.{HasLayout}
-use Rattle.reports.specs.Runs.{table_of, judged, read_run}
-use Rattle.reports.specs.Runs.{refused_at}
+use Rattle.reports.specs.Runs.{refused_at, table_of, judged, read_run}
 
 -- ---- the forms of the altitude
 

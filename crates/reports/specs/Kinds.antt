@@ -54,7 +54,7 @@ kind_number K.AtcrbsRdas = 113
 kind_number K.Mtd = 114
 kind_number K.Rdas = 115
 
--- the kind that has the number, or that none has it
+-- the kind that has the number; or no kind has it
 abbrev pub Numbered : ℕ → Result Kind UnknownKind → Type 0
 Numbered number r = MatchResult r (λ kind. kind_number kind ≡ number) (λ e. (e.0 ≡ number) × ((kind : Kind) → kind_number kind ≢ number))
 

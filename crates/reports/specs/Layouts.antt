@@ -1,6 +1,7 @@
 -- The words of a record: the tables' columns once more, by widths, with a word a line. Only DABS and ATCRBS hold an altitude, so only they
 -- take its form. Definitions only.
 use Rattle.std.specs.Prelude.{ℕ, ◌/◌, ◌^◌, ◌≡◌, Bool, true, false, cond, List, [], ◌∷◌, eqb, length, Err, Ok, Result}
+use Rattle.refusals.specs.declared.LineRefusal.{LineRefusal}
 use Rattle.refusals.specs.declared.LineRefusal.TheVariants.{ValueTooLarge}
 use Rattle.words.specs.Layout.{Field, flag, count, rest, fixed, spare, words_by, fitting_by}
 use Rattle.reports.specs.declared.Search.{Search}
@@ -18,7 +19,6 @@ use Rattle.reports.specs.declared.Report.{Report}
 use Rattle.reports.specs.declared.Report.TheVariants as R
 use Rattle.reports.specs.Altitude.{AltitudeForm}
 use Rattle.reports.specs.Forms.{four_words, seven_words, search_pattern, strobe_pattern, status_pattern, rtqc_pattern, map_pattern, cd_code, mtd_code, rdas_code, mtd_search_code, rdas_search_code}
-use Rattle.refusals.specs.declared.LineRefusal.{LineRefusal}
 use Rattle.reports.specs.declared.Words.{Words}
 use Rattle.reports.specs.declared.Words.TheVariants.{Four, Seven}
 

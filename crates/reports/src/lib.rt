@@ -5,7 +5,7 @@
 #![tactic(auto)]
 
 ghost use Rattle.std.specs.Prelude.{◌≡◌};
-ghost use Rattle.reports.specs.Layouts.{words_in};
+ghost use Rattle.reports.specs.Layouts.{mode_c_of, radar, words_in};
 
 use measures::{CoarseAzimuth, CoarseRange, FineAzimuth, FineRange, RunLength, Time};
 use refusals::LineRefusal;
@@ -85,6 +85,27 @@ pub enum Height {
     Cd { mode_c: bool, run: RunLength },
     Mtd { mode_c: bool, quality: u8 },
     Rdas { mode_c: bool, quality: u8 },
+}
+
+impl Height {
+    // Bit 6.
+    pub fn mode_c(self) -> bool
+        ensures { result ≡ mode_c_of self }
+    {
+        match self {
+            Height::Altitude(_) => true,
+            Height::Carried(_) => false,
+            Height::Cd { mode_c, .. } | Height::Mtd { mode_c, .. } | Height::Rdas { mode_c, .. } =>
+                mode_c,
+        }
+    }
+
+    // Bit 12: data of a radar stand in its place.
+    pub fn is_radar(self) -> bool
+        ensures { result ≡ radar self }
+    {
+        !matches!(self, Height::Altitude(_) | Height::Carried(_))
+    }
 }
 
 #[derive(Clone, Copy)]

@@ -23,7 +23,7 @@ pub returns-then-len-eq1 : goal.returns-then-len-eq1
 returns-then-len-eq1 c =
     let s = c.args.b.now in
     let x : get_or s 0 0 < 256 = omega (arith, c.type_inv.b 0) in
-    shl_exact 8 56 64 x (omega arith) ∙ padded s 0 8 56 _ (byte_is s 0 _ refl x) (omega arith)
+    rw c.from.ensures (shl_exact 8 56 64 x (omega arith) ∙ padded s 0 8 56 _ (byte_is s 0 _ refl x) (omega arith))
 
 pub returns-else-len-eq1 : goal.returns-else-len-eq1
 returns-else-len-eq1 c = sym (bits_of_out c.args.b.now 0 64 (omega arith))

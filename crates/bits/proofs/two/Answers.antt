@@ -12,4 +12,4 @@ returns c =
     let v = c.type_inv.b in
     let x = byte_is s j _ refl (omega (arith, v j)) in
     let y = byte_is s (j + 1) _ refl (omega (arith, v (j + 1))) in
-    (c.from_be_bytes.ensures ∙ joined s (j * 8) ((j + 1) * 8) 8 8 _ _ x y (omega arith), omega arith)
+    (c.from.ensures ∙ c.from_be_bytes.ensures ∙ joined s (j * 8) ((j + 1) * 8) 8 8 _ _ x y (omega arith), omega arith)

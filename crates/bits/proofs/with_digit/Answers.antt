@@ -12,12 +12,13 @@ use Rattle.bits.proofs.with_digit.Goals.{After-weight-p}
 byte : (c : After-weight-p) →
     let a = c.args in
     let p = c.weight-p.result in
-    (a.x / p / 2 * 2 + a.v) * p + a.x % p < 256
+    let w = c.from-w.result in
+    (w / p / 2 * 2 + a.v) * p + w % p < 256
 unfolding with_digit
 byte c =
     let a = c.args in
-    rw c.weight-p.ensures (with_digit-lt a.x a.k a.v (omega arith) (omega arith) (omega arith))
+    rw (c.from-w.ensures, c.weight-p.ensures) (with_digit-lt a.x a.k a.v (omega arith) (omega arith) (omega arith))
 
 pub returns : goal.returns
 unfolding with_digit
-returns c = mod-eq_of_lt (byte ((goal.at.returns c).After-weight-p)) ∙ rw c.weight-p.ensures
+returns c = mod-eq_of_lt (byte ((goal.at.returns c).After-weight-p)) ∙ rw (c.from-w.ensures, c.weight-p.ensures)

@@ -12,12 +12,13 @@ use Rattle.bits.proofs.with_part.Goals.{After-weight-2}
 fits : (c : After-weight-2) →
     let a = c.args in
     let p = c.weight-p.result in
-    let t = a.x / c.weight.result * c.weight-2.result + a.v in
-    (t < 256) × (t * p + a.x % p < 256)
+    let x = c.from-x.result in
+    let t = x / c.weight.result * c.weight-2.result + a.v in
+    (t < 256) × (t * p + x % p < 256)
 fits c =
     let a = c.args in
-    part_fits a.x a.k a.w a.v _ _ _ c.weight-p.ensures c.weight.ensures c.weight-2.ensures (omega arith) (omega arith) (omega arith)
+    part_fits c.from-x.result a.k a.w a.v _ _ _ c.weight-p.ensures c.weight.ensures c.weight-2.ensures (omega arith) (omega arith) (omega arith)
 
 pub returns : goal.returns
 unfolding with_part
-returns c = mod-eq_of_lt (fits ((goal.at.returns c).After-weight-2)).1 ∙ rw (c.weight-2.ensures, c.weight.ensures, c.weight-p.ensures)
+returns c = mod-eq_of_lt (fits ((goal.at.returns c).After-weight-2)).1 ∙ rw (c.from-x.ensures, c.weight-2.ensures, c.weight.ensures, c.weight-p.ensures)

@@ -18,4 +18,4 @@ returns c =
     let l = c.loop-i in
     let a = c.args in
     let e : l.i ≡ a.n = omega arith in
-    check_is a.b.now a.n l.register (l.invariant ∙ ap (register_at a.b.now) e)
+    c.from.ensures ∙ check_is a.b.now a.n l.register (l.invariant ∙ ap (register_at a.b.now) e)

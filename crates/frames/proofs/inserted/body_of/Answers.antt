@@ -13,11 +13,35 @@ use Rattle.frames.specs.Stream.{bits_from, put_all}
 use Rattle.frames.specs.Zeros.{zeros_out, zero_missing}
 use Rattle.frames.specs.Reading.{stream_at}
 use Rattle.frames.specs.Steps.{RunPut}
+use Rattle.frames.specs.declared.inserted.Filled.{Filled}
+use Rattle.frames.specs.declared.inserted.Run.{Run}
 use Rattle.frames.proofs.Streamed.{length-bits_from, stream_cons, stream_none, stream_join}
 use Rattle.frames.proofs.Runs.{run_out, run_missing}
 use Rattle.frames.proofs.Filled.{filled, filled_read}
 use Rattle.frames.proofs.inserted.body_of.Goals as goal
 use Rattle.frames.proofs.inserted.body_of.Invariants.{Done}
+
+-- a run of the body
+kept : {N from to n p : ℕ} {b : List ℕ} (old new : Filled N) (run : Run) → Done b from to old.bytes old.count n p → RunPut b p (to - p) n old run new → p < to
+    → Done b from to new.bytes new.count run.ones (p + run.bits)
+kept {N} {from} {to} {n} {p} {b} old new run d r h =
+    let k = run.bits in
+    let o = run.ones in
+    let w = d.within in
+    let i = r.within in
+    let xs = bits_from b p k in
+    let c = stream_join b to p k (omega arith) in
+    record {
+      within = (omega (arith, r.counted), omega arith);
+      few = r.few;
+      done = d.done ++ xs;
+      out =
+          d.out ∙ ap (λ (s : List Bool). d.done ++ zeros_out n s) c ∙ ap (λ (s : List Bool). d.done ++ s) (run_out n o xs _ r.passes)
+          ∙ sym (append_assoc d.done xs (zeros_out o (stream_at b to (p + k))));
+      missing = d.missing ∙ ap (zero_missing n) c ∙ run_missing n o xs _ r.passes;
+      count_is = r.counted ∙ rw (length-append d.done xs, length-bits_from b p k, sym d.count_is) refl;
+      bytes_are = r.put ∙ filled_read 255 d.done old.bytes b old.count p k _ d.bytes_are (sym d.count_is) refl;
+    }
 
 module _ {b : List ℕ} {from to : ℕ} {bytes : List ℕ} {count n p : ℕ} (d : Done b from to bytes count n p) where
   -- the next bit is the inserted zero
@@ -41,25 +65,6 @@ module _ {b : List ℕ} {from to : ℕ} {bytes : List ℕ} {count n p : ℕ} (d 
   absent : p < to → n ≡ 5 → bit_at b p ≡ 1 → zero_missing 0 (stream_at b to from) ≡ true
   unfolding zero_missing
   absent l e o = d.missing ∙ ap (zero_missing n) (stream_cons b to p l) ∙ rw (eq-eqb n 5 e, eq-eqb (bit_at b p) 1 o) refl
-
-  -- a run of the body
-  kept : (k o : ℕ) (more : List ℕ) (total : ℕ) → RunPut b p (to - p) n bytes count k o more total → p < to → Done b from to more total o (p + k)
-  kept k o more total r h =
-      let w = d.within in
-      let i = r.within in
-      let xs = bits_from b p k in
-      let c = stream_join b to p k (omega arith) in
-      record {
-        within = (omega (arith, r.counted), omega arith);
-        few = r.few;
-        done = d.done ++ xs;
-        out =
-            d.out ∙ ap (λ (s : List Bool). d.done ++ zeros_out n s) c ∙ ap (λ (s : List Bool). d.done ++ s) (run_out n o xs _ r.passes)
-            ∙ sym (append_assoc d.done xs (zeros_out o (stream_at b to (p + k))));
-        missing = d.missing ∙ ap (zero_missing n) c ∙ run_missing n o xs _ r.passes;
-        count_is = r.counted ∙ rw (length-append d.done xs, length-bits_from b p k, sym d.count_is) refl;
-        bytes_are = r.put ∙ filled_read 255 d.done bytes b count p k _ d.bytes_are (sym d.count_is) refl;
-      }
 
   -- no bit is left
   at_end : to ≤ p → zero_missing 0 (stream_at b to from) ≡ eqb n 5
@@ -88,7 +93,7 @@ put_run-run-requires c =
     (omega arith, (omega arith, omega (arith, c.if-ones-eq5.false), omega arith))
 
 pub loop-p-preserved : goal.loop-p-preserved
-loop-p-preserved c = kept c.loop-p.invariant _ _ _ _ c.put_run-run.ensures c.loop-p-test.true
+loop-p-preserved c = kept _ _ _ c.loop-p.invariant c.put_run-run.ensures c.loop-p-test.true
 
 pub returns-then-ones-eq5-2 : goal.returns-then-ones-eq5-2
 returns-then-ones-eq5-2 c = at_end c.loop-p.invariant c.loop-p-test.false ∙ eq-eqb _ _ c.if-ones-eq5-2.true
