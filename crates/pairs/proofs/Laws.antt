@@ -71,11 +71,11 @@ each_anew {X} f n (suc k) (suc i) p ps h q =
     ∙ ap (λ (b : Bool). f (cond b (Some p.1) (find_in n ps)) ∷ each_from f (suc n) k (p ∷ ps)) (sym e)
 
 -- by the place that a slot names
-pub slot_anew : (n m v k : ℕ) (ps : List Pair) → Slot n m (Some k) → set (each_from (λ x. x) n slots ps) k (Some v) ≡ each_from (λ x. x) n slots ((m, v) ∷ ps)
-slot_anew n m v k ps o = each_anew (λ x. x) n slots k (m, v) ps o.0 o.1
+pub slot_anew : {X : Type 0} (f : Option ℕ → X) (n m v k : ℕ) (ps : List Pair) → Slot n m (Some k) → set (each_from f n slots ps) k (f (Some v)) ≡ each_from f n slots ((m, v) ∷ ps)
+slot_anew f n m v k ps o = each_anew f n slots k (m, v) ps o.0 o.1
 
-pub slot_other : (n m v : ℕ) (ps : List Pair) → Slot n m None → each_from (λ x. x) n slots ((m, v) ∷ ps) ≡ each_from (λ x. x) n slots ps
-slot_other n m v ps o = each_other (λ x. x) n slots (m, v) ps o
+pub slot_other : {X : Type 0} (f : Option ℕ → X) (n m v : ℕ) (ps : List Pair) → Slot n m None → each_from f n slots ((m, v) ∷ ps) ≡ each_from f n slots ps
+slot_other f n m v ps o = each_other f n slots (m, v) ps o
 
 -- what stands at a place
 pub each_at : {X : Type 0} (f : Option ℕ → X) (n k i : ℕ) (d : X) (ps : List Pair) → i < k → get_or (each_from f n k ps) i d ≡ f (find_in (n + i) ps)

@@ -58,10 +58,10 @@ module _ (first : ℕ) (s : List ℕ) (rest before : List (List ℕ)) (pair : Li
 
   sets : (m k v : ℕ) → m ≡ eight pair → v ≡ eight (drop 8 pair) → Slot first m (Some k) → Left first s before (set found k (Some v))
   sets m k v p q o =
-      with_next (ap (λ (x : List (Option ℕ)). set x k (Some v)) l.told ∙ slot_anew first m v k (behind s (length rest)) o ∙ rw (p, q) refl)
+      with_next (ap (λ (x : List (Option ℕ)). set x k (Some v)) l.told ∙ slot_anew (λ x. x) first m v k (behind s (length rest)) o ∙ rw (p, q) refl)
 
   leaves : (m : ℕ) → m ≡ eight pair → Slot first m None → Left first s before found
-  leaves m p o = with_next (l.told ∙ sym (slot_other first m (eight (drop 8 pair)) (behind s (length rest)) o) ∙ rw p refl)
+  leaves m p o = with_next (l.told ∙ sym (slot_other (λ x. x) first m (eight (drop 8 pair)) (behind s (length rest)) o) ∙ rw p refl)
 
 pub loop-pair-init : goal.loop-pair-init
 loop-pair-init c = none c.args.first c.args.items.now _ (search rules) (search rules)
