@@ -15,7 +15,8 @@ use pairs::SLOTS;
 // The first item's number: there are thirty-seven.
 const FIRST: u64 = 201;
 
-// What is given for each item's number, from the first one on. An array, not a map: the memory is fixed.
+// What is given for each item's number, from the first one on. An array, not a map: the memory is fixed. Beside `Values` of report_items, with which it has
+// no method in common but the look-up: there the numbers begin at 0 and are cut to widths.
 #[derive(Drop)]
 struct Gathered([Option<u64>; SLOTS]);
 
