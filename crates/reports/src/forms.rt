@@ -29,3 +29,6 @@ pub const RDAS_CODE: u16 = 0b101;
 pub const MTD_SEARCH_CODE: u16 = 0b010;
 
 pub const RDAS_SEARCH_CODE: u16 = 0b001;
+
+// What stands for those bits where bit 12 is zero: no three bits are this number.
+pub const NO_RADAR: u16 = 8;
