@@ -44,6 +44,19 @@ module _ {line : List ℕ} {from to : ℕ} {stop : ℕ → Bool} {i w : ℕ} {b 
 pub stops_at_end : {line : List ℕ} {from to : ℕ} {stop : ℕ → Bool} {i : ℕ} → Going line from to stop i → to ≤ i → Ended line from to stop i
 stops_at_end g h = let s = g.same in let m = g.within in record { onward = g.onward; within = m; there = omega arith }
 
+-- a search that has not gone on yet
+pub not_gone : {line : List ℕ} {from to : ℕ} {stop : ℕ → Bool} → from ≤ to → Going line from to stop from
+not_gone h = record { onward = omega arith; within = h; same = refl }
+
+-- up to a place the search did not stop, and from there on it ended
+pub ended_on : {line : List ℕ} {from to : ℕ} {stop : ℕ → Bool} {i place : ℕ} → Going line from to stop i → Ended line i to stop place → Ended line from to stop place
+ended_on g e =
+    let s = g.same in
+    let o = g.onward in
+    let p = e.onward in
+    let t = e.there in
+    record { onward = omega arith; within = e.within; there = omega arith }
+
 -- ---- a search up to the line's end
 
 first_short : (p : ℕ → Bool) (ws : List ℕ) → first p ws ≤ length ws

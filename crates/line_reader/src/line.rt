@@ -15,7 +15,7 @@ use lines::{LAST_LINK, Outcome, Received};
 use refusals::LineRefusal;
 use reports::altitude::Form;
 
-pub trait Line {
+pub trait Line: Copy {
     // The words that the line holds.
     ghost held: { Self → List ℕ };
 
@@ -35,10 +35,9 @@ pub trait Line {
         ensures { result ≡ get_or (held self.now) i 0 };
 }
 
-// Along the words from a place up to another: the place of the first at which the search stops, or that other place. It is not inlined, so that the
-// loop has all registers: inlined, a long run takes twice the time (bench/).
+// Along the words from a place up to another: the place of the first at which the search stops, or that other place.
 // No Option: `report_reader::judge` is asked by these places.
-#[inline(never)]
+#[inline(always)]
 fn seek<L: Line, F: Fn(u16) -> bool>(line: &L, from: usize, to: usize, stops: F) -> usize
     requires range { (from ≤ to) × (to ≤ length (L.held line.now)) }
     requires callable { F.IsAlwaysCallable stops }
@@ -51,6 +50,49 @@ fn seek<L: Line, F: Fn(u16) -> bool>(line: &L, from: usize, to: usize, stops: F)
         }
     }
     to
+}
+
+// The same search as a call of its own, so that the loop has all registers: inlined, a long run takes twice the time (bench/). The line comes by value,
+// since a call that is lent it must fetch it from memory first.
+#[inline(never)]
+fn seek_apart<L: Line, F: Fn(u16) -> bool>(line: L, from: usize, to: usize, stops: F) -> usize
+    requires range { (from ≤ to) × (to ≤ length (L.held line)) }
+    requires callable { F.IsAlwaysCallable stops }
+    ensures within { (from ≤ result) × (result ≤ to) }
+    ensures ended { (stop : ℕ → Bool) → Decides (F.post stops) stop → Ended (L.held line) from to stop result }
+{
+    seek(&line, from, to, stops)
+}
+
+// The same search where there may be many words to pass, or none.
+#[inline(always)]
+fn seek_far<L: Line, F: Fn(u16) -> bool>(line: &L, from: usize, to: usize, stops: F) -> usize
+    requires range { (from ≤ to) × (to ≤ length (L.held line.now)) }
+    requires callable { F.IsAlwaysCallable stops }
+    ensures within { (from ≤ result) × (result ≤ to) }
+    ensures ended { (stop : ℕ → Bool) → Decides (F.post stops) stop → Ended (L.held line.now) from to stop result }
+{
+    if from == to {
+        return from;
+    }
+    seek_apart(*line, from, to, stops)
+}
+
+// The same search where it may be a long one, and often stops at its first word: that word is asked here, and the others by a call.
+#[inline(always)]
+fn seek_on<L: Line, F: Fn(u16) -> bool>(line: &L, from: usize, to: usize, stops: F) -> usize
+    requires range { (from ≤ to) × (to ≤ length (L.held line.now)) }
+    requires callable { F.IsAlwaysCallable stops }
+    ensures within { (from ≤ result) × (result ≤ to) }
+    ensures ended { (stop : ℕ → Bool) → Decides (F.post stops) stop → Ended (L.held line.now) from to stop result }
+{
+    if from == to {
+        return from;
+    }
+    if stops(line.word(from)) {
+        return from;
+    }
+    seek_apart(*line, from + 1, to, stops)
 }
 
 // A word with a fault: too wide, or even.
@@ -68,8 +110,8 @@ fn places<L: Line>(line: &L, place: usize) -> Places
     ensures { RunPlaces (L.held line.now) place result }
 {
     let n = line.count();
-    let first = seek(line, place, n, |w| !words::is_idle(w));
-    let fault = seek(line, first, n, is_faulty);
+    let first = seek_far(line, place, n, |w| !words::is_idle(w));
+    let fault = seek_on(line, first, n, is_faulty);
     let after = seek(line, fault, n, words::is_idle);
     let too_wide = seek(line, fault, after, words::is_too_wide);
     Places {

@@ -8,7 +8,7 @@ use Rattle.line_reader.proofs.line.places.Goals as goal
 pub returns : goal.returns
 returns g c =
     run_found c.count-n.ensures
-    (c.seek-first.ensures.ended not_idle (λ w b r p. search rules))
-    (c.seek-fault.ensures.ended faulty (λ w b r p. search rules))
+    (c.seek_far-first.ensures.ended not_idle (λ w b r p. search rules))
+    (c.seek_on-fault.ensures.ended faulty (λ w b r p. search rules))
     (c.seek-after.ensures.ended is_idle (λ w b r p. search rules))
     (c.seek-too_wide.ensures.ended wider_than_a_word (λ w b r p. search rules))
