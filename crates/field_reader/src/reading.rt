@@ -82,10 +82,11 @@ impl<'a> Asked<'a> {
         let Some(place) = table::find(code) else {
             return Err(unknown(code));
         };
-        let field = Typed::new(self.bytes, before, code, place);
-        if field.row.way != self.way {
+        // Asked before the values are read: a field of the other direction needs none of them.
+        if table::row_at(place).way != self.way {
             return Err(FieldRefusal::WrongDirection);
         }
+        let field = Typed::new(self.bytes, before, code, place);
         // Both are asked first: an edit of must-fail/ swaps the two tests, and is to be refused for their order, not for a name.
         let relayed = not_relayed(code, before);
         let sized = field.is_sized(self.count);

@@ -21,7 +21,7 @@ by_row : (c : After-ne) →
 by_row c = placed _ _ _ _ _ (here c)
 
 way-is : (c : After-ne) → not (same_way_as (row_at c.in-Some.place).way c.args.self.now.way) ≡ c.ne.result
-way-is c = rw (← c.new-field.ensures.what_it_is.0, ← same_is c.new-field.result.row.way c.args.self.now.way) (sym c.ne.ensures)
+way-is c = rw (← c.row_at.ensures, ← same_is c.row_at.result.way c.args.self.now.way) (sym c.ne.ensures)
 
 relayed-is : (c : After-is_sized-sized) → not_relayed (row_at c.in-Some.place).code c.args.before ≡ c.not_relayed-relayed.result
 relayed-is c = rw (found_code _ _ (sym c.find.ensures ∙ c.in-Some.is)) (sym c.not_relayed-relayed.ensures)
