@@ -3,7 +3,6 @@ use Rattle.std.specs.Prelude.{None, Option, Some}
 use Prim.Native.Nat.{ℕ, zero, suc, ◌+◌, ◌-◌, ◌≤◌, ◌<◌}
 use mathlib.Core.Path.{◌≡◌, refl, sym, ap, ◌∙◌}
 use mathlib.Core.Bool.{Bool, true, false, cond}
-use native.Mathlib.Decide.{dec_lt}
 use native.Mathlib.Omega.{arith}
 use lib.Dec.{eqb}
 use lib.IntN.{ℤ, pos, negsuc}
@@ -13,7 +12,7 @@ use Rattle.std.specs.Bool.{Decides, one_answer}
 use Rattle.std.specs.Option.{option_eq}
 use Rattle.std.specs.Ordering.{int_eq}
 use Rattle.std.proofs.lemmas.Bool.Decides.{Decides-int_eq}
-use Rattle.words.proofs.Tests.{picked, passed, by_test}
+use Rattle.words.proofs.Tests.{picked, by_test}
 use Rattle.reports.specs.declared.Height.{Height}
 use Rattle.reports.specs.declared.Height.TheVariants as H
 use Rattle.reports.specs.declared.Report.{Report}
@@ -73,18 +72,6 @@ module _ (r : Report) (said : ℕ → Option ℤ) where
   unfolding tally_to
   tally_next zero h = absurd (omega arith)
   tally_next (suc n) h = let e : suc n - 1 ≡ n = omega arith in rw e refl
-
-  -- where one of them does not stand, not all do
-  pub falls : (n m : ℕ) → 0 < n → n ≤ m → stands (item_of r n) (said n) ≡ false → stand_to m r said ≡ false
-  unfolding stand_to
-  falls n zero h l e = absurd (omega arith)
-  falls n (suc m) h l e = go (dec_lt n (suc m)) (falls n m h)
-    where
-      go : Dec (n < suc m) → (n ≤ m → stands (item_of r n) (said n) ≡ false → stand_to m r said ≡ false) → stand_to (suc m) r said ≡ false
-      go (yes k) before = rw (before (omega arith) e) (by_test (stands (item_of r (suc m)) (said (suc m))) (λ t. picked _ _ t) (λ t. passed _ _ t))
-      go (no k) before =
-          let q : n ≡ suc m = omega arith in
-          passed _ _ (rw q at e)
 
 -- ---- all of them
 

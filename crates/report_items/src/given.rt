@@ -320,7 +320,7 @@ fn agrees(report: Report, size: usize, v: &Values) -> bool
     ensures { result ≡ agree_to last report (item_gathered v.now.0) }
 {
     let mut count = 0;
-    for n in 1..SLOTS {
+    for n in (1..SLOTS).rev() {
         if let Some(value) = v.0[n] {
             if !stands(report, n, value) {
                 return false;
