@@ -22,6 +22,8 @@ impl Model for Text {
     ghost invariant = { λ t. t.len ≤ 64 };
 }
 
+// What puts a line together is inlined, here and in said.rt, up to `step`: the text's length then stays in a register. As calls of their own, a line took
+// two to four times as long (docs/PERFORMANCE.md).
 impl Text {
     pub fn new() -> Self
         ensures { result ≡ [] }
@@ -33,6 +35,7 @@ impl Text {
     }
 
     // More bytes behind the text.
+    #[inline(always)]
     pub fn text(&mut self, more: &[u8])
         requires { length self.old + length more.now ≤ 64 }
         ensures is { self.new ≡ self.old ++ more.now }
@@ -45,6 +48,7 @@ impl Text {
 
     // A number behind the text. `write!` could answer an error, and no contract says that it does not; the text of itoa is there in every case.
     #[tactic(auto, using(crate::proofs::Decimals::same))]
+    #[inline(always)]
     pub fn number(&mut self, n: usize)
         requires { length self.old + length (decimal n) ≤ 64 }
         ensures is { self.new ≡ self.old ++ decimal n }
@@ -55,6 +59,7 @@ impl Text {
     }
 
     // A label and a number behind the text.
+    #[inline(always)]
     pub fn item(&mut self, label: &[u8], n: usize)
         requires { length self.old + length label.now + length (decimal n) ≤ 64 }
         ensures is { self.new ≡ self.old ++ label.now ++ decimal n }
@@ -65,6 +70,7 @@ impl Text {
     }
 
     // The text at a buffer's start, and how many bytes it has.
+    #[inline(always)]
     pub fn copy_to(&self, out: &mut [u8]) -> usize
         requires { 64 ≤ length out.old }
         ensures len { result ≡ length self.now }

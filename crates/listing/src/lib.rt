@@ -96,6 +96,7 @@ fn outcome_at(recording: &[u8], place: usize) -> Outcome
 }
 
 // The line for an outcome on a line of n words, into a text that is empty; the walk behind it.
+#[inline(always)]
 fn say(walk: Walk, n: usize, o: Outcome, text: &mut Text) -> Walk
     requires within { Within n walk o }
     requires empty { text.old ≡ [] }
@@ -138,6 +139,7 @@ fn say(walk: Walk, n: usize, o: Outcome, text: &mut Text) -> Walk
 }
 
 // What a call comes to, before the buffer: a line into a text that is empty, and the walk behind it; nothing where the listing is whole; or a refusal.
+#[inline(always)]
 fn step(recording: &[u8], walk: Walk, text: &mut Text) -> Result<Option<Walk>, WalkError>
     requires { text.old ≡ [] }
     ensures text { text.new ≡ said (step_at recording.now walk) }
