@@ -22,8 +22,8 @@ impl Model for Text {
     ghost invariant = { λ t. t.len ≤ 64 };
 }
 
-// What puts a line together is inlined, here and in said.rt, up to `step`: the text's length then stays in a register. As calls of their own, a line took
-// two to four times as long (docs/PERFORMANCE.md).
+// What puts a line together is inlined, here and in said.rt, up to `step`: the text's length then stays in a register. As calls of their own they
+// took up to three times as long (docs/PERFORMANCE.md).
 impl Text {
     pub fn new() -> Self
         ensures { result ≡ [] }

@@ -314,7 +314,7 @@ fn stands(report: Report, n: usize, value: u64) -> bool
 
 // For each number the report, of so many items, has what is given for it: whatever is given stands in the report, and so many are given. Only
 // what is given is looked up in the report: to look up every number takes more time (docs/PERFORMANCE.md). By the number, which the look-up asks
-// for too.
+// for too; from the last one on, since what only some kinds have stands there.
 fn agrees(report: Report, size: usize, v: &Values) -> bool
     requires { length (items_of report) ≡ size }
     ensures { result ≡ agree_to last report (item_gathered v.now.0) }

@@ -30,5 +30,5 @@ pub const MTD_SEARCH_CODE: u16 = 0b010;
 
 pub const RDAS_SEARCH_CODE: u16 = 0b001;
 
-// What stands for those bits where bit 12 is zero: no three bits are this number.
+// What stands for those bits where bit 12 is zero: no three bits are this number. For callers: the reader answers an Option instead.
 pub const NO_RADAR: u16 = 8;

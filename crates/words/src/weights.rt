@@ -1,6 +1,6 @@
 // The bits of a word by name, so that code reads as the document's tables do: `w / BIT_6 % THREE_BITS` is the field of three bits of `w`
 // that ends at bit 6. The document numbers the bits on over a report's words: bit k of word n has the number 13 (n - 1) + k.
-// Relies on nothing.
+// For callers: the crates here go by the document's bit numbers, and use ELEVEN_BITS and TWELVE_BITS alone. Relies on nothing.
 
 // What each data bit of a word weighs; bit 13, the parity bit, weighs 1.
 pub const BIT_1: u16 = 4096;
